@@ -1,0 +1,268 @@
+//! A patch of a job: its free units and entries, tested in document 01's order.
+
+use original::function::{Function, RematCost, Value};
+use original::output::{Allocation, AllocationKind, SpillSlot};
+use original::reginfo::{PhysReg, RegBank, RegClass, RegUnit, RegUnitSet};
+
+use crate::number::{LISTED_TWICE, NAMES_NOTHING, Reader, Refused};
+use crate::target::Target;
+use crate::values::{FOREIGN_BANK, Values};
+
+pub const MOST_ENTRIES: usize = 128;
+
+/// 10: self-move.
+const SELF_MOVE: Refused = Refused(10);
+/// 11: cannot rebuild.
+const CANNOT_REBUILD: Refused = Refused(11);
+/// 12: the destination overlaps that of an earlier entry.
+const WRITTEN_TWICE: Refused = Refused(12);
+/// 13: a free unit is a destination's.
+const FREE_AND_WRITTEN: Refused = Refused(13);
+/// 14: a rebuild's scratch would have to be evicted from its destination.
+const EVICTS_DESTINATION: Refused = Refused(14);
+/// 15: one entry too many.
+const TOO_MANY_ENTRIES: Refused = Refused(15);
+
+/// An entry of a patch.
+#[derive(Clone, Copy)]
+pub enum Entry {
+    Move {
+        source: Allocation,
+        dest: Allocation,
+        value: Value,
+    },
+    Remat {
+        dest: Allocation,
+        value: Value,
+    },
+}
+
+/// A patch that is accepted unless it needs too many slots.
+pub struct Patch {
+    pub free: RegUnitSet,
+    pub entries: Vec<Entry>,
+}
+
+impl Patch {
+    /// Reads a patch and makes every test but 16 and 17.
+    pub fn read(reader: &mut Reader, target: &Target, values: &Values) -> Result<Patch, Refused> {
+        let free = read_free_units(reader, target)?;
+
+        let entry_count = reader.number()? as usize;
+        let mut entries = Vec::new();
+        let mut seen = Seen::default();
+        for index in 0..entry_count {
+            if index == MOST_ENTRIES {
+                return Err(TOO_MANY_ENTRIES);
+            }
+            let entry = Entry::read(reader, target, values)?;
+            seen.test(entry, target, values)?;
+            entries.push(entry);
+        }
+
+        if free.into_iter().any(|unit| seen.units.contains(unit)) {
+            return Err(FREE_AND_WRITTEN);
+        }
+        if seen.evicts_destination {
+            return Err(EVICTS_DESTINATION);
+        }
+        Ok(Patch { free, entries })
+    }
+}
+
+fn read_free_units(reader: &mut Reader, target: &Target) -> Result<RegUnitSet, Refused> {
+    let count = reader.number()?;
+    let mut free = RegUnitSet::new();
+    let mut least = 0;
+    for _ in 0..count {
+        let unit = reader.index(target.units)?;
+        if unit < least {
+            return Err(LISTED_TWICE);
+        }
+        least = unit + 1;
+        free.insert(RegUnit::new(unit));
+    }
+    Ok(free)
+}
+
+impl Entry {
+    fn read(reader: &mut Reader, target: &Target, values: &Values) -> Result<Entry, Refused> {
+        let rebuild = reader.flag()?;
+        let entry = if rebuild {
+            Entry::Remat {
+                dest: read_place(reader, target, values)?,
+                value: read_value(reader, values)?,
+            }
+        } else {
+            Entry::Move {
+                source: read_place(reader, target, values)?,
+                dest: read_place(reader, target, values)?,
+                value: read_value(reader, values)?,
+            }
+        };
+        Ok(entry)
+    }
+}
+
+/// Slot s is 2s, register r is 2r + 1.
+fn read_place(reader: &mut Reader, target: &Target, values: &Values) -> Result<Allocation, Refused> {
+    let code = reader.number()? as usize;
+    let index = code / 2;
+    if code % 2 == 1 && index < target.registers.len() {
+        Ok(Allocation::reg(PhysReg::new(index)))
+    } else if code % 2 == 0 && index < values.slots {
+        Ok(Allocation::spillslot(SpillSlot::new(index)))
+    } else {
+        Err(NAMES_NOTHING)
+    }
+}
+
+fn read_value(reader: &mut Reader, values: &Values) -> Result<Value, Refused> {
+    Ok(Value::new(reader.index(values.num_values())?))
+}
+
+/// What becomes of an entry.
+enum Fate {
+    Kept,
+    Rebuild { class: RegClass, scratch: bool },
+}
+
+/// What the entries so far come to.
+#[derive(Default)]
+struct Seen {
+    /// Source, destination and value of the moves kept.
+    kept: Vec<(Allocation, Allocation, Value)>,
+    /// The register units and the slots of all destinations.
+    units: RegUnitSet,
+    slots: Vec<SpillSlot>,
+    /// Whether 14 holds of an entry.
+    evicts_destination: bool,
+}
+
+impl Seen {
+    /// Tests 9 to 12 of an entry and takes it in.
+    fn test(&mut self, entry: Entry, target: &Target, values: &Values) -> Result<(), Refused> {
+        let (source, dest, value) = match entry {
+            Entry::Move {
+                source,
+                dest,
+                value,
+            } => (Some(source), dest, value),
+            Entry::Remat { dest, value } => (None, dest, value),
+        };
+
+        let bank = values.value_bank(value);
+        for place in source.into_iter().chain([dest]) {
+            if !of_bank(place, bank, target) {
+                return Err(FOREIGN_BANK);
+            }
+        }
+        if source == Some(dest) {
+            return Err(SELF_MOVE);
+        }
+        let fate = fate(source, dest, value, target, values)?;
+
+        if let (Fate::Kept, Some(source)) = (&fate, source) {
+            let kept = (source, dest, value);
+            if self.kept.contains(&kept) {
+                return Ok(());
+            }
+            self.write(dest, target)?;
+            self.kept.push(kept);
+        } else {
+            self.write(dest, target)?;
+        }
+
+        if let Fate::Rebuild {
+            class,
+            scratch: true,
+        } = fate
+        {
+            let class = target.class(class);
+            if !class.slots && overlaps(class.order.last().copied(), dest, target) {
+                self.evicts_destination = true;
+            }
+        }
+        Ok(())
+    }
+
+    /// Marks a destination as written, or refuses with 12.
+    fn write(&mut self, dest: Allocation, target: &Target) -> Result<(), Refused> {
+        match dest.kind() {
+            AllocationKind::PhysReg(reg) => {
+                let units = &target.register(reg).units;
+                if units.iter().any(|&unit| self.units.contains(unit)) {
+                    return Err(WRITTEN_TWICE);
+                }
+                self.units.extend(units.iter().copied());
+            }
+            AllocationKind::SpillSlot(slot) => {
+                if self.slots.contains(&slot) {
+                    return Err(WRITTEN_TWICE);
+                }
+                self.slots.push(slot);
+            }
+        }
+        Ok(())
+    }
+}
+
+/// A slot is of no bank and always passes.
+fn of_bank(place: Allocation, bank: RegBank, target: &Target) -> bool {
+    match place.kind() {
+        AllocationKind::PhysReg(reg) => target.register(reg).bank == bank,
+        AllocationKind::SpillSlot(_) => true,
+    }
+}
+
+/// Decides whether an entry is kept as a move or becomes a rebuild; an entry
+/// without a source that cannot be rebuilt is refused with 11.
+fn fate(
+    source: Option<Allocation>,
+    dest: Allocation,
+    value: Value,
+    target: &Target,
+    values: &Values,
+) -> Result<Fate, Refused> {
+    let Some((cost, class)) = values.can_rematerialize(value) else {
+        return match source {
+            Some(_) => Ok(Fate::Kept),
+            None => Err(CANNOT_REBUILD),
+        };
+    };
+    let in_class = match dest.kind() {
+        AllocationKind::PhysReg(reg) => target.class(class).members.contains(reg),
+        AllocationKind::SpillSlot(_) => target.class(class).slots,
+    };
+    let rebuilt = match source {
+        None => true,
+        Some(source) => {
+            is_memory(source, target) || (cost == RematCost::CheaperThanMove && in_class)
+        }
+    };
+    Ok(if rebuilt {
+        Fate::Rebuild {
+            class,
+            scratch: !in_class,
+        }
+    } else {
+        Fate::Kept
+    })
+}
+
+fn is_memory(place: Allocation, target: &Target) -> bool {
+    match place.kind() {
+        AllocationKind::PhysReg(reg) => target.register(reg).memory,
+        AllocationKind::SpillSlot(_) => true,
+    }
+}
+
+fn overlaps(reg: Option<PhysReg>, place: Allocation, target: &Target) -> bool {
+    match (reg, place.kind()) {
+        (Some(reg), AllocationKind::PhysReg(other)) => {
+            let units = &target.register(other).units;
+            target.register(reg).units.iter().any(|u| units.contains(u))
+        }
+        _ => false,
+    }
+}

@@ -1,0 +1,44 @@
+-- Laws of places and units as numbers, and of the lists that every definition is written with.
+use Prim.Native.Nat.{ℕ, zero, suc, _+_, _-_, _*_, _/_, _%_, _<_, _≤_}
+use mathlib.Core.Path.{_≡_, refl, sym, ap, _∙_}
+use mathlib.Core.Bool.{Bool, true, false}
+use mathlib.Core.List.{List, [], _∷_, _++_}
+use native.Mathlib.Omega.{arith}
+use native.Mathlib.Numerals.{add-one}
+use lib.Dec.{eqb, ltb}
+use lib.ListN.{getD, length, set}
+use borrow.Author.Tests.{lt-ltb, le-ltb, eq-eqb, ne-eqb, eqb-true, eqb-false}
+use Rattle.entity.specs.Logic.{pick, and, or, no, any, all, has, meets, twice, lastOr, indices, cells}
+use Rattle.entity.specs.Place.{Place, reg, slot, codeOf, placeAt, Unit, regUnit, slotUnit, unitCode, unitAt}
+
+-- a place's code means that place, and a unit's number that unit
+pub place-there : (p : Place) → placeAt (codeOf p) ≡ p
+unfolding placeAt
+place-there (reg r) = rw (eq-eqb ((r * 2 + 1) % 2) 1 (omega arith)) (ap reg (omega arith))
+place-there (slot s) = rw (ne-eqb (s * 2 % 2) 1 (λ e. omega arith)) (ap slot (omega arith))
+
+pub code-there : (c : ℕ) → codeOf (placeAt c) ≡ c
+unfolding placeAt
+code-there c = go (eqb (c % 2) 1) refl
+  where
+    go : (b : Bool) → eqb (c % 2) 1 ≡ b → codeOf (pick b (reg (c / 2)) (slot (c / 2))) ≡ c
+    go true e = let h : c % 2 ≡ 1 = eqb-true (c % 2) 1 e in omega arith
+    go false e = let h : c % 2 ≡ 1 → ⊥ = eqb-false (c % 2) 1 e in omega arith
+
+pub reg-unit-there : (u : ℕ) → u < 512 → unitAt (unitCode (regUnit u)) ≡ regUnit u
+unfolding unitAt
+reg-unit-there u h = rw (lt-ltb u 512 h)
+
+pub slot-unit-there : (s : ℕ) → unitAt (unitCode (slotUnit s)) ≡ slotUnit s
+unfolding unitAt
+slot-unit-there s = rw (le-ltb (512 + s) 512 (omega arith)) (ap slotUnit (omega arith))
+
+-- one cell more
+pub cells-step : (t : List ℕ) (at n : ℕ) → 0 < n → cells t at n ≡ getD t at 0 ∷ cells t (at + 1) (n - 1)
+unfolding cells
+cells-step t at n h = let l : n ≡ suc (n - 1) = omega arith in ap (cells t at) l
+
+-- one index more
+pub indices-step : (i n : ℕ) → 0 < n → indices i n ≡ i ∷ indices (i + 1) (n - 1)
+unfolding indices
+indices-step i n h = let l : n ≡ suc (n - 1) = omega arith in ap (indices i) l

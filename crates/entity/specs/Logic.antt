@@ -1,0 +1,62 @@
+-- Tests and lists of numbers that every definition above is written with.
+use Prim.Native.Nat.{ℕ, zero, suc, _+_}
+use mathlib.Core.Bool.{Bool, true, false}
+use mathlib.Core.List.{List, [], _∷_}
+use lib.ListN.{getD}
+use lib.Dec.{eqb}
+
+abbrev pub pick : {A : Type 0} → Bool → A → A → A
+pick true a b = a
+pick false a b = b
+
+abbrev pub and : Bool → Bool → Bool
+and true b = b
+and false b = false
+
+abbrev pub or : Bool → Bool → Bool
+or true b = true
+or false b = b
+
+abbrev pub no : Bool → Bool
+no true = false
+no false = true
+
+-- some element passes the test
+unfoldable pub any : {A : Type 0} → (A → Bool) → List A → Bool
+any p [] = false
+any p (x ∷ l) = or (p x) (any p l)
+
+-- every element passes the test
+unfoldable pub all : {A : Type 0} → (A → Bool) → List A → Bool
+all p [] = true
+all p (x ∷ l) = and (p x) (all p l)
+
+-- x is listed
+unfoldable pub has : ℕ → List ℕ → Bool
+has x [] = false
+has x (y ∷ l) = or (eqb x y) (has x l)
+
+-- the two lists share a number
+unfoldable pub meets : List ℕ → List ℕ → Bool
+meets [] m = false
+meets (x ∷ l) m = or (has x m) (meets l m)
+
+-- a number is listed twice
+unfoldable pub twice : List ℕ → Bool
+twice [] = false
+twice (x ∷ l) = or (has x l) (twice l)
+
+-- the last number, d where there is none
+unfoldable pub lastOr : ℕ → List ℕ → ℕ
+lastOr d [] = d
+lastOr d (x ∷ l) = lastOr x l
+
+-- the numbers i, i + 1 and so on, n of them
+unfoldable pub indices : ℕ → ℕ → List ℕ
+indices i zero = []
+indices i (suc n) = i ∷ indices (i + 1) n
+
+-- the n cells of a table from `at` on
+unfoldable pub cells : List ℕ → ℕ → ℕ → List ℕ
+cells t at zero = []
+cells t at (suc n) = getD t at 0 ∷ cells t (at + 1) n
