@@ -1,1 +1,122 @@
-fn main() {}
+//! Answers jobs with the original module, and makes jobs to answer.
+
+mod answer;
+mod encode;
+mod frame;
+mod number;
+mod patch;
+mod random;
+mod tally;
+mod target;
+mod values;
+
+use std::error::Error;
+use std::fs;
+use std::io::{self, BufReader, BufWriter, Read, Write};
+use std::path::Path;
+use std::process::ExitCode;
+
+use tally::Tally;
+
+const HELP: &str = "\
+compare answer
+    Reads a job on standard input and prints what document 01 says.
+    A panic of the original is printed as a last line `panic MESSAGE`.
+compare answer-batch [--text]
+    The same for many jobs. In: each job after its length as 4 bytes, lowest
+    first. Out: each answer in the same form, or with --text each answer and
+    then a line `--`.
+compare encode
+    Reads a job written in words on standard input and writes the job.
+    Words: 12 (a number), 0x8f (a byte), ( 0 1 3 0 )*128 (repeated), # comment.
+compare trials FILE FOLDER
+    Writes NAME.job and NAME.out into the folder for each trial in the file.
+compare tally
+    Reads answers, each after its length, and prints counts over them.
+    Fails if there is a panic among them.
+";
+
+type Outcome = Result<(), Box<dyn Error>>;
+
+fn main() -> ExitCode {
+    answer::silence_panics();
+    let arguments: Vec<String> = std::env::args().skip(1).collect();
+    let arguments: Vec<&str> = arguments.iter().map(String::as_str).collect();
+    let outcome = match arguments[..] {
+        ["answer"] => answer_one(),
+        ["answer-batch"] => answer_batch(false),
+        ["answer-batch", "--text"] => answer_batch(true),
+        ["encode"] => encode(),
+        ["trials", file, folder] => write_trials(file, Path::new(folder)),
+        ["tally"] => tally(),
+        ["--help"] | ["help"] => {
+            print!("{HELP}");
+            Ok(())
+        }
+        _ => {
+            eprint!("{HELP}");
+            return ExitCode::from(2);
+        }
+    };
+    match outcome {
+        Ok(()) => ExitCode::SUCCESS,
+        Err(error) => {
+            eprintln!("compare: {error}");
+            ExitCode::FAILURE
+        }
+    }
+}
+
+fn answer_one() -> Outcome {
+    // One byte past the limit is enough to see that a job is too long.
+    let mut job = Vec::new();
+    io::stdin()
+        .take(answer::MOST_BYTES as u64 + 1)
+        .read_to_end(&mut job)?;
+    io::stdout().write_all(answer::answer(&job).as_bytes())?;
+    Ok(())
+}
+
+fn answer_batch(as_text: bool) -> Outcome {
+    let mut input = BufReader::new(io::stdin().lock());
+    let mut output = BufWriter::new(io::stdout().lock());
+    while let Some(job) = frame::read(&mut input)? {
+        let text = answer::answer(&job);
+        if as_text {
+            output.write_all(text.as_bytes())?;
+            output.write_all(b"--\n")?;
+        } else {
+            frame::write(&mut output, text.as_bytes())?;
+        }
+    }
+    output.flush()?;
+    Ok(())
+}
+
+fn encode() -> Outcome {
+    let mut text = String::new();
+    io::stdin().read_to_string(&mut text)?;
+    io::stdout().write_all(&encode::job(&text)?)?;
+    Ok(())
+}
+
+fn write_trials(file: &str, folder: &Path) -> Outcome {
+    for trial in encode::trials(&fs::read_to_string(file)?)? {
+        fs::write(folder.join(format!("{}.job", trial.name)), trial.job)?;
+        fs::write(folder.join(format!("{}.out", trial.name)), trial.printed)?;
+    }
+    Ok(())
+}
+
+fn tally() -> Outcome {
+    let mut input = BufReader::new(io::stdin().lock());
+    let mut tally = Tally::default();
+    while let Some(answer) = frame::read(&mut input)? {
+        tally.add(&String::from_utf8(answer)?);
+    }
+    print!("{tally}");
+    match tally.panics() {
+        0 => Ok(()),
+        panics => Err(format!("{panics} panics").into()),
+    }
+}

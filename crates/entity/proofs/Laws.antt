@@ -2,11 +2,11 @@
 use Prim.Native.Nat.{ℕ, zero, suc, _+_, _-_, _*_, _/_, _%_, _<_, _≤_}
 use mathlib.Core.Path.{_≡_, refl, sym, ap, _∙_}
 use mathlib.Core.Bool.{Bool, true, false}
-use mathlib.Core.List.{List, [], _∷_, _++_}
+use mathlib.Core.List.{List, [], _∷_, _++_, map}
 use native.Mathlib.Omega.{arith}
 use native.Mathlib.Numerals.{add-one}
 use lib.Dec.{eqb, ltb}
-use lib.ListN.{getD, length, set}
+use lib.ListN.{getD, length, set, length-map}
 use borrow.Author.Tests.{lt-ltb, le-ltb, eq-eqb, ne-eqb, eqb-true, eqb-false}
 use Rattle.entity.specs.Logic.{pick, and, or, no, any, all, has, meets, twice, lastOr, indices, cells}
 use Rattle.entity.specs.Place.{Place, reg, slot, codeOf, placeAt, Unit, regUnit, slotUnit, unitCode, unitAt}
@@ -42,3 +42,29 @@ cells-step t at n h = let l : n ≡ suc (n - 1) = omega arith in ap (cells t at)
 pub indices-step : (i n : ℕ) → 0 < n → indices i n ≡ i ∷ indices (i + 1) (n - 1)
 unfolding indices
 indices-step i n h = let l : n ≡ suc (n - 1) = omega arith in ap (indices i) l
+
+pub length-cells : (t : List ℕ) (at n : ℕ) → length (cells t at n) ≡ n
+unfolding cells
+length-cells t at zero = refl
+length-cells t at (suc n) = ap suc (length-cells t (at + 1) n)
+
+pub getD-cells : (t : List ℕ) (at n j : ℕ) → j < n → getD (cells t at n) j 0 ≡ getD t (at + j) 0
+unfolding cells
+getD-cells t at zero j h = absurd (omega arith)
+getD-cells t at (suc n) zero h = ap (λ (i : ℕ). getD t i 0) (omega arith)
+getD-cells t at (suc n) (suc j) h = getD-cells t (at + 1) n j (omega arith) ∙ ap (λ (i : ℕ). getD t i 0) (omega arith)
+
+pub length-indices : (i n : ℕ) → length (indices i n) ≡ n
+unfolding indices
+length-indices i zero = refl
+length-indices i (suc n) = ap suc (length-indices (i + 1) n)
+
+-- a list made from an index on: its length, and what stands at k
+pub length-built : {A : Type 0} (f : ℕ → A) (i n : ℕ) → length (map f (indices i n)) ≡ n
+length-built f i n = length-map (indices i n) f ∙ length-indices i n
+
+pub getD-built : {A : Type 0} (f : ℕ → A) (i n k : ℕ) (d : A) → k < n → getD (map f (indices i n)) k d ≡ f (i + k)
+unfolding indices
+getD-built f i zero k d h = absurd (omega arith)
+getD-built f i (suc n) zero d h = ap f (omega arith)
+getD-built f i (suc n) (suc k) d h = getD-built f (i + 1) n k d (omega arith) ∙ ap f (omega arith)

@@ -1,0 +1,109 @@
+//! Jobs written for people: numbers in base ten, and files of trial patches.
+//!
+//! A job is written as words apart by white space:
+//! * `12` is a number, in its shortest form;
+//! * `0x8f` is that very byte, for jobs that are damaged on purpose;
+//! * `( 0 1 3 0 )*128` is what stands between the brackets, 128 times;
+//! * `$name` is what `name` was defined as (in a file of trials);
+//! * `#` and the rest of its line are a comment.
+//!
+//! A file of trials has, apart from comments and empty lines:
+//! * `define NAME WORD..` up to the line's end;
+//! * `trial NAME`, then the job's words over any number of lines, then a line
+//!   `prints`, then the lines printed, then a line `end`.
+
+use std::collections::BTreeMap;
+use std::str::Lines;
+
+use crate::number;
+
+/// A mistake in what was written.
+pub type Mistake = String;
+
+/// What names stand for.
+type Definitions = BTreeMap<String, Vec<u8>>;
+
+/// The job that a text writes down.
+pub fn job(text: &str) -> Result<Vec<u8>, Mistake> {
+    words(text, &Definitions::new())
+}
+
+/// A trial patch and what is printed for it.
+pub struct Trial {
+    pub name: String,
+    pub job: Vec<u8>,
+    pub printed: String,
+}
+
+/// The trials of a file.
+pub fn trials(text: &str) -> Result<Vec<Trial>, Mistake> {
+    let mut definitions = Definitions::new();
+    let mut trials = Vec::new();
+    let mut lines = text.lines();
+    while let Some(line) = lines.next() {
+        let line = without_comment(line).trim();
+        let (word, rest) = line.split_once(' ').unwrap_or((line, ""));
+        match word {
+            "" => {}
+            "define" => {
+                let (name, rest) = rest.trim().split_once(' ').unwrap_or((rest, ""));
+                let bytes = words(rest, &definitions)?;
+                definitions.insert(name.to_owned(), bytes);
+            }
+            "trial" => {
+                let written = until(&mut lines, "prints")?;
+                let printed = until(&mut lines, "end")?;
+                trials.push(Trial {
+                    name: rest.trim().to_owned(),
+                    job: words(&written, &definitions)?,
+                    printed,
+                });
+            }
+            _ => return Err(format!("neither `define` nor `trial`: {line}")),
+        }
+    }
+    Ok(trials)
+}
+
+/// The lines before the one that is `last`.
+fn until(lines: &mut Lines, last: &str) -> Result<String, Mistake> {
+    let mut text = String::new();
+    for line in lines {
+        if line.trim() == last {
+            return Ok(text);
+        }
+        text.push_str(line);
+        text.push('\n');
+    }
+    Err(format!("no line `{last}`"))
+}
+
+fn without_comment(line: &str) -> &str {
+    line.split('#').next().unwrap_or("")
+}
+
+fn words(text: &str, definitions: &Definitions) -> Result<Vec<u8>, Mistake> {
+    let mut job = Vec::new();
+    let mut opened = None;
+    for word in text.lines().flat_map(|l| without_comment(l).split_whitespace()) {
+        let unknown = || format!("not a word of a job: {word}");
+        if word == "(" && opened.is_none() {
+            opened = Some(job.len());
+        } else if let Some(times) = word.strip_prefix(")*") {
+            let start = opened.take().ok_or_else(unknown)?;
+            let times: usize = times.parse().map_err(|_| unknown())?;
+            let repeated = job.split_off(start).repeat(times);
+            job.extend(repeated);
+        } else if let Some(name) = word.strip_prefix('$') {
+            job.extend(definitions.get(name).ok_or_else(unknown)?);
+        } else if let Some(byte) = word.strip_prefix("0x") {
+            job.push(u8::from_str_radix(byte, 16).map_err(|_| unknown())?);
+        } else {
+            number::put(&mut job, word.parse().map_err(|_| unknown())?);
+        }
+    }
+    if opened.is_some() {
+        return Err("a bracket is not closed".to_owned());
+    }
+    Ok(job)
+}

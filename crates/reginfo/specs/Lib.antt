@@ -1,0 +1,4 @@
+pub mod RegInfo
+pub mod Known
+pub mod Refused
+pub mod Table
