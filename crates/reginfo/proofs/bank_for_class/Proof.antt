@@ -1,33 +1,25 @@
 use borrow.Author.Needs.{needs}
+use Rattle.reginfo.proofs.Table.{class-bank-is}
 use Rattle.reginfo.proofs.bank_for_class.Statement.{statement}
 use Rattle.reginfo.proofs.bank_for_class.Tie as tie
-use Rattle.reginfo.proofs.bank_for_class.Reads as reads
-use Rattle.reginfo.proofs.bank_for_class.Lts as lts
-use Rattle.entity.proofs.wide.Reads as wide-reads
 
--- src/lib.rt:107:9
 wide-requires : tie.Need-wide-requires
 wide-requires c κs = search needs
 
--- src/lib.rt:108:22
 mul-t4 : tie.Need-mul-t4
 mul-t4 c = search needs
 
--- src/lib.rt:108:15
 add-t5 : tie.Need-add-t5
 add-t5 c = search needs
 
--- src/lib.rt:108:13
 mul-t6 : tie.Need-mul-t6
 mul-t6 c = search needs
 
--- src/lib.rt:108:13
 element-copy-out-t9 : tie.Need-element-copy-out-t9
 element-copy-out-t9 c = search needs
 
--- src/lib.rt:103:1
 returns : tie.Need-returns
-returns c = ?
+returns c = rw (class-bank-is (c .before .before .args .t .now) (c .before .before .args .c .0) (c .before .before .pre .is), c .before .wide .ensures .0)
 
 pub bank-for-class-spec : {M : Type 1} → statement M
 bank-for-class-spec =

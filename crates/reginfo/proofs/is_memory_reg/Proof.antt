@@ -1,33 +1,25 @@
 use borrow.Author.Needs.{needs}
+use Rattle.reginfo.proofs.Table.{memory-is}
 use Rattle.reginfo.proofs.is_memory_reg.Statement.{statement}
 use Rattle.reginfo.proofs.is_memory_reg.Tie as tie
-use Rattle.reginfo.proofs.is_memory_reg.Reads as reads
-use Rattle.reginfo.proofs.is_memory_reg.Lts as lts
-use Rattle.entity.proofs.wide.Reads as wide-reads
 
--- src/lib.rt:73:9
 wide-requires : tie.Need-wide-requires
 wide-requires c κs = search needs
 
--- src/lib.rt:74:12
 mul-wide : tie.Need-mul-wide
 mul-wide c = search needs
 
--- src/lib.rt:74:10
 mul-wide-2 : tie.Need-mul-wide-2
 mul-wide-2 c = search needs
 
--- src/lib.rt:74:10
 element-copy-out-wide : tie.Need-element-copy-out-wide
 element-copy-out-wide c = search needs
 
--- src/lib.rt:74:5
 wide-requires-2 : tie.Need-wide-requires-2
 wide-requires-2 c κs = search needs
 
--- src/lib.rt:69:1
 returns : tie.Need-returns
-returns c = ?
+returns c = rw (c .wide2 .ensures .0, memory-is (c .before .before .before .args .t .now) (c .before .before .before .args .r .0) (c .before .before .before .pre .is), c .before .before .wide .ensures .0)
 
 pub is-memory-reg-spec : {M : Type 1} → statement M
 is-memory-reg-spec =

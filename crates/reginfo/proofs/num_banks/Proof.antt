@@ -1,21 +1,17 @@
 use borrow.Author.Needs.{needs}
+use mathlib.Core.Path.{_∙_, sym}
+use Rattle.reginfo.proofs.Table.{banks-count}
 use Rattle.reginfo.proofs.num_banks.Statement.{statement}
 use Rattle.reginfo.proofs.num_banks.Tie as tie
-use Rattle.reginfo.proofs.num_banks.Reads as reads
-use Rattle.reginfo.proofs.num_banks.Lts as lts
-use Rattle.entity.proofs.wide.Reads as wide-reads
 
--- src/lib.rt:28:10
 element-copy-out-wide : tie.Need-element-copy-out-wide
 element-copy-out-wide c = search needs
 
--- src/lib.rt:28:5
 wide-requires : tie.Need-wide-requires
 wide-requires c κs = search needs
 
--- src/lib.rt:25:1
 returns : tie.Need-returns
-returns c = ?
+returns c = c .wide .ensures .0 ∙ sym (banks-count (c .before .before .args .t .now))
 
 pub num-banks-spec : {M : Type 1} → statement M
 num-banks-spec = tie.close (tie.spec element-copy-out-wide wide-requires returns)

@@ -1,21 +1,17 @@
 use borrow.Author.Needs.{needs}
+use mathlib.Core.Path.{_∙_, sym}
+use Rattle.reginfo.proofs.Table.{units-count}
 use Rattle.reginfo.proofs.num_units.Statement.{statement}
 use Rattle.reginfo.proofs.num_units.Tie as tie
-use Rattle.reginfo.proofs.num_units.Reads as reads
-use Rattle.reginfo.proofs.num_units.Lts as lts
-use Rattle.entity.proofs.wide.Reads as wide-reads
 
--- src/lib.rt:22:10
 element-copy-out-wide : tie.Need-element-copy-out-wide
 element-copy-out-wide c = search needs
 
--- src/lib.rt:22:5
 wide-requires : tie.Need-wide-requires
 wide-requires c κs = search needs
 
--- src/lib.rt:19:1
 returns : tie.Need-returns
-returns c = ?
+returns c = c .wide .ensures .0 ∙ sym (units-count (c .before .before .args .t .now))
 
 pub num-units-spec : {M : Type 1} → statement M
 num-units-spec = tie.close (tie.spec element-copy-out-wide wide-requires returns)

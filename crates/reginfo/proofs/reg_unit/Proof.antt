@@ -1,37 +1,28 @@
 use borrow.Author.Needs.{needs}
+use Rattle.reginfo.proofs.Table.{unit-is}
 use Rattle.reginfo.proofs.reg_unit.Statement.{statement}
 use Rattle.reginfo.proofs.reg_unit.Tie as tie
-use Rattle.reginfo.proofs.reg_unit.Reads as reads
-use Rattle.reginfo.proofs.reg_unit.Lts as lts
-use Rattle.entity.proofs.wide.Reads as wide-reads
 
--- src/lib.rt:98:9
 wide-requires : tie.Need-wide-requires
 wide-requires c κs = search needs
 
--- src/lib.rt:99:19
 mul-t5 : tie.Need-mul-t5
 mul-t5 c = search needs
 
--- src/lib.rt:99:15
 add-t6 : tie.Need-add-t6
 add-t6 c = search needs
 
--- src/lib.rt:99:15
 add-t7 : tie.Need-add-t7
 add-t7 c = search needs
 
--- src/lib.rt:99:13
 mul-t8 : tie.Need-mul-t8
 mul-t8 c = search needs
 
--- src/lib.rt:99:13
 element-copy-out-t11 : tie.Need-element-copy-out-t11
 element-copy-out-t11 c = search needs
 
--- src/lib.rt:94:1
 returns : tie.Need-returns
-returns c = ?
+returns c = rw (unit-is (c .before .before .args .t .now) (c .before .before .args .r .0) (c .before .before .pre .0 .is) (c .before .before .args .j) (c .before .before .pre .1), c .before .wide .ensures .0)
 
 pub reg-unit-spec : {M : Type 1} → statement M
 reg-unit-spec =

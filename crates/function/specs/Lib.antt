@@ -1,0 +1,3 @@
+pub mod Function
+pub mod Refused
+pub mod Table
