@@ -1,8 +1,10 @@
 //! Answers jobs with the original module, and makes jobs to answer.
 
 mod answer;
+mod draft;
 mod encode;
 mod frame;
+mod generate;
 mod number;
 mod patch;
 mod random;
@@ -16,6 +18,7 @@ use std::io::{self, BufReader, BufWriter, Read, Write};
 use std::path::Path;
 use std::process::ExitCode;
 
+use generate::{Generator, MODES};
 use tally::Tally;
 
 const HELP: &str = "\
@@ -26,6 +29,10 @@ compare answer-batch [--text]
     The same for many jobs. In: each job after its length as 4 bytes, lowest
     first. Out: each answer in the same form, or with --text each answer and
     then a line `--`.
+compare generate SEED COUNT MODE [--dir FOLDER]
+    Writes COUNT random jobs, each after its length as 4 bytes, lowest first;
+    or each into a file 000000.job, 000001.job .. of the folder. The same
+    SEED, COUNT and MODE give the same jobs. MODE is one of those below.
 compare encode
     Reads a job written in words on standard input and writes the job.
     Words: 12 (a number), 0x8f (a byte), ( 0 1 3 0 )*128 (repeated), # comment.
@@ -39,22 +46,24 @@ compare tally
 type Outcome = Result<(), Box<dyn Error>>;
 
 fn main() -> ExitCode {
-    answer::silence_panics();
     let arguments: Vec<String> = std::env::args().skip(1).collect();
     let arguments: Vec<&str> = arguments.iter().map(String::as_str).collect();
     let outcome = match arguments[..] {
         ["answer"] => answer_one(),
         ["answer-batch"] => answer_batch(false),
         ["answer-batch", "--text"] => answer_batch(true),
+        ["generate", seed, count, mode] => generate(seed, count, mode, None),
+        ["generate", seed, count, mode, "--dir", folder] => {
+            generate(seed, count, mode, Some(Path::new(folder)))
+        }
         ["encode"] => encode(),
         ["trials", file, folder] => write_trials(file, Path::new(folder)),
         ["tally"] => tally(),
         ["--help"] | ["help"] => {
-            print!("{HELP}");
-            Ok(())
+            io::stdout().write_all(help().as_bytes()).map_err(Into::into)
         }
         _ => {
-            eprint!("{HELP}");
+            eprint!("{}", help());
             return ExitCode::from(2);
         }
     };
@@ -67,7 +76,16 @@ fn main() -> ExitCode {
     }
 }
 
+fn help() -> String {
+    let mut help = format!("{HELP}Modes:\n");
+    for (name, _, what) in MODES {
+        help.push_str(&format!("    {name:8} {what}\n"));
+    }
+    help
+}
+
 fn answer_one() -> Outcome {
+    answer::silence_panics();
     // One byte past the limit is enough to see that a job is too long.
     let mut job = Vec::new();
     io::stdin()
@@ -78,6 +96,7 @@ fn answer_one() -> Outcome {
 }
 
 fn answer_batch(as_text: bool) -> Outcome {
+    answer::silence_panics();
     let mut input = BufReader::new(io::stdin().lock());
     let mut output = BufWriter::new(io::stdout().lock());
     while let Some(job) = frame::read(&mut input)? {
@@ -87,6 +106,26 @@ fn answer_batch(as_text: bool) -> Outcome {
             output.write_all(b"--\n")?;
         } else {
             frame::write(&mut output, text.as_bytes())?;
+        }
+    }
+    output.flush()?;
+    Ok(())
+}
+
+fn generate(seed: &str, count: &str, mode: &str, folder: Option<&Path>) -> Outcome {
+    let seed = seed.parse().map_err(|_| "SEED is not a number")?;
+    let count: usize = count.parse().map_err(|_| "COUNT is not a number")?;
+    let &(_, mode, _) = MODES
+        .iter()
+        .find(|(name, _, _)| *name == mode)
+        .ok_or("no such MODE")?;
+    let mut generator = Generator::new(seed, mode);
+    let mut output = BufWriter::new(io::stdout().lock());
+    for index in 0..count {
+        let job = generator.job();
+        match folder {
+            Some(folder) => fs::write(folder.join(format!("{index:06}.job")), job)?,
+            None => frame::write(&mut output, &job)?,
         }
     }
     output.flush()?;
@@ -114,7 +153,7 @@ fn tally() -> Outcome {
     while let Some(answer) = frame::read(&mut input)? {
         tally.add(&String::from_utf8(answer)?);
     }
-    print!("{tally}");
+    write!(io::stdout(), "{tally}")?;
     match tally.panics() {
         0 => Ok(()),
         panics => Err(format!("{panics} panics").into()),

@@ -1,25 +1,22 @@
 -- Tests and lists of numbers that every definition above is written with.
 use Prim.Native.Nat.{ℕ, zero, suc, _+_}
-use mathlib.Core.Bool.{Bool, true, false}
+use mathlib.Core.Bool.{Bool, true, false, cond, not, _&&_, _||_}
 use mathlib.Core.List.{List, [], _∷_}
 use lib.ListN.{getD}
 use lib.Dec.{eqb}
 
+-- the library's tests, written in front
 abbrev pub pick : {A : Type 0} → Bool → A → A → A
-pick true a b = a
-pick false a b = b
+pick b x y = cond b x y
 
 abbrev pub and : Bool → Bool → Bool
-and true b = b
-and false b = false
+and a b = a && b
 
 abbrev pub or : Bool → Bool → Bool
-or true b = true
-or false b = b
+or a b = a || b
 
 abbrev pub no : Bool → Bool
-no true = false
-no false = true
+no b = not b
 
 -- some element passes the test
 unfoldable pub any : {A : Type 0} → (A → Bool) → List A → Bool
