@@ -1,0 +1,419 @@
+//! Jobs at each limit and one past it.
+
+use super::accepted::{self, SMALL};
+use crate::answer;
+use crate::draft::{
+    Bank, COST_BELOW_LOAD, COST_NONE, Class, Draft, Entry, Patch, Place, Register, Target, Value,
+};
+use crate::random::Random;
+
+/// A job at a limit, or one past it.
+pub fn job(random: &mut Random) -> Vec<u8> {
+    let past = random.below(2);
+    match random.below(24) {
+        0 => units(random, past),
+        1 => banks(random, past),
+        2 => registers(past),
+        3 => units_of_register(random, past),
+        4 => classes(random, past),
+        5 => order_entries(random, past),
+        6 => size(random, past),
+        7 => values(random, past),
+        8 => slots(random, past),
+        9 => emergency_limit(random, past),
+        10 => patches(random, past),
+        11 => entries(random, past),
+        12 => bytes(random, past),
+        13 => bytes_left_over(random, past),
+        14 => last_of_each(random, past),
+        15 => count_without_limit(random),
+        16 | 17 => one_cycle(random),
+        18 => free_units(random, past),
+        19 => least(random),
+        _ => just_enough_slots(random, past),
+    }
+}
+
+/// One bank of single registers, a class with slots and one without, each of
+/// all of them, and values that cannot be rebuilt.
+fn plain(registers: usize, values: usize, slots: usize) -> Draft {
+    let all: Vec<usize> = (0..registers).collect();
+    let class = |slots| Class {
+        bank: 0,
+        slots,
+        members: all.clone(),
+        order: all.clone(),
+    };
+    Draft {
+        target: Target {
+            units: registers,
+            banks: vec![Bank {
+                size_log2: 3,
+                top_level_class: 0,
+                stack_class: 1,
+            }],
+            registers: all
+                .iter()
+                .map(|&unit| Register {
+                    memory: false,
+                    bank: 0,
+                    units: vec![unit],
+                })
+                .collect(),
+            classes: vec![class(true), class(false)],
+        },
+        values: vec![
+            Value {
+                bank: 0,
+                cost: COST_NONE,
+                class: 0,
+            };
+            values
+        ],
+        slots,
+        emergency_limit: 200,
+        patches: vec![Patch::default()],
+    }
+}
+
+fn entry(source: Place, dest: Place, value: usize) -> Entry {
+    Entry {
+        source: Some(source),
+        dest,
+        value,
+    }
+}
+
+fn small(random: &mut Random) -> Draft {
+    accepted::draft(random, &SMALL)
+}
+
+fn units(random: &mut Random, past: usize) -> Vec<u8> {
+    let mut draft = small(random);
+    draft.target.units = 512 + past;
+    draft.job()
+}
+
+fn banks(random: &mut Random, past: usize) -> Vec<u8> {
+    let mut draft = plain(1, 0, 2);
+    draft.target.banks.clear();
+    draft.target.registers.clear();
+    draft.target.classes.clear();
+    for bank in 0..8 + past {
+        draft.target.banks.push(Bank {
+            size_log2: random.below(32),
+            top_level_class: 2 * bank,
+            stack_class: 2 * bank + 1,
+        });
+        draft.target.registers.push(Register {
+            memory: false,
+            bank,
+            units: (0..bank.min(7) + 1).collect(),
+        });
+        for slots in [true, false] {
+            draft.target.classes.push(Class {
+                bank,
+                slots,
+                members: vec![bank],
+                order: vec![bank],
+            });
+        }
+        draft.values.push(Value {
+            bank,
+            cost: COST_NONE,
+            class: 0,
+        });
+    }
+    draft.target.units = 8;
+    let value = random.below(8);
+    draft.patches[0].entries = vec![
+        entry(Place::Slot(0), Place::Slot(1), value),
+        entry(Place::Slot(1), Place::Slot(0), random.below(8)),
+    ];
+    draft.job()
+}
+
+fn registers(past: usize) -> Vec<u8> {
+    let mut draft = plain(512, 2, 0);
+    if past == 1 {
+        let another = draft.target.registers[511].clone();
+        draft.target.registers.push(another);
+    }
+    draft.patches[0].entries = vec![
+        entry(Place::Register(511), Place::Register(0), 0),
+        entry(Place::Register(0), Place::Register(511), 1),
+    ];
+    draft.job()
+}
+
+fn units_of_register(random: &mut Random, past: usize) -> Vec<u8> {
+    let mut draft = plain(3, 2, 0);
+    let width = if random.chance(20) { 0 } else { 8 + past };
+    draft.target.units = 20;
+    for (index, register) in draft.target.registers.iter_mut().enumerate() {
+        register.units = (index..index + width).collect();
+    }
+    draft.patches[0].entries = vec![entry(Place::Register(0), Place::Register(1), 0)];
+    draft.job()
+}
+
+fn classes(random: &mut Random, past: usize) -> Vec<u8> {
+    let mut draft = plain(3, 2, 1);
+    while draft.target.classes.len() < 64 + past {
+        let again = draft.target.classes[random.below(2)].clone();
+        draft.target.classes.push(again);
+    }
+    if random.chance(50) {
+        // The last class, or the one past it, is named by a bank.
+        draft.target.classes[63].slots = true;
+        draft.target.banks[0].top_level_class = 63 + past;
+        draft.target.classes.truncate(64);
+    } else {
+        draft.values[0].cost = COST_BELOW_LOAD;
+        draft.values[0].class = 63 + past;
+        draft.target.classes.truncate(64 + random.below(2) * past);
+    }
+    draft.patches[0].entries = vec![entry(Place::Slot(0), Place::Register(0), 0)];
+    draft.job()
+}
+
+fn order_entries(random: &mut Random, past: usize) -> Vec<u8> {
+    let mut draft = plain(512, 2, 0);
+    while draft.target.classes.len() < 8 {
+        let again = draft.target.classes[1].clone();
+        draft.target.classes.push(again);
+    }
+    if past == 1 {
+        let order = vec![random.below(512)];
+        draft.target.classes.push(Class {
+            bank: 0,
+            slots: false,
+            members: order.clone(),
+            order,
+        });
+    } else if random.chance(50) {
+        draft.target.classes.push(Class {
+            bank: 0,
+            slots: true,
+            members: vec![0],
+            order: Vec::new(),
+        });
+    }
+    draft.patches[0].entries = vec![entry(Place::Register(0), Place::Register(1), 0)];
+    draft.job()
+}
+
+fn size(random: &mut Random, past: usize) -> Vec<u8> {
+    let mut draft = small(random);
+    let bank = random.below(draft.target.banks.len());
+    draft.target.banks[bank].size_log2 = 31 + past;
+    draft.job()
+}
+
+fn values(random: &mut Random, past: usize) -> Vec<u8> {
+    let mut draft = plain(3, 4096 + past, 0);
+    draft.patches[0].entries = vec![
+        entry(Place::Register(0), Place::Register(1), 4095),
+        entry(
+            Place::Register(1),
+            Place::Register(0),
+            4094 + 2 * random.below(2),
+        ),
+    ];
+    draft.job()
+}
+
+fn slots(random: &mut Random, past: usize) -> Vec<u8> {
+    let mut draft = plain(3, 2, 4096 + past);
+    draft.patches[0].entries = vec![
+        entry(Place::Slot(4095), Place::Register(1), 0),
+        entry(
+            Place::Register(1),
+            Place::Slot(4095 + random.below(2)),
+            1,
+        ),
+    ];
+    draft.job()
+}
+
+fn emergency_limit(random: &mut Random, past: usize) -> Vec<u8> {
+    let mut draft = small(random);
+    draft.emergency_limit = 2048 + past;
+    draft.job()
+}
+
+fn patches(random: &mut Random, past: usize) -> Vec<u8> {
+    let mut draft = plain(3, 2, 2);
+    let count = if random.chance(20) { 0 } else { 1024 + past };
+    draft.patches = vec![Patch::default(); count];
+    for patch in &mut draft.patches {
+        if random.chance(60) {
+            patch.entries = vec![
+                entry(Place::Register(0), Place::Register(1), 0),
+                entry(Place::Register(1), Place::Register(0), 1),
+            ];
+        }
+        if random.chance(30) {
+            patch
+                .entries
+                .push(entry(Place::Slot(0), Place::Slot(1), 0));
+        }
+    }
+    draft.job()
+}
+
+fn entries(random: &mut Random, past: usize) -> Vec<u8> {
+    let mut draft = plain(random.within(3, 300), 5, random.within(150, 300));
+    let mut places: Vec<Place> = (0..draft.slots).map(Place::Slot).collect();
+    places.extend((0..draft.target.registers.len()).map(Place::Register));
+    random.shuffle(&mut places);
+    let count = 128 + past;
+    for index in 0..count {
+        let source = *random.pick(&places[..140]);
+        if source != places[index] {
+            let value = random.below(5);
+            draft.patches[0]
+                .entries
+                .push(entry(source, places[index], value));
+        }
+    }
+    while draft.patches[0].entries.len() < count {
+        let again = draft.patches[0].entries[0];
+        draft.patches[0].entries.push(again);
+    }
+    draft.job()
+}
+
+/// A job that is accepted if it is not too long.
+fn bytes(random: &mut Random, past: usize) -> Vec<u8> {
+    let mut draft = plain(100, 2, 0);
+    let repeated = |times| Patch {
+        free: Vec::new(),
+        entries: vec![entry(Place::Register(0), Place::Register(1), 0); times],
+    };
+    // Two bytes for the patch count and for each patch, four for an entry.
+    draft.patches = vec![Patch::default(); 128];
+    let mut wanted = 65_536 + past - draft.job().len();
+    draft.patches.clear();
+    let mut left = 128;
+    while left > 0 {
+        // Leave to each of the rest what it can hold.
+        let most = (wanted / 4).min(127);
+        let least = (wanted / 4).saturating_sub(127 * (left - 1)).min(most);
+        let mut patch = repeated(random.within(least, most));
+        wanted -= 4 * patch.entries.len();
+        left -= 1;
+        if left == 0 {
+            patch.free = (2..2 + wanted).collect();
+        }
+        draft.patches.push(patch);
+    }
+    draft.job()
+}
+
+fn bytes_left_over(random: &mut Random, past: usize) -> Vec<u8> {
+    let mut job = small(random).job();
+    job.resize(65_536 + past, random.below(256) as u8);
+    job
+}
+
+/// The last value, register, slot or unit, or the one past it.
+fn last_of_each(random: &mut Random, past: usize) -> Vec<u8> {
+    let mut draft = plain(random.within(2, 200), random.within(1, 200), random.within(1, 200));
+    let registers = draft.target.registers.len();
+    let (mut source, mut dest, mut value) = (Place::Register(0), Place::Register(1), 0);
+    match random.below(6) {
+        0 => value = draft.values.len() - 1 + past,
+        1 => source = Place::Register(registers - 1 + past),
+        2 => dest = Place::Register(registers - 1 + past),
+        3 => source = Place::Slot(draft.slots - 1 + past),
+        4 => dest = Place::Slot(draft.slots - 1 + past),
+        _ => draft.patches[0].free = vec![registers - 1 + past],
+    }
+    draft.patches[0].entries = vec![entry(source, dest, value)];
+    draft.job()
+}
+
+/// A count that is not tested itself, greater than what follows.
+fn count_without_limit(random: &mut Random) -> Vec<u8> {
+    let draft = small(random);
+    let mut fields = draft.fields();
+    let counts: Vec<usize> = (0..fields.len())
+        .filter(|&index| fields[index].range.is_none())
+        .collect();
+    let field = &mut fields[*random.pick(&counts)];
+    field.number = match random.below(4) {
+        0 => field.number + 1,
+        1 => u32::MAX,
+        2 => 1 << 31,
+        _ => field.number + random.within(1, 5000) as u32,
+    };
+    crate::draft::write(&fields)
+}
+
+/// Up to 128 moves in one cycle, so that the walk is as deep as it can be.
+fn one_cycle(random: &mut Random) -> Vec<u8> {
+    let length = random.within(100, 128);
+    let mut draft = plain(random.within(60, 200), 3, random.within(80, 200));
+    let mut places: Vec<Place> = (0..draft.target.registers.len())
+        .map(Place::Register)
+        .collect();
+    places.extend((0..draft.slots).map(Place::Slot));
+    if random.chance(60) {
+        random.shuffle(&mut places);
+    }
+    places.truncate(length);
+    let mut entries: Vec<Entry> = (0..places.len())
+        .map(|index| {
+            let next = (index + 1) % places.len();
+            entry(places[index], places[next], random.below(3))
+        })
+        .collect();
+    match random.below(4) {
+        0 => entries.reverse(),
+        1 => random.shuffle(&mut entries),
+        2 => {
+            entries.pop();
+        }
+        _ => {}
+    }
+    draft.patches[0].entries = entries;
+    draft.job()
+}
+
+fn free_units(random: &mut Random, past: usize) -> Vec<u8> {
+    let mut draft = plain(512, 2, 3);
+    draft.patches[0].free = (0..512 + past).collect();
+    draft.patches[0].entries = vec![
+        entry(Place::Slot(0), Place::Slot(1), 0),
+        entry(Place::Slot(1), Place::Slot(random.below(2)), 0),
+    ];
+    draft.job()
+}
+
+/// As little as there may be of everything.
+fn least(random: &mut Random) -> Vec<u8> {
+    let mut draft = plain(1, random.below(2), random.below(2));
+    draft.emergency_limit = random.below(2);
+    if !draft.values.is_empty() && draft.slots > 0 && random.chance(70) {
+        draft.patches[0].entries = vec![entry(Place::Slot(0), Place::Register(0), 0)];
+    }
+    draft.job()
+}
+
+/// L is what the patches need, or one less.
+fn just_enough_slots(random: &mut Random, past: usize) -> Vec<u8> {
+    let flavours = [&SMALL, &accepted::SHARED, &accepted::MEMORY, &accepted::REMAT];
+    let flavour = *random.pick(&flavours);
+    let mut draft = accepted::draft(random, flavour);
+    draft.emergency_limit = 2048;
+    let text = answer::answer(&draft.job());
+    let made = text
+        .lines()
+        .filter(|line| line.starts_with("patch "))
+        .filter_map(|line| line.rsplit(' ').next()?.parse().ok())
+        .next_back()
+        .unwrap_or(0usize);
+    draft.emergency_limit = made.saturating_sub(past);
+    draft.job()
+}

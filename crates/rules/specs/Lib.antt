@@ -1,0 +1,6 @@
+pub mod Edit
+pub mod Scratch
+pub mod Order
+pub mod Patch
+pub mod Sorted
+pub mod Trials
