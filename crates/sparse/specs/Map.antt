@@ -1,0 +1,88 @@
+-- 01: "the writer of each unit". A sparse map from units to numbers, in one table: cell k below 4,608 is unit k's sparse cell,
+-- key j stands at 4608 + 2 j and its value at 4609 + 2 j, and the count of keys at 6656.
+-- The keys and values are the map; the sparse cells only speed up the look-up.
+use Prim.Native.Nat.{ℕ, zero, suc, _+_, _*_, _<_, _≤_}
+use mathlib.Core.Path.{_≡_}
+use mathlib.Core.Bool.{Bool, true, false}
+use mathlib.Core.List.{List, [], _∷_, _++_}
+use mathlib.Core.Option.{Option, none, some}
+use lib.ListN.{getD}
+use lib.Dec.{eqb}
+use Rattle.entity.specs.Logic.{pick}
+use Rattle.sparse.specs.declared.Found.{Found}
+use Rattle.sparse.specs.declared.Found.the-variants.{Value, Nothing}
+
+-- the cells of a table
+abbrev pub countOf : List ℕ → ℕ
+countOf t = getD t 6656 0
+
+abbrev pub keyAt : List ℕ → ℕ → ℕ
+keyAt t j = getD t (4608 + j * 2) 0
+
+abbrev pub valueAt : List ℕ → ℕ → ℕ
+valueAt t j = getD t (4609 + j * 2) 0
+
+-- the map that the first n keys and values are, the newest key first
+unfoldable pub mapFrom : List ℕ → ℕ → ℕ → Option ℕ
+mapFrom t zero k = none
+mapFrom t (suc n) k = pick (eqb (keyAt t n) k) (some (valueAt t n)) (mapFrom t n k)
+
+unfoldable pub mapOf : List ℕ → ℕ → Option ℕ
+mapOf t = mapFrom t (countOf t)
+
+unfoldable pub emptyMap : ℕ → Option ℕ
+emptyMap k = none
+
+-- the map with k at v
+unfoldable pub updated : (ℕ → Option ℕ) → ℕ → ℕ → ℕ → Option ℕ
+updated f k v x = pick (eqb x k) (some v) (f x)
+
+-- the keys, in the order in which they were put in
+unfoldable pub keysFrom : List ℕ → ℕ → List ℕ
+keysFrom t zero = []
+keysFrom t (suc n) = keysFrom t n ++ (keyAt t n ∷ [])
+
+unfoldable pub keysOf : List ℕ → List ℕ
+keysOf t = keysFrom t (countOf t)
+
+-- the keys once k is put in, of which the look-up gave o: k comes last where it was new
+abbrev pub grown : Option ℕ → List ℕ → ℕ → List ℕ
+grown none keys k = keys ++ (k ∷ [])
+grown (some v) keys k = keys
+
+-- a look-up gave something
+abbrev pub known : Option ℕ → Bool
+known none = false
+known (some v) = true
+
+-- the sparse cell of each key says where the key stands; of the other sparse cells nothing is said
+pub record Linked (t : List ℕ) : Type 0 where
+  pub few : countOf t ≤ 1024
+  pub back : (j : ℕ) → j < countOf t → (keyAt t j < 4608) × (getD t (keyAt t j) 0 ≡ j)
+
+-- no key is k
+abbrev pub Absent : List ℕ → ℕ → Type 0
+Absent t k = (j : ℕ) → j < countOf t → keyAt t j ≡ k → ⊥
+
+-- i is where the key k stands, or the count where it stands nowhere
+pub record Placed (t : List ℕ) (k i : ℕ) : Type 0 where
+  pub most : i ≤ countOf t
+  pub here : i < countOf t → keyAt t i ≡ k
+  pub gone : countOf t ≤ i → Absent t k
+
+-- a map with nothing in it
+pub record Emptied (t : List ℕ) : Type 0 where
+  pub map : mapOf t ≡ emptyMap
+  pub keys : keysOf t ≡ []
+  pub linked : Linked t
+
+-- k put in at v
+pub record Inserted (t u : List ℕ) (k v : ℕ) : Type 0 where
+  pub map : mapOf u ≡ updated (mapOf t) k v
+  pub keys : keysOf u ≡ grown (mapOf t k) (keysOf t) k
+  pub linked : Linked u
+
+-- what the enum of the code stands for
+abbrev pub foundOf : Found → Option ℕ
+foundOf (Value v) = some v
+foundOf Nothing = none
