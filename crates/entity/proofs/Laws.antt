@@ -6,7 +6,8 @@ use mathlib.Core.List.{List, [], _∷_, _++_, map}
 use native.Mathlib.Omega.{arith}
 use native.Mathlib.Numerals.{add-one}
 use lib.Dec.{eqb, ltb}
-use lib.ListN.{getD, length, set, length-map}
+use lib.ListN.{getD, length, set, drop, length-map}
+use lib.Seq.{drop-cons}
 use borrow.Author.Tests.{lt-ltb, le-ltb, eq-eqb, ne-eqb, eqb-true, eqb-false}
 use Rattle.entity.specs.Logic.{pick, and, or, no, any, all, has, meets, twice, lastOr, indices, cells}
 use Rattle.entity.specs.Place.{Place, reg, slot, codeOf, placeAt, Unit, regUnit, slotUnit, unitCode, unitAt}
@@ -68,3 +69,15 @@ unfolding indices
 getD-built f i zero k d h = absurd (omega arith)
 getD-built f i (suc n) zero d h = ap f (omega arith)
 getD-built f i (suc n) (suc k) d h = getD-built f (i + 1) n k d (omega arith) ∙ ap f (omega arith)
+
+-- the tests of a list, one element on
+pub drop-step : {A : Type 0} (l : List A) (j : ℕ) (d : A) → j < length l → drop j l ≡ getD l j d ∷ drop (j + 1) l
+drop-step l j d h = rw (add-one, drop-cons l j d)
+
+pub has-step : (x : ℕ) (l : List ℕ) (j : ℕ) → j < length l → has x (drop j l) ≡ or (eqb x (getD l j 0)) (has x (drop (j + 1) l))
+unfolding has
+has-step x l j h = ap (has x) (drop-step l j 0 h)
+
+pub meets-step : (l m : List ℕ) (j : ℕ) → j < length l → meets (drop j l) m ≡ or (has (getD l j 0) m) (meets (drop (j + 1) l) m)
+unfolding meets
+meets-step l m j h = ap (λ (k : List ℕ). meets k m) (drop-step l j 0 h)

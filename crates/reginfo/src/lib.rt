@@ -149,3 +149,37 @@ pub fn order_at(t: &RegInfo, c: RegClass, p: usize) -> PhysReg
     let i = wide(c.0);
     PhysReg(t[41984 + i * 512 + p])
 }
+
+// Whether a register has a unit.
+fn has_unit(t: &RegInfo, r: PhysReg, u: RegUnit) -> bool
+    requires { ⌜ KnownReg (regInfoOf (now t)) (r .0) × (length (regUnits (regInfoOf (now t)) (r .0)) ≤ 8) ⌝ }
+    ensures { λ h. ⌜ h ≡ has (u .0) (regUnits (regInfoOf (now (t .entry))) (r .0)) ⌝ }
+{
+    let n = num_reg_units(t, r);
+    let mut j: usize = 0;
+    while j < n {
+        let v = reg_unit(t, r, j);
+        if u.0 == v.0 {
+            return true;
+        }
+        j += 1;
+    }
+    false
+}
+
+// Whether two registers share a unit.
+pub fn regs_overlap(t: &RegInfo, a: PhysReg, b: PhysReg) -> bool
+    requires { ⌜ KnownReg (regInfoOf (now t)) (a .0) × (length (regUnits (regInfoOf (now t)) (a .0)) ≤ 8) × KnownReg (regInfoOf (now t)) (b .0) × (length (regUnits (regInfoOf (now t)) (b .0)) ≤ 8) ⌝ }
+    ensures { λ o. ⌜ o ≡ meets (regUnits (regInfoOf (now (t .entry))) (a .0)) (regUnits (regInfoOf (now (t .entry))) (b .0)) ⌝ }
+{
+    let n = num_reg_units(t, a);
+    let mut j: usize = 0;
+    while j < n {
+        let u = reg_unit(t, a, j);
+        if has_unit(t, b, u) {
+            return true;
+        }
+        j += 1;
+    }
+    false
+}
