@@ -10,7 +10,7 @@ ghost use Rattle.shipped.specs.Table.{table, startOf};
 
 // The unit lists of registers 0 to 31, 32 to 47 and 48 to 55; then for each of 32 units its three registers.
 const TABLE: [u16; 192] = [
-    0,
+    0, // from register 0
     1,
     2,
     3,
@@ -42,7 +42,7 @@ const TABLE: [u16; 192] = [
     29,
     30,
     31,
-    0,
+    0, // from register 32
     1,
     2,
     3,
@@ -74,7 +74,7 @@ const TABLE: [u16; 192] = [
     29,
     30,
     31,
-    0,
+    0, // from register 48
     1,
     2,
     3,
@@ -106,7 +106,7 @@ const TABLE: [u16; 192] = [
     29,
     30,
     31,
-    0,
+    0, // from the row of unit 0
     32,
     48,
     1,
