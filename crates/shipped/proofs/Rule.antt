@@ -4,16 +4,16 @@ use mathlib.Core.Path.{_≡_, refl, sym, ap, _∙_}
 use mathlib.Core.Bool.{Bool, true, false}
 use mathlib.Core.List.{List, [], map}
 use native.Mathlib.Omega.{arith}
-use lib.Dec.{leb}
+use lib.Dec.{ltb, leb}
 use lib.ListN.{getD, length}
-use borrow.Author.Tests.{leb-true}
+use borrow.Author.Tests.{ltb-true, leb-true}
 use Rattle.entity.specs.Logic.{has, indices, cells}
 use Rattle.entity.proofs.Laws.{getD-built, getD-cells}
 use Rattle.shipped.specs.Shipped.{shippedUnits, shippedRow}
 use Rattle.shipped.specs.Table.{joined, table, startOf, unitList, row}
 
 -- two functions whose first n values were computed and compared
-alike : {A : Type 0} (f g : ℕ → A) (d : A) (n k : ℕ) → map f (indices 0 n) ≡ map g (indices 0 n) → k < n → f k ≡ g k
+pub alike : {A : Type 0} (f g : ℕ → A) (d : A) (n k : ℕ) → map f (indices 0 n) ≡ map g (indices 0 n) → k < n → f k ≡ g k
 alike f g d n k e h =
     let z : k ≡ 0 + k = omega arith in
     ap f z ∙ sym (getD-built f 0 n k d h) ∙ ap (λ (l : List _). getD l k d) e ∙ getD-built g 0 n k d h ∙ ap g (sym z)
@@ -53,6 +53,14 @@ module _ (r : ℕ) (h : r < 56) where
   pub list-inside : startOf r + length (shippedUnits r) ≤ 96
   unfolding startOf shippedUnits indices
   list-inside = leb-true _ _ (alike (λ (q : ℕ). leb (startOf q + length (shippedUnits q)) 96) (λ (q : ℕ). true) true 56 r refl h)
+
+  pub some-unit : 0 < length (shippedUnits r)
+  unfolding shippedUnits indices
+  some-unit = ltb-true _ _ (alike (λ (q : ℕ). ltb 0 (length (shippedUnits q))) (λ (q : ℕ). true) true 56 r refl h)
+
+  pub unit-inside : getD (shippedUnits r) 0 0 + length (shippedUnits r) ≤ 32
+  unfolding shippedUnits indices
+  unit-inside = leb-true _ _ (alike (λ (q : ℕ). leb (getD (shippedUnits q) 0 0 + length (shippedUnits q)) 32) (λ (q : ℕ). true) true 56 r refl h)
 
   pub unit-is : (j : ℕ) → j < length (shippedUnits r) → getD table (startOf r + j) 0 ≡ getD (shippedUnits r) j 0
   unfolding unitList
