@@ -1,5 +1,5 @@
 -- The shipped target is accepted.
-use mathlib.Core.Path.{_≡_, refl}
+use mathlib.Core.Path.{refl}
 use Rattle.entity.specs.Logic.{any, all, has, meets, twice, lastOr, indices}
 use Rattle.reginfo.specs.RegInfo.{spillslotSize, topLevelClass, stackToStackClass, regMemory, bankForReg, regUnits, bankForClass, classSlots, classMembers, allocationOrder}
 use Rattle.reginfo.specs.Refused.{orderTotal, countsFit, bankFits, regFits, classFits, outsideLimits, listedTwice, unequalWidths, foreignMember, sharedMemory, unfitClass, firstOf, targetRefusal, Accepted}

@@ -1,9 +1,9 @@
 -- A table after the writes of the shipped target is read as the shipped target. What a cell holds is looked up in the writes, so that
 -- the whole target is one computation, whatever the table held.
-use Prim.Native.Nat.{ℕ, zero, suc, _+_, _-_, _*_, _/_, _%_, _<_, _≤_}
-use mathlib.Core.Path.{_≡_, refl, sym, ap, _∙_, fun-ext}
+use Prim.Native.Nat.{ℕ, zero, suc, _+_, _*_, _/_, _%_, _<_, _≤_}
+use mathlib.Core.Path.{_≡_, refl, ap, _∙_, fun-ext}
 use mathlib.Core.Bool.{Bool, true, false}
-use mathlib.Core.List.{List, [], _∷_, _++_, map}
+use mathlib.Core.List.{List, [], _∷_, map}
 use native.Mathlib.Omega.{arith}
 use lib.Dec.{eqb, ltb, leb}
 use lib.ListN.{getD, length, set, length-set}
@@ -13,7 +13,7 @@ use Rattle.entity.specs.Logic.{pick, and, all, indices, cells}
 use Rattle.reginfo.specs.RegInfo.{Bank, Reg, Class, RegInfo}
 use Rattle.reginfo.specs.Table.{bankAt, regAt, classAt, regInfoOf, Indexed}
 use Rattle.shipped.specs.Shipped.{shippedUnits, bankOf, bankRegs, shippedBank, shippedReg, shippedClass, shipped}
-use Rattle.shipped.specs.Writes.{Write, to, written, rising, regWrites, regsWrites, classWrites, bankWrites, shippedWrites}
+use Rattle.shipped.specs.Writes.{Write, written, rising, regWrites, regsWrites, classWrites, bankWrites, shippedWrites}
 use Rattle.shipped.proofs.Rule.{alike}
 
 -- what a cell that held d holds after the writes
@@ -27,9 +27,9 @@ inside l = all (λ w. ltb (w .cell) 107520) l
 getD-set : (t : List ℕ) (j x i : ℕ) → j < length t → getD (set t j x) i 0 ≡ pick (eqb i j) x (getD t i 0)
 getD-set t j x i h = go (eqb i j) refl
   where
-  go : (b : Bool) → eqb i j ≡ b → getD (set t j x) i 0 ≡ pick b x (getD t i 0)
-  go true e = rw (eqb-true i j e) (getD-set-same t j x 0 h)
-  go false e = getD-set-other t j i x 0 (eqb-false i j e)
+    go : (b : Bool) → eqb i j ≡ b → getD (set t j x) i 0 ≡ pick b x (getD t i 0)
+    go true e = rw (eqb-true i j e) (getD-set-same t j x 0 h)
+    go false e = getD-set-other t j i x 0 (eqb-false i j e)
 
 and-both : (a b : Bool) → and a b ≡ true → (a ≡ true) × (b ≡ true)
 and-both true b e = (refl, e)
@@ -103,3 +103,33 @@ module _ (t : List ℕ) (s : length t ≡ 107520) where
 
   pub filled-is : regInfoOf (written t shippedWrites) ≡ shipped
   filled-is = info-by (written t shippedWrites) ∙ ap infoBy (fun-ext filled-cell) ∙ computed
+
+  -- where each member stands: k is member k % 32 of class k / 32
+  seat : ℕ → ℕ
+  seat k = pick (ltb (k % 32) (now-held (8194 + k / 32 * 8))) (now-held (74752 + k / 32 * 512 + now-held (9216 + k / 32 * 512 + k % 32))) (k % 32)
+
+  seats : map seat (indices 0 192) ≡ map (λ (k : ℕ). k % 32) (indices 0 192)
+  unfolding seat now-held look shippedWrites bankWrites classWrites regsWrites regWrites rising shippedUnits indices
+  seats = refl
+
+  classes-six : now-held 8739 ≡ 6
+  unfolding now-held look shippedWrites bankWrites classWrites regsWrites regWrites rising shippedUnits indices
+  classes-six = refl
+
+  members-few : (c : ℕ) → c < 6 → now-held (8194 + c * 8) ≤ 32
+  unfolding now-held look shippedWrites bankWrites classWrites regsWrites regWrites rising shippedUnits indices
+  members-few c h = leb-true _ _ (alike (λ (k : ℕ). leb (now-held (8194 + k * 8)) 32) (λ (k : ℕ). true) true 6 c refl h)
+
+  seated : (c p : ℕ) → c < 6 → p < now-held (8194 + c * 8) → now-held (74752 + c * 512 + now-held (9216 + c * 512 + p)) ≡ p
+  unfolding seat
+  seated c p h l =
+      let f = members-few c h in
+      let a : (c * 32 + p) / 32 ≡ c = omega arith in
+      let b : (c * 32 + p) % 32 ≡ p = omega arith in
+      rw (a, b, lt-ltb p (now-held (8194 + c * 8)) l) at (alike seat (λ (k : ℕ). k % 32) 0 192 (c * 32 + p) seats (omega arith))
+
+  pub filled-indexed : Indexed (written t shippedWrites)
+  filled-indexed c h p l =
+      let h6 : c < 6 = rw (filled-cell 8739, classes-six) at h in
+      let n : p < now-held (8194 + c * 8) = rw (filled-cell (8194 + c * 8)) at l in
+      rw (filled-cell (9216 + c * 512 + p), filled-cell (74752 + c * 512 + now-held (9216 + c * 512 + p))) (seated c p h6 n)

@@ -42,7 +42,7 @@ unfolding unitList table joined startOf shippedUnits shippedRow indices cells
 list-is r h = alike unitList shippedUnits [] 56 r refl h
 
 pub row-is : (u : ℕ) → u < 32 → row u ≡ shippedRow u
-unfolding row table joined startOf shippedUnits shippedRow indices cells
+unfolding row table joined shippedUnits shippedRow indices cells
 row-is u h = alike row shippedRow [] 32 u refl h
 
 pub rule : (r u : ℕ) → r < 56 → u < 32 → has u (shippedUnits r) ≡ has r (shippedRow u)

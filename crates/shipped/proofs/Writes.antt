@@ -1,10 +1,10 @@
 -- What a table holds after writes.
-use Prim.Native.Nat.{ℕ, zero, suc, _+_, _-_, _*_, _/_, _%_, _<_}
-use mathlib.Core.Path.{_≡_, refl, sym, ap, _∙_}
+use Prim.Native.Nat.{ℕ, suc, _+_, _-_, _*_, _/_, _%_, _<_}
+use mathlib.Core.Path.{_≡_, refl, ap, _∙_}
 use mathlib.Core.List.{List, [], _∷_, _++_}
 use native.Mathlib.Omega.{arith}
-use lib.ListN.{getD, length, set}
-use Rattle.shipped.specs.Writes.{Write, to, written, rising, regWrites, regsWrites, classWrites, bankWrites}
+use lib.ListN.{set}
+use Rattle.shipped.specs.Writes.{Write, written, rising, regWrites, regsWrites, classWrites, bankWrites, shippedWrites}
 
 pub written-append : (t : List ℕ) (a b : List Write) → written t (a ++ b) ≡ written (written t a) b
 unfolding written
@@ -30,3 +30,7 @@ class-written t c r n = written-append _ (rising (9216 + c * 512) r n) _ ∙ wri
 pub bank-written : (t : List ℕ) (b r n : ℕ) → written t (bankWrites b r n) ≡ written (written (set (set (set t (8704 + b * 4) (2 + b)) (8705 + b * 4) (b * 2)) (8706 + b * 4) (b * 2 + 1)) (classWrites (b * 2) r n)) (classWrites (b * 2 + 1) r n)
 unfolding written bankWrites
 bank-written t b r n = written-append _ (classWrites (b * 2) r n) _
+
+pub shipped-written : (t : List ℕ) → written t shippedWrites ≡ written (written (written (written (set (set (set (set t 8736 32) 8737 3) 8738 56) 8739 6) (bankWrites 0 0 32)) (bankWrites 1 32 16)) (bankWrites 2 48 8)) (regsWrites 0 56)
+unfolding written shippedWrites
+shipped-written t = written-append _ (bankWrites 0 0 32) _ ∙ written-append _ (bankWrites 1 32 16) _ ∙ written-append _ (bankWrites 2 48 8) _

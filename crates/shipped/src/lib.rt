@@ -1,5 +1,8 @@
 // 01: the shipped target, a constant table of 32 units and 56 registers.
-use entity::{narrow, wide, PhysReg, RegUnit};
+use entity::PhysReg;
+use entity::RegUnit;
+use entity::narrow;
+use entity::wide;
 use reginfo::RegInfo;
 ghost use mathlib.Core.Path.{_≡_};
 ghost use Prim.Native.Nat.{_+_, _<_, _≤_};

@@ -30,13 +30,13 @@ loop-less : tie.Need-loop-less Inv-loop μ-loop
 loop-less c = search needs
 
 loop-again : tie.Need-loop-again Inv-loop μ-loop
-loop-again c = 
+loop-again c =
     let l = c .before .before .before .loop in
     (l .inv .0 ∙ regs-step (l .t) (l .r) (l .left) (c .before .before .loop-test .taken) ∙ rw (c .put-reg .ensures), omega arith)
 
 returns : tie.Need-returns Inv-loop μ-loop
 unfolding written regsWrites
-returns c = 
+returns c =
     let l = c .before .loop in
     let z : l .left ≡ 0 = omega arith in
     sym (l .inv .0 ∙ ap (λ (n : ℕ). written (l .t) (regsWrites (l .r) n)) z)

@@ -36,13 +36,13 @@ loop-less : tie.Need-loop-less Inv-loop μ-loop
 loop-less c = search needs
 
 loop-again : tie.Need-loop-again Inv-loop μ-loop
-loop-again c = 
+loop-again c =
     let l = c .before .loop in
     (l .inv .0 ∙ rising-step (l .t) (l .i) (l .word) (l .left) (c .loop-test .taken), omega arith, omega arith)
 
 returns : tie.Need-returns Inv-loop μ-loop
 unfolding written rising
-returns c = 
+returns c =
     let l = c .before .loop in
     let z : l .left ≡ 0 = omega arith in
     sym (l .inv .0 ∙ ap (λ (n : ℕ). written (l .t) (rising (l .i) (l .word) n)) z)
