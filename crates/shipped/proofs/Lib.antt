@@ -1,0 +1,4 @@
+pub mod Rule
+pub mod Accepted
+pub mod Writes
+pub mod Filled
