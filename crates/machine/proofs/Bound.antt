@@ -222,3 +222,143 @@ module _ (t : RegInfo) (f : Function) where
         all-then (λ k′. owed k′ ≤ owed k + 5) (λ k′. owed k′ ≤ owed k + 5 * suc (length l)) (rematWithScratch t f r k) _ (scratch-owed r (q .0) k)
         (λ k′ h. all-map (λ k″. owed k″ ≤ owed k′ + 5 * length l) (λ k″. owed k″ ≤ owed k + 5 * suc (length l)) (each (rematWithScratch t f) l k′) (λ k″ g. omega arith)
         (each-owed l (q .1) k′))
+
+    module _ (ms : List KeptMove) (ok : (i : ℕ) → i < length ms → MoveOk t f (getD ms i noMove)) where
+      abbrev n : ℕ
+      n = length ms
+
+      -- a writer is a kept move
+      writer-low : (i : ℕ) (l : List KeptMove) (u : ℕ) → All (λ m. m < i + length l) (writerFrom t f ms i l u)
+      unfolding writerFrom
+      writer-low i [] u = tt
+      writer-low i (m ∷ l) u =
+          branch (All (λ m. m < i + suc (length l))) (has u (placeUnits t (m .dest))) _ _ (λ _. omega arith)
+          (λ _. all-map (λ m. m < i + 1 + length l) (λ m. m < i + suc (length l)) (writerFrom t f ms (i + 1) l u) (λ m h. omega arith) (writer-low (i + 1) l u))
+
+      writersOf-low : (us : List ℕ) → Every (λ m. m < n) (writersOf t f ms us)
+      unfolding writersOf
+      writersOf-low [] = tt
+      writersOf-low (u ∷ us) = go (writerFrom t f ms 0 ms u) refl (writer-low 0 ms u) (writersOf-low us)
+        where
+          go : (o : Option ℕ) → writerFrom t f ms 0 ms u ≡ o → All (λ m. m < 0 + n) o → Every (λ m. m < n) (writersOf t f ms us) → Every (λ m. m < n) (writersOf t f ms (u ∷ us))
+          go none e h r = rw e r
+          go (some m) e h r = rw e (omega arith, r)
+
+      writers-low : (i : ℕ) → Every (λ m. m < n) (writers t f ms i)
+      unfolding writers
+      writers-low i = writersOf-low (placeUnits t (source t f ms i))
+
+      -- no value is carried more often than its count says, and only values there are
+      record Counted (d : Diverted) : Type 0 where
+        counts : (v : ℕ) → sum (λ m. occurs v (d .values m)) n ≤ d .refCount v
+        small : (v : ℕ) → 0 < d .refCount v → v < numValues f
+
+      -- only the count of v grows
+      record Grown (v : ℕ) (d d′ : Diverted) : Type 0 where
+        counted : Counted d′
+        others : (x : ℕ) → (x ≡ v → ⊥) → d′ .refCount x ≡ d .refCount x
+
+      module _ (v : ℕ) (vl : v < numValues f) (m : ℕ) (d : Diverted) (o : Counted d) where
+        d₁ : Diverted
+        d₁ = record { refCount = updated v (suc (d .refCount v)) (d .refCount); values = updated m (d .values m ++ (v ∷ [])) (d .values) }
+
+        one-more : (x : ℕ) → x ≡ v → sum (λ k. occurs x (d₁ .values k)) n ≤ suc (d .refCount v)
+        unfolding d₁
+        one-more x e =
+            let s : sum (λ k. occurs x (d₁ .values k)) n ≤ suc (sum (λ k. occurs x (d .values k)) n) =
+                sum-one (λ k. occurs x (d₁ .values k)) (λ k. occurs x (d .values k)) n m
+                (λ k q. omega (arith, ap (occurs x) (updated-other m (d .values m ++ (v ∷ [])) (d .values) k q)))
+                (omega (arith, ap (occurs x) (updated-same m (d .values m ++ (v ∷ [])) (d .values)), occurs-end x (d .values m) v, occurs-head x v (d .values m) e)) in
+            omega (arith, o .counts x, ap (d .refCount) e)
+
+        no-more : (x : ℕ) → (x ≡ v → ⊥) → sum (λ k. occurs x (d₁ .values k)) n ≤ d .refCount x
+        unfolding d₁
+        no-more x q =
+            let s : sum (λ k. occurs x (d₁ .values k)) n ≤ sum (λ k. occurs x (d .values k)) n =
+                sum-mono (λ k. occurs x (d₁ .values k)) (λ k. occurs x (d .values k)) n
+                (λ k. updated-at (λ y. occurs x y ≤ occurs x (d .values k)) m (d .values m ++ (v ∷ [])) (d .values) k
+                (λ e. omega (arith, occurs-end x (d .values m) v, occurs-tail x v (d .values m) q, ap (λ j. occurs x (d .values j)) e)) (λ _. omega arith)) in
+            omega (arith, o .counts x)
+
+        one-grown : Grown v d d₁
+        unfolding d₁
+        one-grown =
+            record {
+              counted =
+                  record {
+                    counts = λ x. updated-at (λ y. sum (λ k. occurs x (d₁ .values k)) n ≤ y) v (suc (d .refCount v)) (d .refCount) x (one-more x) (no-more x);
+                    small = λ x. updated-at (λ y. 0 < y → x < numValues f) v (suc (d .refCount v)) (d .refCount) x (λ e h. omega arith) (λ _ h. o .small x h);
+                  };
+              others = λ x q. updated-other v (suc (d .refCount v)) (d .refCount) x q;
+            }
+
+        carryOne-grown : (state : ℕ → State) → Grown v d (carryOne v state m d)
+        unfolding carryOne d₁
+        carryOne-grown state =
+            branch (Grown v d) (and (isPending (state m)) (no (has v (d .values m)))) d₁ d (λ _. one-grown) (λ _. record { counted = o; others = λ x q. refl })
+
+      carry-grown : (v : ℕ) → v < numValues f → (state : ℕ → State) (l : List ℕ) (d : Diverted) → Counted d → Grown v d (carry v state l d)
+      unfolding carry
+      carry-grown v vl state [] d o = record { counted = o; others = λ x q. refl }
+      carry-grown v vl state (m ∷ l) d o =
+          let g = carryOne-grown v vl m d o state in
+          let h = carry-grown v vl state l (carryOne v state m d) (g .counted) in
+          record { counted = h .counted; others = λ x q. h .others x q ∙ g .others x q }
+
+      -- the diversions that live
+      live : Diverted → ℕ
+      live d = sum (λ v. sign (d .refCount v)) (numValues f)
+
+      live-grown : (v : ℕ) (d d′ : Diverted) → Grown v d d′ → live d′ ≤ suc (live d)
+      unfolding live
+      live-grown v d d′ g =
+          sum-one (λ x. sign (d′ .refCount x)) (λ x. sign (d .refCount x)) (numValues f) v (λ x q. omega (arith, ap sign (g .others x q))) (omega (arith, sign-le (d′ .refCount v)))
+
+      -- the first value that i carries loses one
+      module _ (i : ℕ) (il : i < n) (v : ℕ) (rest : List ℕ) (d : Diverted) (e : d .values i ≡ v ∷ rest) (o : Counted d) where
+        d₂ : Diverted
+        d₂ = lost t f ms i v rest d
+
+        less : (x : ℕ) → x ≡ v → sum (λ k. occurs x (d₂ .values k)) n < d .refCount v
+        unfolding d₂
+        less x q =
+            let s : sum (λ k. occurs x (d₂ .values k)) n < sum (λ k. occurs x (d .values k)) n =
+                sum-less (λ k. occurs x (d₂ .values k)) (λ k. occurs x (d .values k)) n i il
+                (λ k z. omega (arith, ap (occurs x) (updated-other i rest (d .values) k z)))
+                (omega (arith, ap (occurs x) (updated-same i rest (d .values)), ap (occurs x) e, occurs-head x v rest q)) in
+            omega (arith, o .counts x, ap (d .refCount) q)
+
+        same : (x : ℕ) → (x ≡ v → ⊥) → sum (λ k. occurs x (d₂ .values k)) n ≤ d .refCount x
+        unfolding d₂
+        same x q =
+            let s : sum (λ k. occurs x (d₂ .values k)) n ≤ sum (λ k. occurs x (d .values k)) n =
+                sum-mono (λ k. occurs x (d₂ .values k)) (λ k. occurs x (d .values k)) n
+                (λ k. updated-at (λ y. occurs x y ≤ occurs x (d .values k)) i rest (d .values) k
+                (λ z. omega (arith, ap (occurs x) e, occurs-tail x v rest q, ap (λ j. occurs x (d .values j)) z)) (λ _. omega arith)) in
+            omega (arith, o .counts x)
+
+        was-live : 0 < d .refCount v
+        was-live = omega (arith, less v refl)
+
+        lost-counted : Counted d₂
+        unfolding d₂
+        lost-counted =
+            record {
+              counts = λ x. updated-at (λ y. sum (λ k. occurs x (d₂ .values k)) n ≤ y) v (pred (d .refCount v)) (d .refCount) x (λ q. omega (arith, less x q)) (same x);
+              small = λ x. updated-at (λ y. 0 < y → x < numValues f) v (pred (d .refCount v)) (d .refCount) x (λ q h. o .small x (omega (arith, was-live, ap (d .refCount) q))) (λ _ h. o .small x h);
+            }
+
+        live-kept : live d₂ ≤ live d
+        unfolding live d₂
+        live-kept =
+            sum-mono (λ x. sign (d₂ .refCount x)) (λ x. sign (d .refCount x)) (numValues f)
+            (λ x. updated-at (λ y. sign y ≤ sign (d .refCount x)) v (pred (d .refCount v)) (d .refCount) x
+            (λ q. sign-mono (pred (d .refCount v)) (d .refCount x) (omega (arith, ap (d .refCount) q))) (λ _. omega arith))
+
+        -- at zero a diversion ends
+        live-less : d₂ .refCount v ≡ 0 → live d₂ < live d
+        unfolding live d₂
+        live-less z =
+            sum-less (λ x. sign (d₂ .refCount x)) (λ x. sign (d .refCount x)) (numValues f) v (o .small v was-live)
+            (λ x q. omega (arith, ap sign (updated-other v (pred (d .refCount v)) (d .refCount) x q)))
+            (omega (arith, sign-zero (d₂ .refCount v) z, sign-pos (d .refCount v) was-live))
