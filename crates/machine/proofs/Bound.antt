@@ -7,23 +7,23 @@ use mathlib.Core.Option.{Option, none, some}
 use mathlib.Core.Logic.{_⊎_, inl, inr, ⊎-elim}
 use native.Mathlib.Omega.{arith}
 use lib.Dec.{eqb}
-use borrow.Author.Tests.{eq-eqb, ne-eqb, eqb-true, eqb-false}
+use borrow.Author.Tests.{eq-eqb, ne-eqb, eqb-true}
 use lib.ListN.{length, getD}
 use Rattle.entity.specs.Logic.{pick, and, or, no, any, has, indices}
 use Rattle.entity.proofs.Laws.{and-true}
 use Rattle.entity.specs.Place.{Place, reg, slot}
-use Rattle.reginfo.specs.RegInfo.{bankForClass, placeUnits, RegInfo, numBanks, numClasses, allocationOrder, classMembers, includesSpillslots, isMemoryReg, isMemory, lastInOrder, spillslotSize, topLevelClass, stackToStackClass}
+use Rattle.reginfo.specs.RegInfo.{bankForClass, placeUnits, RegInfo, allocationOrder, classMembers, includesSpillslots, isMemory, lastInOrder, spillslotSize, topLevelClass, stackToStackClass}
 use Rattle.reginfo.specs.Refused as target
 use Rattle.reginfo.proofs.Accepted.{top-slots, last-memory}
-use Rattle.function.specs.Function.{Function, numValues, valueBank, rematClass}
+use Rattle.function.specs.Function.{Function, numValues, rematClass}
 use Rattle.function.specs.Refused as function
 use Rattle.function.proofs.Laws.{bank-there, class-there}
 use Rattle.rules.specs.Edit.{Edit, Rematerialize, updated, andThen, each, find, filter}
 use Rattle.rules.specs.Scratch.{Cache, Evicted, ScratchAllocator, push, withEvicted, Found, unevict, unevictAll, overlapsEvicted, unevictForReg, acquire, releasePlace, usable, slotScratch, evictLast, reuse, orScratch, getScratchReg, nothingBarred, moveEdits, doMove}
-use Rattle.rules.specs.Order.{KeptMove, noMove, Remat, State, New, Pending, Done, isNew, isPending, Diverted, ParallelMoves, withAllocator, withState, withDiverted, carryOne, carry, doRemat, remats, rematWithScratch, source, dest, value, bank, writerFrom, writersOf, writers, cycleMoveSources, emit, noted, divert, carried, lead, lost, undivert, undivertAll, close, visit, visitUnlessMemory, start, moves}
+use Rattle.rules.specs.Order.{KeptMove, noMove, Remat, State, New, Pending, Done, isNew, isPending, Diverted, ParallelMoves, withState, carryOne, carry, doRemat, remats, rematWithScratch, source, dest, value, bank, writerFrom, writersOf, writers, cycleMoveSources, emit, noted, divert, carried, lead, lost, undivert, undivertAll, close, visit, visitUnlessMemory, start, moves}
 use Rattle.rules.specs.Patch.{Patch, Sorted, sorted, bound, run}
 use Rattle.rules.specs.Sorted.{MoveOk, RematOk, noRemat, SortedOk, Ran}
-use Rattle.machine.proofs.Steps.{All, all-then, all-after, all-map, branch, Every, every-getD, every-reverse, every-index, all-each, same?, updated-at, updated-same, updated-other}
+use Rattle.machine.proofs.Steps.{All, all-then, all-after, all-map, branch, Every, every-getD, every-reverse, every-index, all-each, updated-at, updated-same, updated-other}
 use Rattle.machine.proofs.Sum.{sum, sum-mono, sum-one, sum-less, sum-zero, sum-ones}
 
 -- the edits made, and those still owed: each evicted register will be saved
@@ -259,29 +259,26 @@ module _ (t : RegInfo) (f : Function) where
         others : (x : ℕ) → (x ≡ v → ⊥) → d′ .refCount x ≡ d .refCount x
 
       module _ (v : ℕ) (vl : v < numValues f) (m : ℕ) (d : Diverted) (o : Counted d) where
-        d₁ : Diverted
+        abbrev d₁ : Diverted
         d₁ = record { refCount = updated v (suc (d .refCount v)) (d .refCount); values = updated m (d .values m ++ (v ∷ [])) (d .values) }
 
         one-more : (x : ℕ) → x ≡ v → sum (λ k. occurs x (d₁ .values k)) n ≤ suc (d .refCount v)
-        unfolding d₁
         one-more x e =
             let s : sum (λ k. occurs x (d₁ .values k)) n ≤ suc (sum (λ k. occurs x (d .values k)) n) =
-                sum-one (λ k. occurs x (d₁ .values k)) (λ k. occurs x (d .values k)) n m
-                (λ k q. omega (arith, ap (occurs x) (updated-other m (d .values m ++ (v ∷ [])) (d .values) k q)))
-                (omega (arith, ap (occurs x) (updated-same m (d .values m ++ (v ∷ [])) (d .values)), occurs-end x (d .values m) v, occurs-head x v (d .values m) e)) in
+            sum-one (λ k. occurs x (d₁ .values k)) (λ k. occurs x (d .values k)) n m
+            (λ k q. omega (arith, ap (occurs x) (updated-other m (d .values m ++ (v ∷ [])) (d .values) k q)))
+            (omega (arith, ap (occurs x) (updated-same m (d .values m ++ (v ∷ [])) (d .values)), occurs-end x (d .values m) v, occurs-head x v (d .values m) e)) in
             omega (arith, o .counts x, ap (d .refCount) e)
 
         no-more : (x : ℕ) → (x ≡ v → ⊥) → sum (λ k. occurs x (d₁ .values k)) n ≤ d .refCount x
-        unfolding d₁
         no-more x q =
             let s : sum (λ k. occurs x (d₁ .values k)) n ≤ sum (λ k. occurs x (d .values k)) n =
-                sum-mono (λ k. occurs x (d₁ .values k)) (λ k. occurs x (d .values k)) n
-                (λ k. updated-at (λ y. occurs x y ≤ occurs x (d .values k)) m (d .values m ++ (v ∷ [])) (d .values) k
-                (λ e. omega (arith, occurs-end x (d .values m) v, occurs-tail x v (d .values m) q, ap (λ j. occurs x (d .values j)) e)) (λ _. omega arith)) in
+            sum-mono (λ k. occurs x (d₁ .values k)) (λ k. occurs x (d .values k)) n
+            (λ k. updated-at (λ y. occurs x y ≤ occurs x (d .values k)) m (d .values m ++ (v ∷ [])) (d .values) k
+            (λ e. omega (arith, occurs-end x (d .values m) v, occurs-tail x v (d .values m) q, ap (λ j. occurs x (d .values j)) e)) (λ _. omega arith)) in
             omega (arith, o .counts x)
 
         one-grown : Grown v d d₁
-        unfolding d₁
         one-grown =
             record {
               counted =
@@ -293,7 +290,7 @@ module _ (t : RegInfo) (f : Function) where
             }
 
         carryOne-grown : (state : ℕ → State) → Grown v d (carryOne v state m d)
-        unfolding carryOne d₁
+        unfolding carryOne
         carryOne-grown state =
             branch (Grown v d) (and (isPending (state m)) (no (has v (d .values m)))) d₁ d (λ _. one-grown) (λ _. record { counted = o; others = λ x q. refl })
 
@@ -316,32 +313,29 @@ module _ (t : RegInfo) (f : Function) where
 
       -- the first value that i carries loses one
       module _ (i : ℕ) (il : i < n) (v : ℕ) (rest : List ℕ) (d : Diverted) (e : d .values i ≡ v ∷ rest) (o : Counted d) where
-        d₂ : Diverted
+        abbrev d₂ : Diverted
         d₂ = lost t f ms i v rest d
 
         less : (x : ℕ) → x ≡ v → sum (λ k. occurs x (d₂ .values k)) n < d .refCount v
-        unfolding d₂
         less x q =
             let s : sum (λ k. occurs x (d₂ .values k)) n < sum (λ k. occurs x (d .values k)) n =
-                sum-less (λ k. occurs x (d₂ .values k)) (λ k. occurs x (d .values k)) n i il
-                (λ k z. omega (arith, ap (occurs x) (updated-other i rest (d .values) k z)))
-                (omega (arith, ap (occurs x) (updated-same i rest (d .values)), ap (occurs x) e, occurs-head x v rest q)) in
+            sum-less (λ k. occurs x (d₂ .values k)) (λ k. occurs x (d .values k)) n i il
+            (λ k z. omega (arith, ap (occurs x) (updated-other i rest (d .values) k z)))
+            (omega (arith, ap (occurs x) (updated-same i rest (d .values)), ap (occurs x) e, occurs-head x v rest q)) in
             omega (arith, o .counts x, ap (d .refCount) q)
 
         same : (x : ℕ) → (x ≡ v → ⊥) → sum (λ k. occurs x (d₂ .values k)) n ≤ d .refCount x
-        unfolding d₂
         same x q =
             let s : sum (λ k. occurs x (d₂ .values k)) n ≤ sum (λ k. occurs x (d .values k)) n =
-                sum-mono (λ k. occurs x (d₂ .values k)) (λ k. occurs x (d .values k)) n
-                (λ k. updated-at (λ y. occurs x y ≤ occurs x (d .values k)) i rest (d .values) k
-                (λ z. omega (arith, ap (occurs x) e, occurs-tail x v rest q, ap (λ j. occurs x (d .values j)) z)) (λ _. omega arith)) in
+            sum-mono (λ k. occurs x (d₂ .values k)) (λ k. occurs x (d .values k)) n
+            (λ k. updated-at (λ y. occurs x y ≤ occurs x (d .values k)) i rest (d .values) k
+            (λ z. omega (arith, ap (occurs x) e, occurs-tail x v rest q, ap (λ j. occurs x (d .values j)) z)) (λ _. omega arith)) in
             omega (arith, o .counts x)
 
         was-live : 0 < d .refCount v
         was-live = omega (arith, less v refl)
 
         lost-counted : Counted d₂
-        unfolding d₂
         lost-counted =
             record {
               counts = λ x. updated-at (λ y. sum (λ k. occurs x (d₂ .values k)) n ≤ y) v (pred (d .refCount v)) (d .refCount) x (λ q. omega (arith, less x q)) (same x);
@@ -349,7 +343,7 @@ module _ (t : RegInfo) (f : Function) where
             }
 
         live-kept : live d₂ ≤ live d
-        unfolding live d₂
+        unfolding live
         live-kept =
             sum-mono (λ x. sign (d₂ .refCount x)) (λ x. sign (d .refCount x)) (numValues f)
             (λ x. updated-at (λ y. sign y ≤ sign (d .refCount x)) v (pred (d .refCount v)) (d .refCount) x
@@ -357,8 +351,163 @@ module _ (t : RegInfo) (f : Function) where
 
         -- at zero a diversion ends
         live-less : d₂ .refCount v ≡ 0 → live d₂ < live d
-        unfolding live d₂
+        unfolding live
         live-less z =
             sum-less (λ x. sign (d₂ .refCount x)) (λ x. sign (d .refCount x)) (numValues f) v (o .small v was-live)
             (λ x q. omega (arith, ap sign (updated-other v (pred (d .refCount v)) (d .refCount) x q)))
             (omega (arith, sign-zero (d₂ .refCount v) z, sign-pos (d .refCount v) was-live))
+
+      -- the moves not visited
+      news : (ℕ → State) → ℕ
+      news s = sum (λ i. new (s i)) n
+
+      -- edits made and owed, 4 for each diversion that lives and 8 for each move not visited
+      abbrev spent : ParallelMoves → ℕ
+      spent w = owed (w .allocator) + (4 * live (w .diverted) + 8 * news (w .state))
+
+      record Paid (a : ℕ) (w : ParallelMoves) : Type 0 where
+        paid : spent w ≤ a
+        counted : Counted (w .diverted)
+
+      emit-paid : (a b i : ℕ) (from : Place) (w : ParallelMoves) → Paid a w → a + 4 ≤ b → All (Paid b) (emit t f ms i from w)
+      emit-paid a b i from w p h =
+          all-then (λ k. owed k ≤ owed (w .allocator) + 4) (Paid b) (doMove t f (bank t f ms (value t f ms i)) (dest t f ms i) from (value t f ms i) (w .allocator)) _
+          (move-owed (bank t f ms (value t f ms i)) (dest t f ms i) from (value t f ms i) (owed (w .allocator)) (w .allocator) (omega arith))
+          (λ k q. record { paid = omega (arith, p .paid); counted = p .counted })
+
+      module _ (i : ℕ) (il : i < n) where
+        named : value t f ms i < numValues f
+        named = ok i il .value-named
+
+        carried-paid : (a : ℕ) (w : ParallelMoves) → Paid a w → Paid (a + 4) (carried t f ms i w)
+        carried-paid a w p =
+            let g = carry-grown (value t f ms i) named (w .state) (writers t f ms i) (w .diverted) (p .counted) in
+            record { paid = omega (arith, p .paid, live-grown (value t f ms i) (w .diverted) (carry (value t f ms i) (w .state) (writers t f ms i) (w .diverted)) g); counted = g .counted }
+
+        divert-paid : (a b : ℕ) (w : ParallelMoves) → Paid a w → a + 4 ≤ b → All (Paid b) (divert t f ms i w)
+        unfolding divert
+        divert-paid a b w p h =
+            all-then (λ x. owed (x .scratch) ≤ owed (w .allocator)) (Paid b)
+            (getScratchReg t f (bank t f ms (value t f ms i)) (topLevelClass t (bank t f ms (value t f ms i))) (cycleMoveSources t f ms) (w .allocator)) _
+            (slots-owed (bank t f ms (value t f ms i)) (topLevelClass t (bank t f ms (value t f ms i))) (owed (w .allocator))
+            (top-slots t at (bank t f ms (value t f ms i)) (bank-there t f af (value t f ms i) named)) (cycleMoveSources t f ms) (w .allocator) (omega arith))
+            (λ x q. emit-paid a b i (x .place) (noted t f ms i x w) (record { paid = omega (arith, p .paid); counted = p .counted }) h)
+
+        lead-paid : (a b : ℕ) (w : ParallelMoves) → Paid a w → a + 8 ≤ b → All (Paid b) (lead t f ms i w)
+        unfolding lead
+        lead-paid a b w p h =
+            branch (All (Paid b)) (any (λ m. isPending (w .state m)) (writers t f ms i)) _ _
+            (λ _. branch (All (Paid b)) (eqb (w .diverted .refCount (value t f ms i)) 0) _ _
+            (λ _. divert-paid (a + 4) b (carried t f ms i w) (carried-paid a w p) (omega arith))
+            (λ _. emit-paid (a + 4) b i (w .scratch (value t f ms i)) (carried t f ms i w) (carried-paid a w p) (omega arith)))
+            (λ _. emit-paid a b i (source t f ms i) w p (omega arith))
+
+        -- the copy of a diversion that ends is paid by its end
+        module _ (a v : ℕ) (l : List ℕ) (w : ParallelMoves) (e : w .diverted .values i ≡ v ∷ l) (p : Paid a w) where
+          abbrev Left : ParallelMoves → Type 0
+          Left w′ = Paid a w′ × (w′ .diverted .values i ≡ l)
+
+          undivert-paid : All Left (undivert t f ms i v l w)
+          unfolding undivert
+          undivert-paid =
+              branch (All Left) (eqb (lost t f ms i v l (w .diverted) .refCount v) 0) _ _
+              (λ z. all-then (λ k. owed k ≤ owed (w .allocator) + 4) Left (doMove t f (bank t f ms v) (w .scratch v) (w .alloc v) v (w .allocator)) _
+              (move-owed (bank t f ms v) (w .scratch v) (w .alloc v) v (owed (w .allocator)) (w .allocator) (omega arith))
+              (λ k q. (
+                record {
+                  paid = omega (arith, p .paid, release-owed (spillslotSize t (bank t f ms v)) (w .scratch v) k, live-less i il v l (w .diverted) e (p .counted) (eqb-true (lost t f ms i v l (w .diverted) .refCount v) 0 z));
+                  counted = lost-counted i il v l (w .diverted) e (p .counted);
+                },
+                updated-same i l (w .diverted .values),
+              )))
+              (λ _. (
+                record { paid = omega (arith, p .paid, live-kept i il v l (w .diverted) e (p .counted)); counted = lost-counted i il v l (w .diverted) e (p .counted) },
+                updated-same i l (w .diverted .values),
+              ))
+
+        undivertAll-paid : (a : ℕ) (l : List ℕ) (w : ParallelMoves) → w .diverted .values i ≡ l → Paid a w → All (Paid a) (undivertAll t f ms i l w)
+        unfolding undivertAll
+        undivertAll-paid a [] w e p = p
+        undivertAll-paid a (v ∷ l) w e p =
+            all-then (Left a v l w e p) (Paid a) (undivert t f ms i v l w) _ (undivert-paid a v l w e p) (λ w′ q. undivertAll-paid a l w′ (q .1) (q .0))
+
+        done-paid : (a : ℕ) (w : ParallelMoves) → Paid a w → Paid a (withState i Done w)
+        unfolding news new
+        done-paid a w p = record { paid = omega (arith, p .paid, fewer); counted = p .counted }
+          where
+            fewer : sum (λ k. new (updated i Done (w .state) k)) n ≤ sum (λ k. new (w .state k)) n
+            fewer = sum-mono (λ k. new (updated i Done (w .state) k)) (λ k. new (w .state k)) n (λ k. updated-at (λ y. new y ≤ new (w .state k)) i Done (w .state) k (λ _. omega arith) (λ _. omega arith))
+
+        close-paid : (a b : ℕ) (w : ParallelMoves) → Paid a w → a + 8 ≤ b → All (Paid b) (close t f ms i w)
+        unfolding close
+        close-paid a b w p h =
+            all-then (Paid b) (Paid b) (lead t f ms i (withState i Done w)) _ (lead-paid a b (withState i Done w) (done-paid a w p) h)
+            (λ w′ q. undivertAll-paid b (w′ .diverted .values i) w′ refl q)
+
+        -- to open a move frees its 8
+        opened : (w : ParallelMoves) → isNew (w .state i) ≡ true → spent (withState i Pending w) + 8 ≤ spent w
+        unfolding news new
+        opened w e = omega (arith, fewer)
+          where
+            fewer : sum (λ k. new (updated i Pending (w .state) k)) n < sum (λ k. new (w .state k)) n
+            fewer =
+                sum-less (λ k. new (updated i Pending (w .state) k)) (λ k. new (w .state k)) n i il (λ k d. omega (arith, ap new (updated-other i Pending (w .state) k d)))
+                (omega (arith, ap new (updated-same i Pending (w .state)), new-is (w .state i) e))
+
+      visit-paid : (fuel a i : ℕ) (w : ParallelMoves) → i < n → Paid a w → All (Paid a) (visit t f ms fuel i w)
+      unfolding visit
+      visit-paid zero a i w il p = branch (All (Paid a)) (isNew (w .state i)) _ _ (λ _. tt) (λ _. p)
+      visit-paid (suc fuel) a i w il p =
+          branch (All (Paid a)) (isNew (w .state i)) _ _
+          (λ e. all-then (Paid (spent (withState i Pending w))) (Paid a) (each (visit t f ms fuel) (reverse (writers t f ms i)) (withState i Pending w)) _
+          (all-each (Paid (spent (withState i Pending w))) (λ m. m < n) (visit t f ms fuel) (λ m w′ ml q. visit-paid fuel (spent (withState i Pending w)) m w′ ml q)
+          (reverse (writers t f ms i)) (every-reverse (λ m. m < n) (writers t f ms i) (writers-low i)) (withState i Pending w) (record { paid = omega arith; counted = p .counted }))
+          (λ w′ q. close-paid i il (spent (withState i Pending w)) a w′ q (omega (arith, opened i il w e, p .paid))))
+          (λ _. p)
+
+      first-paid : (a i : ℕ) (w : ParallelMoves) → i < n → Paid a w → All (Paid a) (visitUnlessMemory t f ms i w)
+      unfolding visitUnlessMemory
+      first-paid a i w il p = branch (All (Paid a)) (or (isMemory t (source t f ms i)) (isMemory t (dest t f ms i))) _ _ (λ _. p) (λ _. visit-paid n a i w il p)
+
+      start-paid : (k : ScratchAllocator) → Paid (owed k + 8 * n) (start t f ms k)
+      unfolding start live news new sign occurs
+      start-paid k = record { paid = omega (arith, sum-zero (numValues f), sum-ones n); counted = record { counts = λ v. omega (arith, sum-zero n); small = λ v h. absurd (omega arith) } }
+
+      moves-few : (k : ScratchAllocator) → All (λ k′. length (k′ .edits) ≤ owed k + 8 * n) (moves t f ms k)
+      unfolding moves
+      moves-few k =
+          all-then P (λ k′. length (k′ .edits) ≤ owed k + 8 * n) (andThen (each (visitUnlessMemory t f ms) (indices 0 n) (start t f ms k)) (each (visit t f ms n) (indices 0 n))) _
+          (all-then P P (each (visitUnlessMemory t f ms) (indices 0 n) (start t f ms k)) _
+          (all-each P (λ i. i < n) (visitUnlessMemory t f ms) (λ i w. first-paid (owed k + 8 * n) i w) (indices 0 n) below (start t f ms k) (start-paid k))
+          (λ w p. all-each P (λ i. i < n) (visit t f ms n) (λ i w. visit-paid n (owed k + 8 * n) i w) (indices 0 n) below w p))
+          (λ w p. omega (arith, p .paid, all-owed (w .allocator)))
+        where
+          P : ParallelMoves → Type 0
+          P = Paid (owed k + 8 * n)
+
+          below : Every (λ i. i < n) (indices 0 n)
+          below = every-index n 0 n (omega arith)
+
+    run-few : (p : Patch) (c : Cache) → SortedOk t f (sorted t f p) → All (λ k. length (k .edits) ≤ bound (sorted t f p)) (run t f p (sorted t f p) c)
+    unfolding run
+    run-few p c ok =
+        all-then (λ k. owed k ≤ length (a .remats) + 5 * length (a .rematsWithScratch)) (λ k. length (k .edits) ≤ bound a) (each (rematWithScratch t f) (a .rematsWithScratch) (remats t f (a .remats) k₀)) _
+        (all-map (λ k. owed k ≤ owed (remats t f (a .remats) k₀) + 5 * length (a .rematsWithScratch)) (λ k. owed k ≤ length (a .remats) + 5 * length (a .rematsWithScratch))
+        (each (rematWithScratch t f) (a .rematsWithScratch) (remats t f (a .remats) k₀)) (λ k h. omega (arith, remats-owed (a .remats) k₀))
+        (each-owed (a .rematsWithScratch) (every-getD (RematOk t f false) (noRemat t f) (a .rematsWithScratch) (ok .rematsWithScratch)) (remats t f (a .remats) k₀)))
+        (λ k h. all-map (λ k′. length (k′ .edits) ≤ owed k + 8 * length (a .moves)) (λ k′. length (k′ .edits) ≤ bound a) (moves t f (a .moves) k) (λ k′ q. omega arith) (moves-few (a .moves) (ok .moves) k))
+      where
+        a : Sorted
+        a = sorted t f p
+
+        k₀ : ScratchAllocator
+        k₀ = record { edits = []; available = λ u. has u (p .free); evicted = []; cache = c }
+
+-- "the edits number at most 8 × kept moves + 5 × rebuilds with scratch + other rebuilds"
+pub bound-ok :
+    (t : RegInfo) (f : Function) → target.Accepted t → function.Accepted t f → (p : Patch) (room : ℕ) (c c′ : Cache) (es : List Edit) → Ran t f p room c es c′
+    → length es ≤ bound (sorted t f p)
+bound-ok t f at af p room c c′ es r =
+    let few : All (λ k. length (k .edits) ≤ bound (sorted t f p)) (some (r .allocator)) =
+    subst (All (λ k. length (k .edits) ≤ bound (sorted t f p))) (r .ran) (run-few t f at af p c (r .ok)) in
+    omega (arith, few, ap length (r .edits))
