@@ -2,17 +2,17 @@
 use Prim.Native.Nat.{ℕ, zero, suc, pred, _+_, _*_, _<_, _≤_}
 use mathlib.Core.Path.{_≡_, refl, sym, ap, subst, _∙_}
 use mathlib.Core.Bool.{Bool, true, false}
-use mathlib.Core.List.{List, [], _∷_, _++_, reverse}
+use mathlib.Core.List.{List, [], _∷_, reverse}
 use mathlib.Core.Option.{Option, none, some}
 use mathlib.Core.Logic.{_⊎_, inl, inr, ⊎-elim}
 use native.Mathlib.Omega.{arith}
 use lib.Dec.{eqb}
-use borrow.Author.Tests.{eq-eqb, ne-eqb, eqb-true}
+use borrow.Author.Tests.{eqb-true}
 use lib.ListN.{length, getD}
 use Rattle.entity.specs.Logic.{pick, and, or, no, any, has, indices}
 use Rattle.entity.proofs.Laws.{and-true}
 use Rattle.entity.specs.Place.{Place, reg, slot}
-use Rattle.reginfo.specs.RegInfo.{bankForClass, placeUnits, RegInfo, allocationOrder, classMembers, includesSpillslots, isMemory, lastInOrder, spillslotSize, topLevelClass, stackToStackClass}
+use Rattle.reginfo.specs.RegInfo.{bankForClass, RegInfo, allocationOrder, classMembers, includesSpillslots, isMemory, lastInOrder, spillslotSize, topLevelClass, stackToStackClass}
 use Rattle.reginfo.specs.Refused as target
 use Rattle.reginfo.proofs.Accepted.{top-slots, last-memory}
 use Rattle.function.specs.Function.{Function, numValues, rematClass}
@@ -20,18 +20,16 @@ use Rattle.function.specs.Refused as function
 use Rattle.function.proofs.Laws.{bank-there, class-there}
 use Rattle.rules.specs.Edit.{Edit, Rematerialize, updated, andThen, each, find, filter}
 use Rattle.rules.specs.Scratch.{Cache, Evicted, ScratchAllocator, push, withEvicted, Found, unevict, unevictAll, overlapsEvicted, unevictForReg, acquire, releasePlace, usable, slotScratch, evictLast, reuse, orScratch, getScratchReg, nothingBarred, moveEdits, doMove}
-use Rattle.rules.specs.Order.{KeptMove, noMove, Remat, State, New, Pending, Done, isNew, isPending, Diverted, ParallelMoves, withState, carryOne, carry, doRemat, remats, rematWithScratch, source, dest, value, bank, writerFrom, writersOf, writers, cycleMoveSources, emit, noted, divert, carried, lead, lost, undivert, undivertAll, close, visit, visitUnlessMemory, start, moves}
+use Rattle.rules.specs.Order.{KeptMove, noMove, Remat, State, New, Pending, Done, isNew, isPending, Diverted, ParallelMoves, withState, carry, doRemat, remats, rematWithScratch, source, dest, value, bank, writers, cycleMoveSources, emit, noted, divert, carried, lead, lost, undivert, undivertAll, close, visit, visitUnlessMemory, start, moves}
 use Rattle.rules.specs.Patch.{Patch, Sorted, sorted, bound, run}
 use Rattle.rules.specs.Sorted.{MoveOk, RematOk, noRemat, SortedOk, Ran}
-use Rattle.machine.proofs.Steps.{All, all-then, all-after, all-map, branch, Every, every-getD, every-reverse, every-index, all-each, updated-at, updated-same, updated-other}
-use Rattle.machine.proofs.Sum.{sum, sum-mono, sum-one, sum-less, sum-zero, sum-ones}
+use Rattle.machine.proofs.Steps.{All, all-then, all-after, all-map, branch, Every, every-getD, every-reverse, every-index, all-each, updated-same, updated-other}
+use Rattle.machine.proofs.Sum.{sum, sum-change, sum-zero, sum-ones}
+use Rattle.machine.proofs.Diversions.{clash, occurs, writers-low, Counted, Grown, carry-grown, was-live, lost-counted}
 
 -- the edits made, and those still owed: each evicted register will be saved
 abbrev owed : ScratchAllocator → ℕ
 owed k = length (k .edits) + length (k .evicted)
-
-clash : false ≡ true → ⊥
-clash e = let z : _≡_ {A = ℕ} 0 1 = cc in omega arith
 
 split-length : {A : Type 0} (p : A → Bool) (l : List A) → length (filter p l) + length (filter (λ e. no (p e)) l) ≡ length l
 unfolding filter
@@ -42,28 +40,6 @@ split-length {A} p (x ∷ l) = go (p x) (split-length p l)
         → length (pick b (x ∷ filter p l) (filter p l)) + length (pick (no b) (x ∷ filter (λ e. no (p e)) l) (filter (λ e. no (p e)) l)) ≡ suc (length l)
     go true h = omega arith
     go false h = omega arith
-
--- how often x is listed
-bit : Bool → ℕ
-bit true = 1
-bit false = 0
-
-occurs : ℕ → List ℕ → ℕ
-occurs x [] = 0
-occurs x (y ∷ l) = bit (eqb x y) + occurs x l
-
-occurs-head : (x y : ℕ) (l : List ℕ) → x ≡ y → occurs x (y ∷ l) ≡ suc (occurs x l)
-unfolding occurs bit
-occurs-head x y l e = rw (eq-eqb x y e) (omega arith)
-
-occurs-tail : (x y : ℕ) (l : List ℕ) → (x ≡ y → ⊥) → occurs x (y ∷ l) ≡ occurs x l
-unfolding occurs bit
-occurs-tail x y l d = rw (ne-eqb x y d) (omega arith)
-
-occurs-end : (x : ℕ) (l : List ℕ) (y : ℕ) → occurs x (l ++ (y ∷ [])) ≡ occurs x (y ∷ l)
-unfolding occurs
-occurs-end x [] y = refl
-occurs-end x (z ∷ l) y = omega (arith, occurs-end x l y)
 
 -- 1 unless 0
 sign : ℕ → ℕ
@@ -84,11 +60,6 @@ sign-zero : (n : ℕ) → n ≡ 0 → sign n ≡ 0
 unfolding sign
 sign-zero zero h = refl
 sign-zero (suc n) h = absurd (omega arith)
-
-sign-mono : (a b : ℕ) → a ≤ b → sign a ≤ sign b
-unfolding sign
-sign-mono zero b h = omega arith
-sign-mono (suc a) b h = omega (arith, sign-pos b (omega arith))
 
 new : State → ℕ
 new New = 1
@@ -227,135 +198,33 @@ module _ (t : RegInfo) (f : Function) where
       abbrev n : ℕ
       n = length ms
 
-      -- a writer is a kept move
-      writer-low : (i : ℕ) (l : List KeptMove) (u : ℕ) → All (λ m. m < i + length l) (writerFrom t f ms i l u)
-      unfolding writerFrom
-      writer-low i [] u = tt
-      writer-low i (m ∷ l) u =
-          branch (All (λ m. m < i + suc (length l))) (has u (placeUnits t (m .dest))) _ _ (λ _. omega arith)
-          (λ _. all-map (λ m. m < i + 1 + length l) (λ m. m < i + suc (length l)) (writerFrom t f ms (i + 1) l u) (λ m h. omega arith) (writer-low (i + 1) l u))
-
-      writersOf-low : (us : List ℕ) → Every (λ m. m < n) (writersOf t f ms us)
-      unfolding writersOf
-      writersOf-low [] = tt
-      writersOf-low (u ∷ us) = go (writerFrom t f ms 0 ms u) refl (writer-low 0 ms u) (writersOf-low us)
-        where
-          go : (o : Option ℕ) → writerFrom t f ms 0 ms u ≡ o → All (λ m. m < 0 + n) o → Every (λ m. m < n) (writersOf t f ms us) → Every (λ m. m < n) (writersOf t f ms (u ∷ us))
-          go none e h r = rw e r
-          go (some m) e h r = rw e (omega arith, r)
-
-      writers-low : (i : ℕ) → Every (λ m. m < n) (writers t f ms i)
-      unfolding writers
-      writers-low i = writersOf-low (placeUnits t (source t f ms i))
-
-      -- no value is carried more often than its count says, and only values there are
-      record Counted (d : Diverted) : Type 0 where
-        counts : (v : ℕ) → sum (λ m. occurs v (d .values m)) n ≤ d .refCount v
-        small : (v : ℕ) → 0 < d .refCount v → v < numValues f
-
-      -- only the count of v grows
-      record Grown (v : ℕ) (d d′ : Diverted) : Type 0 where
-        counted : Counted d′
-        others : (x : ℕ) → (x ≡ v → ⊥) → d′ .refCount x ≡ d .refCount x
-
-      module _ (v : ℕ) (vl : v < numValues f) (m : ℕ) (d : Diverted) (o : Counted d) where
-        abbrev d₁ : Diverted
-        d₁ = record { refCount = updated v (suc (d .refCount v)) (d .refCount); values = updated m (d .values m ++ (v ∷ [])) (d .values) }
-
-        one-more : (x : ℕ) → x ≡ v → sum (λ k. occurs x (d₁ .values k)) n ≤ suc (d .refCount v)
-        one-more x e =
-            let s : sum (λ k. occurs x (d₁ .values k)) n ≤ suc (sum (λ k. occurs x (d .values k)) n) =
-            sum-one (λ k. occurs x (d₁ .values k)) (λ k. occurs x (d .values k)) n m
-            (λ k q. omega (arith, ap (occurs x) (updated-other m (d .values m ++ (v ∷ [])) (d .values) k q)))
-            (omega (arith, ap (occurs x) (updated-same m (d .values m ++ (v ∷ [])) (d .values)), occurs-end x (d .values m) v, occurs-head x v (d .values m) e)) in
-            omega (arith, o .counts x, ap (d .refCount) e)
-
-        no-more : (x : ℕ) → (x ≡ v → ⊥) → sum (λ k. occurs x (d₁ .values k)) n ≤ d .refCount x
-        no-more x q =
-            let s : sum (λ k. occurs x (d₁ .values k)) n ≤ sum (λ k. occurs x (d .values k)) n =
-            sum-mono (λ k. occurs x (d₁ .values k)) (λ k. occurs x (d .values k)) n
-            (λ k. updated-at (λ y. occurs x y ≤ occurs x (d .values k)) m (d .values m ++ (v ∷ [])) (d .values) k
-            (λ e. omega (arith, occurs-end x (d .values m) v, occurs-tail x v (d .values m) q, ap (λ j. occurs x (d .values j)) e)) (λ _. omega arith)) in
-            omega (arith, o .counts x)
-
-        one-grown : Grown v d d₁
-        one-grown =
-            record {
-              counted =
-                  record {
-                    counts = λ x. updated-at (λ y. sum (λ k. occurs x (d₁ .values k)) n ≤ y) v (suc (d .refCount v)) (d .refCount) x (one-more x) (no-more x);
-                    small = λ x. updated-at (λ y. 0 < y → x < numValues f) v (suc (d .refCount v)) (d .refCount) x (λ e h. omega arith) (λ _ h. o .small x h);
-                  };
-              others = λ x q. updated-other v (suc (d .refCount v)) (d .refCount) x q;
-            }
-
-        carryOne-grown : (state : ℕ → State) → Grown v d (carryOne v state m d)
-        unfolding carryOne
-        carryOne-grown state =
-            branch (Grown v d) (and (isPending (state m)) (no (has v (d .values m)))) d₁ d (λ _. one-grown) (λ _. record { counted = o; others = λ x q. refl })
-
-      carry-grown : (v : ℕ) → v < numValues f → (state : ℕ → State) (l : List ℕ) (d : Diverted) → Counted d → Grown v d (carry v state l d)
-      unfolding carry
-      carry-grown v vl state [] d o = record { counted = o; others = λ x q. refl }
-      carry-grown v vl state (m ∷ l) d o =
-          let g = carryOne-grown v vl m d o state in
-          let h = carry-grown v vl state l (carryOne v state m d) (g .counted) in
-          record { counted = h .counted; others = λ x q. h .others x q ∙ g .others x q }
-
       -- the diversions that live
       live : Diverted → ℕ
       live d = sum (λ v. sign (d .refCount v)) (numValues f)
 
-      live-grown : (v : ℕ) (d d′ : Diverted) → Grown v d d′ → live d′ ≤ suc (live d)
+      live-grown : (v : ℕ) (state : ℕ → State) (d d′ : Diverted) → v < numValues f → Grown t f ms v state d d′ → live d′ ≤ suc (live d)
       unfolding live
-      live-grown v d d′ g =
-          sum-one (λ x. sign (d′ .refCount x)) (λ x. sign (d .refCount x)) (numValues f) v (λ x q. omega (arith, ap sign (g .others x q))) (omega (arith, sign-le (d′ .refCount v)))
+      live-grown v state d d′ vl g =
+          omega (arith, sum-change (λ x. sign (d′ .refCount x)) (λ x. sign (d .refCount x)) (numValues f) v vl (λ x q. ap sign (g .others x q)), sign-le (d′ .refCount v))
 
-      -- the first value that i carries loses one
-      module _ (i : ℕ) (il : i < n) (v : ℕ) (rest : List ℕ) (d : Diverted) (e : d .values i ≡ v ∷ rest) (o : Counted d) where
-        abbrev d₂ : Diverted
-        d₂ = lost t f ms i v rest d
-
-        less : (x : ℕ) → x ≡ v → sum (λ k. occurs x (d₂ .values k)) n < d .refCount v
-        less x q =
-            let s : sum (λ k. occurs x (d₂ .values k)) n < sum (λ k. occurs x (d .values k)) n =
-            sum-less (λ k. occurs x (d₂ .values k)) (λ k. occurs x (d .values k)) n i il
-            (λ k z. omega (arith, ap (occurs x) (updated-other i rest (d .values) k z)))
-            (omega (arith, ap (occurs x) (updated-same i rest (d .values)), ap (occurs x) e, occurs-head x v rest q)) in
-            omega (arith, o .counts x, ap (d .refCount) q)
-
-        same : (x : ℕ) → (x ≡ v → ⊥) → sum (λ k. occurs x (d₂ .values k)) n ≤ d .refCount x
-        same x q =
-            let s : sum (λ k. occurs x (d₂ .values k)) n ≤ sum (λ k. occurs x (d .values k)) n =
-            sum-mono (λ k. occurs x (d₂ .values k)) (λ k. occurs x (d .values k)) n
-            (λ k. updated-at (λ y. occurs x y ≤ occurs x (d .values k)) i rest (d .values) k
-            (λ z. omega (arith, ap (occurs x) e, occurs-tail x v rest q, ap (λ j. occurs x (d .values j)) z)) (λ _. omega arith)) in
-            omega (arith, o .counts x)
-
-        was-live : 0 < d .refCount v
-        was-live = omega (arith, less v refl)
-
-        lost-counted : Counted d₂
-        lost-counted =
-            record {
-              counts = λ x. updated-at (λ y. sum (λ k. occurs x (d₂ .values k)) n ≤ y) v (pred (d .refCount v)) (d .refCount) x (λ q. omega (arith, less x q)) (same x);
-              small = λ x. updated-at (λ y. 0 < y → x < numValues f) v (pred (d .refCount v)) (d .refCount) x (λ q h. o .small x (omega (arith, was-live, ap (d .refCount) q))) (λ _ h. o .small x h);
-            }
-
-        live-kept : live d₂ ≤ live d
+      module _ (i : ℕ) (il : i < n) (v : ℕ) (rest : List ℕ) (d : Diverted) (e : d .values i ≡ v ∷ rest) (o : Counted t f ms d) where
+        live-change : live (lost t f ms i v rest d) + 1 ≡ live d + sign (pred (d .refCount v))
         unfolding live
-        live-kept =
-            sum-mono (λ x. sign (d₂ .refCount x)) (λ x. sign (d .refCount x)) (numValues f)
-            (λ x. updated-at (λ y. sign y ≤ sign (d .refCount x)) v (pred (d .refCount v)) (d .refCount) x
-            (λ q. sign-mono (pred (d .refCount v)) (d .refCount x) (omega (arith, ap (d .refCount) q))) (λ _. omega arith))
+        live-change =
+            omega (
+              arith,
+              sum-change (λ x. sign (lost t f ms i v rest d .refCount x)) (λ x. sign (d .refCount x)) (numValues f) v (o .small v (was-live t f ms i il v rest d e o))
+                  (λ x q. ap sign (updated-other v (pred (d .refCount v)) (d .refCount) x q)),
+              ap sign (updated-same v (pred (d .refCount v)) (d .refCount)),
+              sign-pos (d .refCount v) (was-live t f ms i il v rest d e o),
+            )
+
+        live-kept : live (lost t f ms i v rest d) ≤ live d
+        live-kept = omega (arith, live-change, sign-le (pred (d .refCount v)))
 
         -- at zero a diversion ends
-        live-less : d₂ .refCount v ≡ 0 → live d₂ < live d
-        unfolding live
-        live-less z =
-            sum-less (λ x. sign (d₂ .refCount x)) (λ x. sign (d .refCount x)) (numValues f) v (o .small v was-live)
-            (λ x q. omega (arith, ap sign (updated-other v (pred (d .refCount v)) (d .refCount) x q)))
-            (omega (arith, sign-zero (d₂ .refCount v) z, sign-pos (d .refCount v) was-live))
+        live-less : lost t f ms i v rest d .refCount v ≡ 0 → live (lost t f ms i v rest d) < live d
+        live-less z = omega (arith, live-change, sign-zero (pred (d .refCount v)) (sym (updated-same v (pred (d .refCount v)) (d .refCount)) ∙ z))
 
       -- the moves not visited
       news : (ℕ → State) → ℕ
@@ -367,7 +236,7 @@ module _ (t : RegInfo) (f : Function) where
 
       record Paid (a : ℕ) (w : ParallelMoves) : Type 0 where
         paid : spent w ≤ a
-        counted : Counted (w .diverted)
+        counted : Counted t f ms (w .diverted)
 
       emit-paid : (a b i : ℕ) (from : Place) (w : ParallelMoves) → Paid a w → a + 4 ≤ b → All (Paid b) (emit t f ms i from w)
       emit-paid a b i from w p h =
@@ -381,8 +250,8 @@ module _ (t : RegInfo) (f : Function) where
 
         carried-paid : (a : ℕ) (w : ParallelMoves) → Paid a w → Paid (a + 4) (carried t f ms i w)
         carried-paid a w p =
-            let g = carry-grown (value t f ms i) named (w .state) (writers t f ms i) (w .diverted) (p .counted) in
-            record { paid = omega (arith, p .paid, live-grown (value t f ms i) (w .diverted) (carry (value t f ms i) (w .state) (writers t f ms i) (w .diverted)) g); counted = g .counted }
+            let g = carry-grown t f ms (value t f ms i) named (w .state) (writers t f ms i) (writers-low t f ms i) (w .diverted) (p .counted) .0 in
+            record { paid = omega (arith, p .paid, live-grown (value t f ms i) (w .state) (w .diverted) (carry (value t f ms i) (w .state) (writers t f ms i) (w .diverted)) named g); counted = g .counted }
 
         divert-paid : (a b : ℕ) (w : ParallelMoves) → Paid a w → a + 4 ≤ b → All (Paid b) (divert t f ms i w)
         unfolding divert
@@ -416,12 +285,12 @@ module _ (t : RegInfo) (f : Function) where
               (λ k q. (
                 record {
                   paid = omega (arith, p .paid, release-owed (spillslotSize t (bank t f ms v)) (w .scratch v) k, live-less i il v l (w .diverted) e (p .counted) (eqb-true (lost t f ms i v l (w .diverted) .refCount v) 0 z));
-                  counted = lost-counted i il v l (w .diverted) e (p .counted);
+                  counted = lost-counted t f ms i il v l (w .diverted) e (p .counted);
                 },
                 updated-same i l (w .diverted .values),
               )))
               (λ _. (
-                record { paid = omega (arith, p .paid, live-kept i il v l (w .diverted) e (p .counted)); counted = lost-counted i il v l (w .diverted) e (p .counted) },
+                record { paid = omega (arith, p .paid, live-kept i il v l (w .diverted) e (p .counted)); counted = lost-counted t f ms i il v l (w .diverted) e (p .counted) },
                 updated-same i l (w .diverted .values),
               ))
 
@@ -433,10 +302,10 @@ module _ (t : RegInfo) (f : Function) where
 
         done-paid : (a : ℕ) (w : ParallelMoves) → Paid a w → Paid a (withState i Done w)
         unfolding news new
-        done-paid a w p = record { paid = omega (arith, p .paid, fewer); counted = p .counted }
+        done-paid a w p = record { paid = omega (arith, p .paid, fewer, ap new (updated-same i Done (w .state))); counted = p .counted }
           where
-            fewer : sum (λ k. new (updated i Done (w .state) k)) n ≤ sum (λ k. new (w .state k)) n
-            fewer = sum-mono (λ k. new (updated i Done (w .state) k)) (λ k. new (w .state k)) n (λ k. updated-at (λ y. new y ≤ new (w .state k)) i Done (w .state) k (λ _. omega arith) (λ _. omega arith))
+            fewer : sum (λ k. new (updated i Done (w .state) k)) n + new (w .state i) ≡ sum (λ k. new (w .state k)) n + new (updated i Done (w .state) i)
+            fewer = sum-change (λ k. new (updated i Done (w .state) k)) (λ k. new (w .state k)) n i il (λ k d. ap new (updated-other i Done (w .state) k d))
 
         close-paid : (a b : ℕ) (w : ParallelMoves) → Paid a w → a + 8 ≤ b → All (Paid b) (close t f ms i w)
         unfolding close
@@ -447,12 +316,13 @@ module _ (t : RegInfo) (f : Function) where
         -- to open a move frees its 8
         opened : (w : ParallelMoves) → isNew (w .state i) ≡ true → spent (withState i Pending w) + 8 ≤ spent w
         unfolding news new
-        opened w e = omega (arith, fewer)
-          where
-            fewer : sum (λ k. new (updated i Pending (w .state) k)) n < sum (λ k. new (w .state k)) n
-            fewer =
-                sum-less (λ k. new (updated i Pending (w .state) k)) (λ k. new (w .state k)) n i il (λ k d. omega (arith, ap new (updated-other i Pending (w .state) k d)))
-                (omega (arith, ap new (updated-same i Pending (w .state)), new-is (w .state i) e))
+        opened w e =
+            omega (
+              arith,
+              sum-change (λ k. new (updated i Pending (w .state) k)) (λ k. new (w .state k)) n i il (λ k d. ap new (updated-other i Pending (w .state) k d)),
+              ap new (updated-same i Pending (w .state)),
+              new-is (w .state i) e,
+            )
 
       visit-paid : (fuel a i : ℕ) (w : ParallelMoves) → i < n → Paid a w → All (Paid a) (visit t f ms fuel i w)
       unfolding visit
@@ -461,7 +331,7 @@ module _ (t : RegInfo) (f : Function) where
           branch (All (Paid a)) (isNew (w .state i)) _ _
           (λ e. all-then (Paid (spent (withState i Pending w))) (Paid a) (each (visit t f ms fuel) (reverse (writers t f ms i)) (withState i Pending w)) _
           (all-each (Paid (spent (withState i Pending w))) (λ m. m < n) (visit t f ms fuel) (λ m w′ ml q. visit-paid fuel (spent (withState i Pending w)) m w′ ml q)
-          (reverse (writers t f ms i)) (every-reverse (λ m. m < n) (writers t f ms i) (writers-low i)) (withState i Pending w) (record { paid = omega arith; counted = p .counted }))
+          (reverse (writers t f ms i)) (every-reverse (λ m. m < n) (writers t f ms i) (writers-low t f ms i)) (withState i Pending w) (record { paid = omega arith; counted = p .counted }))
           (λ w′ q. close-paid i il (spent (withState i Pending w)) a w′ q (omega (arith, opened i il w e, p .paid))))
           (λ _. p)
 
@@ -471,7 +341,7 @@ module _ (t : RegInfo) (f : Function) where
 
       start-paid : (k : ScratchAllocator) → Paid (owed k + 8 * n) (start t f ms k)
       unfolding start live news new sign occurs
-      start-paid k = record { paid = omega (arith, sum-zero (numValues f), sum-ones n); counted = record { counts = λ v. omega (arith, sum-zero n); small = λ v h. absurd (omega arith) } }
+      start-paid k = record { paid = omega (arith, sum-zero (λ v. 0) (numValues f) (λ v h. refl), sum-ones n); counted = record { counts = λ v. sym (sum-zero (λ m. 0) n (λ m h. refl)); small = λ v h. absurd (omega arith) } }
 
       moves-few : (k : ScratchAllocator) → All (λ k′. length (k′ .edits) ≤ owed k + 8 * n) (moves t f ms k)
       unfolding moves
