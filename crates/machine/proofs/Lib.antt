@@ -1,0 +1,4 @@
+pub mod Steps
+pub mod Sum
+pub mod Diversions
+pub mod Bound
