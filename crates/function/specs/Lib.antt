@@ -1,3 +1,5 @@
 pub mod Function
+pub mod Known
 pub mod Refused
 pub mod Table
+pub mod Answers
