@@ -1,25 +1,25 @@
 -- What is known of a call that is not refused: every test of its entries and of the patch was passed, and the run came to its end.
-use Prim.Native.Nat.{ℕ, zero, suc, _+_, _<_, _≤_}
+use Prim.Native.Nat.{ℕ, zero, suc, _<_}
 use mathlib.Core.Path.{_≡_, refl, sym, ap, _∙_}
 use mathlib.Core.Bool.{Bool, true, false, true≢false, false≢true}
 use mathlib.Core.List.{List, [], _∷_, _++_, map, append-nil, append-assoc}
 use mathlib.Core.Option.{Option, none, some}
 use native.Mathlib.Omega.{arith}
-use lib.Dec.{eqb, ltb, leb}
+use lib.Dec.{ltb}
 use lib.ListN.{length, getD}
 use borrow.Author.Tests.{ltb-true, ltb-false}
 use Rattle.entity.specs.Logic.{pick, and, or, no, any}
-use Rattle.entity.specs.Place.{Place, reg, slot, samePlace}
-use Rattle.entity.proofs.Laws.{or-false, and-true, and-false, no-false, any-at}
+use Rattle.entity.specs.Place.{Place, slot}
+use Rattle.entity.proofs.Laws.{or-false, and-true, no-false, any-at}
 use Rattle.reginfo.specs.RegInfo.{RegInfo, inClass, ofBank, overlap}
-use Rattle.reginfo.specs.Refused.{Condition, firstOf}
+use Rattle.reginfo.specs.Refused.{firstOf}
 use Rattle.reginfo.proofs.Laws.{overlap-comm}
 use Rattle.reginfo.proofs.First.{first-none}
 use Rattle.function.specs.Function.{Function, numValues, valueBank, rematClass, canRematerialize}
 use Rattle.rules.specs.Edit.{Edit}
 use Rattle.rules.specs.Scratch.{Cache, ScratchAllocator}
 use Rattle.rules.specs.Order.{KeptMove, Remat, noMove}
-use Rattle.rules.specs.Patch.{Entry, move, remat, Patch, Sorted, nothingSorted, destinations, bound, Answer, refused, resolved, answerOf, unlessRefused, needsScratch, becomesRemat, dropped, addRemat, addKept, add, sortedFrom, sorted, namesPlace, overlapsEarlier, entryConditions, freeDestination, lastOverlaps, patchConditions, run, resolveSorted, resolveFrom, resolve}
+use Rattle.rules.specs.Patch.{Entry, move, remat, Patch, Sorted, nothingSorted, destinations, bound, Answer, resolved, answerOf, unlessRefused, needsScratch, becomesRemat, dropped, addRemat, addKept, add, sortedFrom, sorted, namesPlace, overlapsEarlier, entryConditions, patchConditions, run, resolveSorted, resolveFrom, resolve}
 use Rattle.rules.specs.Sorted.{MoveOk, RematOk, noRemat, SortedOk, Ran}
 
 -- one more at the end of a list
@@ -207,7 +207,7 @@ module _ (t : RegInfo) (f : Function) where
   accepted p room c c′ es h =
       let a = sorted t f p in
       let g = good-from p room c c′ es (p .entries) nothingSorted
-              record { moves = λ i l. absurd (omega arith); remats = λ i l. absurd (omega arith); rematsWithScratch = λ i l. absurd (omega arith); apart = tt } h in
+      record { moves = λ i l. absurd (omega arith); remats = λ i l. absurd (omega arith); rematsWithScratch = λ i l. absurd (omega arith); apart = tt } h in
       let q = not-refused (firstOf (patchConditions t f p room a)) (answerOf (run t f p a c)) es c′ (g .1) in
       let k = answered (run t f p a c) es c′ (q .1) in
       record {
