@@ -1,1 +1,3 @@
 pub mod Trials
+pub mod Accepted
+pub mod Refusals

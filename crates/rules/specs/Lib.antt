@@ -4,3 +4,4 @@ pub mod Order
 pub mod Patch
 pub mod Sorted
 pub mod Trials
+pub mod Refusals

@@ -1,0 +1,222 @@
+-- What is known of a call that is not refused: every test of its entries and of the patch was passed, and the run came to its end.
+use Prim.Native.Nat.{ℕ, zero, suc, _<_}
+use mathlib.Core.Path.{_≡_, refl, sym, ap, _∙_}
+use mathlib.Core.Bool.{Bool, true, false, true≢false, false≢true}
+use mathlib.Core.List.{List, [], _∷_, _++_, map, append-nil, append-assoc}
+use mathlib.Core.Option.{Option, none, some}
+use native.Mathlib.Omega.{arith}
+use lib.Dec.{ltb}
+use lib.ListN.{length, getD}
+use borrow.Author.Tests.{ltb-true, ltb-false}
+use Rattle.entity.specs.Logic.{pick, and, or, no, any}
+use Rattle.entity.specs.Place.{Place, slot}
+use Rattle.entity.proofs.Laws.{or-false, and-true, no-false, any-at}
+use Rattle.reginfo.specs.RegInfo.{RegInfo, inClass, ofBank, overlap}
+use Rattle.reginfo.specs.Refused.{firstOf}
+use Rattle.reginfo.proofs.Laws.{overlap-comm}
+use Rattle.reginfo.proofs.First.{first-none}
+use Rattle.function.specs.Function.{Function, numValues, valueBank, rematClass, canRematerialize}
+use Rattle.rules.specs.Edit.{Edit}
+use Rattle.rules.specs.Scratch.{Cache, ScratchAllocator}
+use Rattle.rules.specs.Order.{KeptMove, Remat, noMove}
+use Rattle.rules.specs.Patch.{Entry, move, remat, Patch, Sorted, nothingSorted, destinations, bound, Answer, resolved, answerOf, unlessRefused, needsScratch, becomesRemat, dropped, addRemat, addKept, add, sortedFrom, sorted, namesPlace, overlapsEarlier, entryConditions, patchConditions, run, resolveSorted, resolveFrom, resolve}
+use Rattle.rules.specs.Sorted.{MoveOk, RematOk, noRemat, SortedOk, Ran}
+
+-- one more at the end of a list
+snoc-all : {A : Type 0} (P : A → Type 0) (l : List A) (x d : A) → ((i : ℕ) → i < length l → P (getD l i d)) → P x
+    → (i : ℕ) → i < length (l ++ (x ∷ [])) → P (getD (l ++ (x ∷ [])) i d)
+snoc-all P [] x d h p zero k = p
+snoc-all P [] x d h p (suc i) k = absurd (omega arith)
+snoc-all P (y ∷ l) x d h p zero k = h 0 (omega arith)
+snoc-all P (y ∷ l) x d h p (suc i) k = snoc-all P l x d (λ j q. h (suc j) (omega arith)) p i (omega arith)
+
+map-snoc : {A B : Type 0} (g : A → B) (l : List A) (x : A) → map g (l ++ (x ∷ [])) ≡ map g l ++ (g x ∷ [])
+map-snoc g [] x = refl
+map-snoc g (y ∷ l) x = ap (g y ∷_) (map-snoc g l x)
+
+-- what an answer that is no refusal came from
+not-refused : (o : Option ℕ) (r : Answer) (es : List Edit) (c : Cache) → unlessRefused o r ≡ resolved es c → (o ≡ none) × (r ≡ resolved es c)
+not-refused none r es c e = (refl, e)
+not-refused (some n) r es c e = let z : _≡_ {A = ℕ} 0 1 = cc in absurd (omega arith)
+
+answered : (o : Option ScratchAllocator) (es : List Edit) (c : Cache) → answerOf o ≡ resolved es c
+    → (k : ScratchAllocator) × (o ≡ some k) × (es ≡ k .edits) × (c ≡ k .cache)
+answered none es c e = let z : _≡_ {A = ℕ} 0 1 = cc in absurd (omega arith)
+answered (some k) es c e = (k, refl, cc, cc)
+
+module _ (t : RegInfo) (f : Function) where
+  -- no two of the places overlap
+  abbrev Apart : List Place → Type 0
+  Apart [] = Unit {0}
+  Apart (p ∷ l) = (any (overlap t p) l ≡ false) × Apart l
+
+  any-comm : (d : Place) (l : List Place) → any (λ p. overlap t p d) l ≡ any (overlap t d) l
+  unfolding any
+  any-comm d [] = refl
+  any-comm d (p ∷ l) = rw (any-comm d l, overlap-comm t p d)
+
+  any-between : (q : Place → Bool) (xs ys : List Place) (d : Place) → q d ≡ false → any q (xs ++ ys) ≡ false → any q (xs ++ (d ∷ ys)) ≡ false
+  unfolding any
+  any-between q [] ys d h e = rw h e
+  any-between q (x ∷ xs) ys d h e =
+      let s = or-false (q x) (any q (xs ++ ys)) e in
+      rw (s .0) (any-between q xs ys d h (s .1))
+
+  -- one more, wherever it is put
+  between : (xs ys : List Place) (d : Place) → any (λ p. overlap t p d) (xs ++ ys) ≡ false → Apart (xs ++ ys) → Apart (xs ++ (d ∷ ys))
+  unfolding any
+  between [] ys d e h = (sym (any-comm d ys) ∙ e, h)
+  between (x ∷ xs) ys d e h =
+      let s = or-false (overlap t x d) (any (λ p. overlap t p d) (xs ++ ys)) e in
+      (any-between (overlap t x) xs ys d (s .0) (h .0), between xs ys d (s .1) (h .1))
+
+  apart-at : (l : List Place) → Apart l → (i k : ℕ) → i < length l → k < length l → (i ≡ k → ⊥) → overlap t (getD l i (slot 0)) (getD l k (slot 0)) ≡ false
+  apart-at [] h i k a b d = absurd (omega arith)
+  apart-at (p ∷ l) h zero zero a b d = absurd (d refl)
+  apart-at (p ∷ l) h zero (suc k) a b d = any-at (overlap t p) l k (slot 0) (h .0) (omega arith)
+  apart-at (p ∷ l) h (suc i) zero a b d = overlap-comm t (getD l i (slot 0)) p ∙ any-at (overlap t p) l i (slot 0) (h .0) (omega arith)
+  apart-at (p ∷ l) h (suc i) (suc k) a b d = apart-at l (h .1) i k (omega arith) (omega arith) (λ e. d (ap suc e))
+
+  -- `SortedOk` with its last part as above
+  record Good (a : Sorted) : Type 0 where
+    moves : (i : ℕ) → i < length (a .moves) → MoveOk t f (getD (a .moves) i noMove)
+    remats : (i : ℕ) → i < length (a .remats) → RematOk t f true (getD (a .remats) i (noRemat t f))
+    rematsWithScratch : (i : ℕ) → i < length (a .rematsWithScratch) → RematOk t f false (getD (a .rematsWithScratch) i (noRemat t f))
+    apart : Apart (destinations a)
+
+  good-ok : (a : Sorted) → Good a → SortedOk t f a
+  good-ok a g = record { moves = g .moves; remats = g .remats; rematsWithScratch = g .rematsWithScratch; apart = apart-at (destinations a) (g .apart) }
+
+  -- one more behind each of three parts
+  module _ (xs ys zs : List Place) (d : Place) (e : any (λ p. overlap t p d) (xs ++ (ys ++ zs)) ≡ false) (h : Apart (xs ++ (ys ++ zs))) where
+    behind-first : Apart ((xs ++ (d ∷ [])) ++ (ys ++ zs))
+    behind-first = rw (append-assoc xs (d ∷ []) (ys ++ zs)) (between xs (ys ++ zs) d e h)
+
+    behind-second : Apart (xs ++ ((ys ++ (d ∷ [])) ++ zs))
+    behind-second = rw (append-assoc ys (d ∷ []) zs, ← append-assoc xs ys (d ∷ zs)) (between (xs ++ ys) zs d (rw (append-assoc xs ys zs) e) (rw (append-assoc xs ys zs) h))
+
+    behind-third : Apart (xs ++ (ys ++ (zs ++ (d ∷ []))))
+    behind-third =
+        rw (← append-assoc ys zs (d ∷ []), ← append-assoc xs (ys ++ zs) (d ∷ []))
+        (between (xs ++ (ys ++ zs)) [] d (rw (append-nil (xs ++ (ys ++ zs))) e) (rw (append-nil (xs ++ (ys ++ zs))) h))
+
+  abbrev kept-dests : List KeptMove → List Place
+  kept-dests l = map (λ (m : KeptMove). m .dest) l
+
+  abbrev remat-dests : List Remat → List Place
+  remat-dests l = map (λ (r : Remat). r .dest) l
+
+  -- an entry whose destination overlaps none before it
+  module _ (a : Sorted) (g : Good a) (d : Place) (v : ℕ) (e : overlapsEarlier t f a d ≡ false) where
+    good-kept : (s : Place) → MoveOk t f record { source = s; dest = d; value = v } → Good (addKept t f false s d v a)
+    unfolding destinations
+    good-kept s ok =
+        record {
+          moves = snoc-all (MoveOk t f) (a .moves) record { source = s; dest = d; value = v } noMove (g .moves) ok;
+          remats = g .remats;
+          rematsWithScratch = g .rematsWithScratch;
+          apart =
+              rw (map-snoc (λ (m : KeptMove). m .dest) (a .moves) record { source = s; dest = d; value = v })
+              (behind-first (kept-dests (a .moves)) (remat-dests (a .remats)) (remat-dests (a .rematsWithScratch)) d e (g .apart));
+        }
+
+    good-remat : (b : Bool) → RematOk t f (no b) record { dest = d; value = v } → Good (addRemat t f b d v a)
+    unfolding destinations
+    good-remat true ok =
+        record {
+          moves = g .moves;
+          remats = g .remats;
+          rematsWithScratch = snoc-all (RematOk t f false) (a .rematsWithScratch) record { dest = d; value = v } (noRemat t f) (g .rematsWithScratch) ok;
+          apart =
+              rw (map-snoc (λ (r : Remat). r .dest) (a .rematsWithScratch) record { dest = d; value = v })
+              (behind-third (kept-dests (a .moves)) (remat-dests (a .remats)) (remat-dests (a .rematsWithScratch)) d e (g .apart));
+        }
+    good-remat false ok =
+        record {
+          moves = g .moves;
+          remats = snoc-all (RematOk t f true) (a .remats) record { dest = d; value = v } (noRemat t f) (g .remats) ok;
+          rematsWithScratch = g .rematsWithScratch;
+          apart =
+              rw (map-snoc (λ (r : Remat). r .dest) (a .remats) record { dest = d; value = v })
+              (behind-second (kept-dests (a .moves)) (remat-dests (a .remats)) (remat-dests (a .rematsWithScratch)) d e (g .apart));
+        }
+
+  unless-dropped : (o b : Bool) → and o (no b) ≡ false → b ≡ false → o ≡ false
+  unless-dropped false b e q = refl
+  unless-dropped true b e q = absurd (true≢false (sym (no-false b e) ∙ q))
+
+  never-dropped : (b x : Bool) → b ≡ true → and (no b) x ≡ false
+  never-dropped true x q = refl
+  never-dropped false x q = absurd (false≢true q)
+
+  no-no : (b : Bool) → no (no b) ≡ b
+  no-no true = refl
+  no-no false = refl
+
+  -- what the tests of an entry leave known
+  remat-ok : (d : Place) (v : ℕ) → namesPlace t f d ≡ true → v < numValues f → ofBank t (valueBank f v) d ≡ true → canRematerialize f v ≡ true
+      → RematOk t f (no (needsScratch t f d v)) record { dest = d; value = v }
+  remat-ok d v n l b c = record { dest-named = n; value-named = l; dest-bank = b; can = c; in-class = sym (no-no (inClass t (rematClass f v) d)) }
+
+  good-add : (e : Entry) (a : Sorted) → Good a → firstOf (entryConditions t f a e) ≡ none → Good (add t f e a)
+  unfolding entryConditions add destinations
+  good-add (remat d v) a g h =
+      let q = or-false (no (namesPlace t f d)) (no (ltb v (numValues f))) (first-none _ h 1 (omega arith)) in
+      good-remat a g d v (first-none _ h 4 (omega arith)) (needsScratch t f d v)
+      (remat-ok d v (no-false _ (q .0)) (ltb-true _ _ (no-false _ (q .1))) (no-false _ (first-none _ h 2 (omega arith))) (no-false _ (first-none _ h 3 (omega arith))))
+  good-add (move s d v) a g h = go (becomesRemat t f s d v) refl (dropped t f a s d v) refl
+    where
+      names : (namesPlace t f s ≡ true) × (namesPlace t f d ≡ true) × (v < numValues f)
+      names =
+          let q = or-false (no (namesPlace t f s)) (or (no (namesPlace t f d)) (no (ltb v (numValues f)))) (first-none _ h 1 (omega arith)) in
+          let p = or-false (no (namesPlace t f d)) (no (ltb v (numValues f))) (q .1) in
+          (no-false _ (q .0), no-false _ (p .0), ltb-true _ _ (no-false _ (p .1)))
+
+      banks : (no (ofBank t (valueBank f v) s) ≡ false) × (no (ofBank t (valueBank f v) d) ≡ false)
+      banks = or-false (no (ofBank t (valueBank f v) s)) (no (ofBank t (valueBank f v) d)) (first-none _ h 2 (omega arith))
+
+      clear : dropped t f a s d v ≡ false → overlapsEarlier t f a d ≡ false
+      clear q = unless-dropped (overlapsEarlier t f a d) (dropped t f a s d v) (first-none _ h 4 (omega arith)) q
+
+      go : (b : Bool) → becomesRemat t f s d v ≡ b → (c : Bool) → dropped t f a s d v ≡ c → Good (pick b (addRemat t f (needsScratch t f d v) d v a) (addKept t f c s d v a))
+      go true q c p =
+          good-remat a g d v (clear (never-dropped (becomesRemat t f s d v) _ q)) (needsScratch t f d v)
+          (remat-ok d v (names .1) (names .2) (no-false _ (banks .1)) (and-true (canRematerialize f v) _ q .0))
+      go false q true p = record { moves = g .moves; remats = g .remats; rematsWithScratch = g .rematsWithScratch; apart = g .apart }
+      go false q false p =
+          good-kept a g d v (clear p) s
+          record {
+            source-named = names .0;
+            dest-named = names .1;
+            value-named = names .2;
+            source-bank = no-false _ (banks .0);
+            dest-bank = no-false _ (banks .1);
+            differ = first-none _ h 3 (omega arith);
+          }
+
+  good-from : (p : Patch) (room : ℕ) (c c′ : Cache) (es : List Edit) (l : List Entry) (a : Sorted) → Good a → resolveFrom t f p room c l a ≡ resolved es c′
+      → Good (sortedFrom t f l a) × (resolveSorted t f p room c (sortedFrom t f l a) ≡ resolved es c′)
+  unfolding sortedFrom resolveFrom
+  good-from p room c c′ es [] a g h = (g, h)
+  good-from p room c c′ es (e ∷ l) a g h =
+      let q = not-refused (firstOf (entryConditions t f a e)) (resolveFrom t f p room c l (add t f e a)) es c′ h in
+      good-from p room c c′ es l (add t f e a) (good-add e a g (q .0)) (q .1)
+
+  pub accepted : (p : Patch) (room : ℕ) (c c′ : Cache) (es : List Edit) → resolve t f p room c ≡ resolved es c′ → Ran t f p room c es c′
+  unfolding resolve resolveSorted patchConditions destinations
+  accepted p room c c′ es h =
+      let a = sorted t f p in
+      let g = good-from p room c c′ es (p .entries) nothingSorted
+      record { moves = λ i l. absurd (omega arith); remats = λ i l. absurd (omega arith); rematsWithScratch = λ i l. absurd (omega arith); apart = tt } h in
+      let q = not-refused (firstOf (patchConditions t f p room a)) (answerOf (run t f p a c)) es c′ (g .1) in
+      let k = answered (run t f p a c) es c′ (q .1) in
+      record {
+        ok = good-ok a (g .0);
+        free = first-none _ (q .0) 0 (omega arith);
+        last = first-none _ (q .0) 1 (omega arith);
+        room-enough = ltb-false room (bound a) (first-none _ (q .0) 2 (omega arith));
+        allocator = k .0;
+        ran = k .1;
+        edits = k .2;
+        cache = k .3;
+      }

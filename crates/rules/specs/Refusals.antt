@@ -1,0 +1,55 @@
+-- 01, Refused jobs, for the calls of a patch: "Each is given when its condition holds and none earlier does, else not."
+use Prim.Native.Nat.{ℕ, _<_, _≤_}
+use mathlib.Core.Path.{_≡_}
+use mathlib.Core.Bool.{Bool, true, false}
+use mathlib.Core.List.{List, [], _∷_, _++_}
+use mathlib.Core.Option.{Option, none, some}
+use mathlib.Core.Logic.{_↔_}
+use lib.ListN.{length, getD}
+use Rattle.reginfo.specs.RegInfo.{RegInfo}
+use Rattle.reginfo.specs.Refused.{Condition, cond}
+use Rattle.function.specs.Function.{Function}
+use Rattle.rules.specs.Edit.{Edit}
+use Rattle.rules.specs.Scratch.{Cache, ScratchAllocator, acquire}
+use Rattle.rules.specs.Patch.{Entry, Patch, Sorted, nothingSorted, refused, resolved, cacheAfter, add, sorted, entryConditions, patchConditions, run, resolve}
+
+abbrev pub conditionAt : List Condition → ℕ → Condition
+conditionAt l i = getD l i (cond 0 false)
+
+-- one of the conditions has the number n and holds, and none earlier does
+pub record Given (l : List Condition) (n : ℕ) : Type 0 where
+  pub at : ℕ
+  pub is : at < length l
+  pub number : conditionAt l at .number ≡ n
+  pub holds : conditionAt l at .holds ≡ true
+  pub earlier : (k : ℕ) → k < at → conditionAt l k .holds ≡ false
+
+abbrev pub NoneHolds : List Condition → Type 0
+NoneHolds l = (i : ℕ) → i < length l → conditionAt l i .holds ≡ false
+
+-- 17: "a slot is needed, its stack is empty and L are made"
+abbrev pub ranOut : Option ScratchAllocator → Bool
+ranOut none = true
+ranOut (some k) = false
+
+module _ (t : RegInfo) (f : Function) where
+  -- "each entry 15, 2, 9, 10, 11, 12", over what the entries before it became
+  unfoldable pub entriesConditions : List Entry → Sorted → List Condition
+  entriesConditions [] a = []
+  entriesConditions (e ∷ l) a = entryConditions t f a e ++ entriesConditions l (add t f e a)
+
+  -- all conditions of a call in their order: the entries', "then 13, 14, 16, 17"
+  unfoldable pub callConditions : Patch → ℕ → Cache → List Condition
+  callConditions p room c = entriesConditions (p .entries) nothingSorted ++ (patchConditions t f p room (sorted t f p) ++ (cond 17 (ranOut (run t f p (sorted t f p) c)) ∷ []))
+
+  pub record Refusals (p : Patch) (room : ℕ) (c : Cache) : Type 0 where
+    -- refused with n: n's condition holds and none earlier does
+    pub given : (n : ℕ) → (resolve t f p room c ≡ refused n) ↔ Given (callConditions p room c) n
+    -- not refused: no condition holds
+    pub taken : ((es : List Edit) × (c′ : Cache) × (resolve t f p room c ≡ resolved es c′)) ↔ NoneHolds (callConditions p room c)
+    -- "a refused call returns the number and no edits; the list and the cache stay as at that call"
+    pub cache-stays : (n : ℕ) → resolve t f p room c ≡ refused n → cacheAfter c (resolve t f p room c) ≡ c
+
+  -- a slot that is needed is not had exactly where "its stack is empty and L are made"
+  abbrev pub NoSlot : Type 0
+  NoSlot = (z : ℕ) (c : Cache) → (acquire t f z c ≡ none) ↔ ((c .stacks z ≡ []) × (f .limit ≤ c .made))
