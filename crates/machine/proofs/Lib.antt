@@ -10,3 +10,4 @@ pub mod Carry
 pub mod Order
 pub mod Rebuild
 pub mod Passes
+pub mod Whole

@@ -28,6 +28,12 @@ module _ (t : RegInfo) (F : Function) (tk : TargetOk t) (j : Job) (em : (s : ℕ
   abbrev K : Needs → ScratchAllocator → Type 0
   K = Kept t F tk j em
 
+  -- putting a slot back leaves the program as it is
+  released : (z : ℕ) (p : Place) (k : ScratchAllocator) (needs : Needs) → Sound t F tk j (k .edits) (wait k) (Ok t F tk j needs (wait k))
+      → Sound t F tk j (releasePlace t F z p k .edits) (wait (releasePlace t F z p k)) (Ok t F tk j needs (wait (releasePlace t F z p k)))
+  released z (reg r) k needs h = h
+  released z (slot s) k needs h = h
+
   -- a rebuild asked for: afterwards the value is needed no more at its destination
   pub record AskedR (needs needs′ : Needs) (to : Place) (v : ℕ) : Type 0 where
     pub live : Live t F tk j needs
@@ -36,6 +42,13 @@ module _ (t : RegInfo) (F : Function) (tk : TargetOk t) (j : Job) (em : (s : ℕ
     pub back : (p : Place) (x : ℕ) → needs′ p x → needs p x × Apart t F tk p to
     pub len : T (fits t F to (length (j .content v)))
     pub inside : Within t F tk j (covers t F tk to)
+
+  -- what a rebuild class must have
+  pub record RebuildOk (to : Place) (v c : ℕ) : Type 0 where
+    pub ok : ClassOk t F tk j em c (length (j .content v))
+    pub can-reg : (r : ℕ) → T (hasIn (classMembers t c) r) → T (can t F tk v (reg r))
+    pub can-slot : T (includesSpillslots t c) → (s : ℕ) → T (can t F tk v (slot s))
+    pub far : T (not (includesSpillslots t c)) → Apart t F tk to (reg (lastInOrder t c))
 
   module _ (needs needs′ : Needs) (to : Place) (v : ℕ) (a : AskedR needs needs′ to v) where
     -- as a move from anywhere
@@ -122,20 +135,13 @@ module _ (t : RegInfo) (F : Function) (tk : TargetOk t) (j : Job) (em : (s : ℕ
                 give-room t F tk j em z needs k′ s h (subst (λ (y : ℕ). F .slots ≤ y) q (l .above)) (λ y. l .full (subst (Empty t F tk (x .scratch)) (sym q) (fw s y)))
                 (λ p y n. subst (λ (y : ℕ). Apart t F tk p (slot y)) q (l .apart p y n))
 
-    -- what a rebuild class must have
-    pub record RebuildOk (c : ℕ) : Type 0 where
-      pub ok : ClassOk t F tk j em c (length (j .content v))
-      pub can-reg : (r : ℕ) → T (hasIn (classMembers t c) r) → T (can t F tk v (reg r))
-      pub can-slot : T (includesSpillslots t c) → (s : ℕ) → T (can t F tk v (slot s))
-      pub far : T (not (includesSpillslots t c)) → Apart t F tk to (reg (lastInOrder t c))
-
     abbrev cls : ℕ
     cls = rematClass F v
 
     abbrev bnk : ℕ
     bnk = bankForClass t cls
 
-    pub scratched-ok : RebuildOk cls → StackOk t F tk j em bnk (length (j .content v)) → MemoryRule t F tk → (k₀ : ScratchAllocator) → K needs k₀ → All (K needs′) (rematWithScratch t F (record { dest = to; value = v }) k₀)
+    pub scratched-ok : RebuildOk to v cls → StackOk t F tk j em bnk (length (j .content v)) → MemoryRule t F tk → (k₀ : ScratchAllocator) → K needs k₀ → All (K needs′) (rematWithScratch t F (record { dest = to; value = v }) k₀)
     unfolding rematWithScratch
     scratched-ok rk sk rule k₀ h₀ =
         all-andThen (FoundOk t F tk j em needs bnk cls (length (j .content v)) (nothingBarred t F) (rk .ok) k) (K needs′) (getScratchReg t F bnk cls (nothingBarred t F) k) _
@@ -162,7 +168,7 @@ module _ (t : RegInfo) (F : Function) (tk : TargetOk t) (j : Job) (em : (s : ℕ
 
             done : (k′ : ScratchAllocator) → Moved t F tk j em needs needs′ to (x .place) v (asked (x .place)) P (x .scratch) k′
                 → K needs′ (makeAvailable t F to (releasePlace t F (spillslotSize t bnk) (x .place) (push (Rematerialize (x .place) v) k′)))
-            done k′ m = shut (x .place) refl
+            done k′ m = shed-ok (releasePlace t F (spillslotSize t bnk) (x .place) k″) room (released (spillslotSize t bnk) (x .place) k″ needs′ snd)
               where
                 hid : (u : ℕ) → T (under t F tk (wait (x .scratch)) u) → T (not (isMemory t (x .place))) → T (under t F tk (wait k′) u)
                 hid u h nm = subst (λ (w : Wait). T (under t F tk w u)) (sym (m .same nm)) h
@@ -175,7 +181,3 @@ module _ (t : RegInfo) (F : Function) (tk : TargetOk t) (j : Job) (em : (s : ℕ
 
                 snd : Sound t F tk j (k″ .edits) (wait k″) (Ok t F tk j needs′ (wait k″))
                 snd = rebuild-into t F tk j (wait k′) v (k′ .edits) needs′ (x .place) (scratch-of bnk cls (rk .ok) k x f k′ (m .room) (m .fewer) (m .avails) hid) able (m .sound)
-
-                shut : (p : Place) → x .place ≡ p → K needs′ (makeAvailable t F to (releasePlace t F (spillslotSize t bnk) (x .place) k″))
-                shut (reg r) e = shed-ok (releasePlace t F (spillslotSize t bnk) (x .place) k″) room (subst (λ (q : Place). Sound t F tk j (releasePlace t F (spillslotSize t bnk) q k″ .edits) (wait (releasePlace t F (spillslotSize t bnk) q k″)) (Ok t F tk j needs′ (wait (releasePlace t F (spillslotSize t bnk) q k″)))) (sym e) snd)
-                shut (slot s) e = shed-ok (releasePlace t F (spillslotSize t bnk) (x .place) k″) room (subst (λ (q : Place). Sound t F tk j (releasePlace t F (spillslotSize t bnk) q k″ .edits) (wait (releasePlace t F (spillslotSize t bnk) q k″)) (Ok t F tk j needs′ (wait (releasePlace t F (spillslotSize t bnk) q k″)))) (sym e) snd)
