@@ -3,3 +3,16 @@ pub mod Sum
 pub mod Diversions
 pub mod Bound
 pub mod Premises
+pub mod Tally
+pub mod Memory
+pub mod Run
+pub mod Sound
+pub mod Macro
+pub mod Cache
+pub mod Search
+pub mod Emit
+pub mod Carry
+pub mod Order
+pub mod Rebuild
+pub mod Passes
+pub mod Whole

@@ -1,0 +1,102 @@
+-- What holds at each stop of a run, for any set of places that may change.
+use mathlib.Core.Path.{_≡_, refl, sym, _∙_, ap, subst}
+use mathlib.Core.Bool.{Bool, true, false, not, _&&_, cond}
+use mathlib.Core.List.{List, [], _∷_, List·Memᴰ}
+use mathlib.Core.Option.{Option, some, none}
+use mathlib.Core.Logic.{_⊎_, inl, inr}
+use Prim.Native.Nat.{ℕ, zero, suc, _+_}
+use lib.Dec.{T}
+use lib.ListN.{length, take}
+use Rattle.entity.specs.Place.{Place, reg, slot}
+use Rattle.reginfo.specs.RegInfo.{RegInfo}
+use Rattle.function.specs.Function.{Function}
+use Rattle.rules.specs.Edit.{Edit, andThen}
+use Rattle.machine.specs.Machine.{Memory, Waiting, Written, Machine, read, fits, step, steps, counted, seen, when}
+
+-- the register that waits, and the slot that it waits in; one at most
+pub data Wait : Type 0 where
+  idle : Wait
+  saved : ℕ → ℕ → Wait
+
+abbrev pub waiting : Wait → List Waiting
+waiting idle = []
+waiting (saved r s) = record { reg = r; slot = s } ∷ []
+
+abbrev pub Log : Type 0
+Log = List Written
+
+abbrev pub wr : Place → List ℕ → Written
+wr p ws = record { place = p; words = ws }
+
+abbrev pub state : Wait → Memory → Log → Machine
+state w m l = record { memory = m; waiting = waiting w; written = l }
+
+pub when-yes : (b : Bool) (s : Machine) → T b → when b s ≡ some s
+when-yes true s h = refl
+when-yes false s h = absurd h
+
+pub record Job : Type 1 where
+  pub content : ℕ → List ℕ
+  -- units that may change; 512 + s is slot s
+  pub may : ℕ → Type 0
+  -- values of kept moves
+  pub tracked : ℕ → Type 0
+  -- a source or destination of a kept move of the value
+  pub home : Place → ℕ → Type 0
+  -- what each destination holds at the end
+  pub final : Place → ℕ → Type 0
+
+module _ (t : RegInfo) (f : Function) where
+  abbrev pub view : Wait → Memory → Memory
+  view w m = counted t f (waiting w) m
+
+  -- the waiting slot's list fits its register
+  unfoldable pub Ready : Wait → Memory → Type 0
+  Ready idle m = Unit {0}
+  Ready (saved r s) m = T (fits t f (reg r) (length (m .slots s)))
+
+  module _ (j : Job) where
+    -- the view agrees outside what may change
+    pub record Frame (a b : Memory) : Type 0 where
+      pub words : (u : ℕ) → (j .may u → ⊥) → a .word u ≡ b .word u
+      pub lists : (s : ℕ) → (j .may (512 + s) → ⊥) → a .slots s ≡ b .slots s
+
+    abbrev pub Anchored : Log → Place → ℕ → Type 0
+    Anchored l p v = j .home p v ⊎ List·Memᴰ (wr p (j .content v)) l
+
+    abbrev pub Holds : Machine → Place → ℕ → Type 0
+    Holds st p v = Anchored (st .written) p v × (read t f (seen t f st) p ≡ j .content v)
+
+    -- what holds at a stop; a is the view at the start
+    pub record Stop (a : Memory) (st : Machine) : Type 0 where
+      pub frame : Frame a (seen t f st)
+      pub lives : (v : ℕ) → j .tracked v → (p : Place) × Holds st p v
+
+    pub record Final (st : Machine) : Type 0 where
+      pub placed : (p : Place) (v : ℕ) → j .final p v → read t f (st .memory) p ≡ j .content v
+      pub none-waits : st .waiting ≡ []
+
+    abbrev pub Along : List Edit → Memory → Machine → Type 0
+    Along [] a st = Stop a st × Final st
+    Along (e ∷ es) a st = (st′ : Machine) × Stop a st × (step t f (j .content) e st ≡ some st′) × Along es a st′
+
+    -- after every prefix, and at the end
+    pub stops : (es : List Edit) (a : Memory) (st : Machine) → Along es a st → (k : ℕ) → (st′ : Machine) × (steps t f (j .content) (take k es) st ≡ some st′) × Stop a st′
+    unfolding steps andThen
+    stops [] a st h zero = (st, refl, h .0)
+    stops [] a st h (suc k) = (st, refl, h .0)
+    stops (e ∷ es) a st h zero = (st, refl, h .1)
+    stops (e ∷ es) a st h (suc k) = go (stops es a (h .0) (h .3) k)
+      where
+        go : (st′ : Machine) × (steps t f (j .content) (take k es) (h .0) ≡ some st′) × Stop a st′
+            → (st′ : Machine) × (andThen (step t f (j .content) e st) (steps t f (j .content) (take k es)) ≡ some st′) × Stop a st′
+        go r = (r .0, rw (h .2) (r .1), r .2)
+
+    pub ends : (es : List Edit) (a : Memory) (st : Machine) → Along es a st → (st′ : Machine) × (steps t f (j .content) es st ≡ some st′) × Final st′
+    unfolding steps andThen
+    ends [] a st h = (st, refl, h .1)
+    ends (e ∷ es) a st h = go (ends es a (h .0) (h .3))
+      where
+        go : (st′ : Machine) × (steps t f (j .content) es (h .0) ≡ some st′) × Final st′
+            → (st′ : Machine) × (andThen (step t f (j .content) e st) (steps t f (j .content) es) ≡ some st′) × Final st′
+        go r = (r .0, rw (h .2) (r .1), r .2)
