@@ -1,3 +1,4 @@
 pub mod Trials
 pub mod Accepted
 pub mod Refusals
+pub mod Limit

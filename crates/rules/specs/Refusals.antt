@@ -53,3 +53,12 @@ module _ (t : RegInfo) (f : Function) where
   -- a slot that is needed is not had exactly where "its stack is empty and L are made"
   abbrev pub NoSlot : Type 0
   NoSlot = (z : ℕ) (c : Cache) → (acquire t f z c ≡ none) ↔ ((c .stacks z ≡ []) × (f .limit ≤ c .made))
+
+  -- f with another L
+  abbrev pub withLimit : ℕ → Function
+  withLimit l = record { values = f .values; slots = f .slots; limit = l }
+
+  -- k is where the run of a patch ends under another L: the run is out of slots exactly where k made more than L, and else ends there too
+  pub record ByLimit (p : Patch) (a : Sorted) (c : Cache) (k : ScratchAllocator) : Type 0 where
+    pub out : (run t f p a c ≡ none) ↔ (f .limit < k .cache .made)
+    pub same : k .cache .made ≤ f .limit → run t f p a c ≡ some k
