@@ -144,7 +144,7 @@ module _ (t : RegInfo) (F : Function) (tk : TargetOk t) where
                               (λ i. kept-free t F tk j em needs c (nothingBarred t F) k′ u (f .kept .room) (free u sh) p y (i .0) d)
                               (a .back p y n);
                           len = f .len;
-                          inside = λ u sh. f .kept .room .inside u (free u sh .now);
+                          inside = λ u sh. f .kept .room .inside (free u sh .of) u (free u sh .its) (free u sh .now);
                           aside = f .aside;
                         }
 
@@ -157,7 +157,7 @@ module _ (t : RegInfo) (F : Function) (tk : TargetOk t) where
               room =
                   record {
                     few = h .few;
-                    inside = λ u c. ⊎-elim (λ i. a .inside u (reg-covers t F tk to u i)) (h .inside u) (turned u c .0);
+                    inside = λ r u y c. ⊎-elim (λ i. a .inside u (reg-covers t F tk to u i)) (h .inside r u y) (turned u c .0);
                     spare = λ r x n u i c.
                         ⊎-elim (λ e. T-not (hasIn (unitsOfReg t F from) u) (turned u c .1) (subst (λ (y : Place). T (hasIn (unitsOfReg t F y) u)) e i))
                         (λ b. ⊎-elim (λ y. b .1 u (reg-covers t F tk (reg r) u i) (reg-covers t F tk to u y)) (h .spare r x (b .0) u i) (turned u c .0))

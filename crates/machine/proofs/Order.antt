@@ -344,7 +344,7 @@ module _ (t : RegInfo) (F : Function) (tk : TargetOk t) (j : Job) (em : (s : ℕ
           (λ l. l .full (subst (Empty t F tk (x .scratch)) (add-left-cancel 512 (sym (slot-unit s u b) ∙ l .its)) e)) (units u a)
 
       sc-inside : Within t F tk j (covers t F tk (x .place))
-      sc-inside u a = ⊎-elim (λ fr. f .kept .room .inside u (fr .now)) (λ l. subst (j .may) (sym (l .its)) (em (l .at) (l .above))) (units u a)
+      sc-inside u a = ⊎-elim (λ fr. f .kept .room .inside (fr .of) u (fr .its) (fr .now)) (λ l. subst (j .may) (sym (l .its)) (em (l .at) (l .above))) (units u a)
 
       sc-above : (s : ℕ) → x .place ≡ slot s → F .slots ≤ s
       sc-above s e =
@@ -364,7 +364,7 @@ module _ (t : RegInfo) (F : Function) (tk : TargetOk t) (j : Job) (em : (s : ℕ
             room =
                 record {
                   few = f .kept .room .few;
-                  inside = λ u c. f .kept .room .inside u (and-split (x .scratch .available u) (not (hasIn (unitsOfReg t F (x .place)) u)) c .0);
+                  inside = λ r u y c. f .kept .room .inside r u y (and-split (x .scratch .available u) (not (hasIn (unitsOfReg t F (x .place)) u)) c .0);
                   spare = λ r y n u h c. f .kept .room .spare r y n u h (and-split (x .scratch .available u) (not (hasIn (unitsOfReg t F (x .place)) u)) c .0);
                   cache-ok = f .kept .room .cache-ok;
                   waits = f .kept .room .waits;

@@ -63,7 +63,7 @@ module _ (t : RegInfo) (F : Function) (tk : TargetOk t) (j : Job) (em : (s : ℕ
           room =
               record {
                 few = h .few;
-                inside = λ u c. ⊎-elim (λ i. a .inside u (reg-covers t F tk to u i)) (h .inside u) (or-case (hasIn (unitsOfReg t F to) u) (k .available u) c);
+                inside = λ r u y c. ⊎-elim (λ i. a .inside u (reg-covers t F tk to u i)) (h .inside r u y) (or-case (hasIn (unitsOfReg t F to) u) (k .available u) c);
                 spare = λ r x n u i c.
                     let b = a .back (reg r) x n in
                     ⊎-elim (λ y. b .1 u (reg-covers t F tk (reg r) u i) (reg-covers t F tk to u y)) (h .spare r x (b .0) u i) (or-case (hasIn (unitsOfReg t F to) u) (k .available u) c);
@@ -104,7 +104,7 @@ module _ (t : RegInfo) (F : Function) (tk : TargetOk t) (j : Job) (em : (s : ℕ
                   (λ z. T-not (under t F tk (wait k′) u) (part u sh .1) (hid u (z .1) (z .2))) (f .clean u (part u sh .0));
               len = f .len;
               inside = λ u sh.
-                  ⊎-elim (⊎-elim (λ fr. h .inside u (av u (fr .now))) (λ l. subst (j .may) (sym (l .its)) (em (l .at) (l .above))))
+                  ⊎-elim (⊎-elim (λ fr. h .inside (fr .of) u (fr .its) (av u (fr .now))) (λ l. subst (j .may) (sym (l .its)) (em (l .at) (l .above))))
                   (λ z. absurd (T-not (under t F tk (wait k′) u) (part u sh .1) (hid u (z .1) (z .2)))) (f .clean u (part u sh .0));
               aside = aside (wait k′) (λ s e. fw s (inr e));
             }

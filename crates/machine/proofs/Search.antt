@@ -78,7 +78,7 @@ module _ (t : RegInfo) (F : Function) (tk : TargetOk t) where
     -- what is known beside the program itself
     pub record Room (needs : Needs) (k : ScratchAllocator) : Type 0 where
       pub few : length (k .evicted) ≤ 1
-      pub inside : (u : ℕ) → T (k .available u) → j .may u
+      pub inside : (r u : ℕ) → T (hasIn (regUnits t r) u) → T (k .available u) → j .may u
       pub spare : (r v : ℕ) → needs (reg r) v → (u : ℕ) → T (hasIn (regUnits t r) u) → T (k .available u) → ⊥
       pub cache-ok : CacheOk t F (k .cache)
       pub waits : WaitOk (k .cache) (wait k)

@@ -107,7 +107,7 @@ module _ (t : RegInfo) (F : Function) (tk : TargetOk t) (j : Job) (em : (s : ℕ
 
   module _ (home : (i : ℕ) → i < length ms → j .home (source t F ms i) (value t F ms i)) (ps ss : List Remat) (free : List ℕ) where
     pub record PatchStart : Type 0 where
-      pub free-may : (u : ℕ) → T (hasIn free u) → j .may u
+      pub free-may : (r u : ℕ) → T (hasIn (regUnits t r) u) → T (hasIn free u) → j .may u
       pub free-dst : (x r u : ℕ) → NeedR (ps ++ ss) (reg r) x → T (hasIn (regUnits t r) u) → T (hasIn free u) → ⊥
       pub real : (p : Place) (x s : ℕ) → NeedR (ps ++ ss) p x → F .slots ≤ s → Apart t F tk p (slot s)
       pub final : (p : Place) (v : ℕ) → j .final p v → NeedR (ps ++ ss) p v
