@@ -13,7 +13,7 @@ use borrow.Author.Tests.{eq-eqb, ne-eqb, eqb-true, eqb-false, ltb-true, ltb-fals
 use Rattle.entity.specs.Logic.{pick, and, or, no, any, has, twice, indices}
 use Rattle.entity.proofs.Laws.{or-false, never-true}
 use Rattle.entity.specs.Place.{Place, reg, slot}
-use Rattle.reginfo.specs.RegInfo.{RegInfo, numBanks, bankForClass, allocationOrder, classMembers, includesSpillslots, isMemory, lastInOrder, spillslotSize, topLevelClass, stackToStackClass}
+use Rattle.reginfo.specs.RegInfo.{RegInfo, numBanks, bankForClass, allocationOrder, classMembers, includesSpillslots, isMemory, spillslotSize, topLevelClass, stackToStackClass}
 use Rattle.reginfo.specs.Refused as target
 use Rattle.reginfo.proofs.Accepted.{stack-slots}
 use Rattle.function.specs.Function.{Function, numValues, valueBank, rematClass}
@@ -21,13 +21,17 @@ use Rattle.function.specs.Refused as function
 use Rattle.function.proofs.Laws.{bank-there, class-of-bank}
 use Rattle.rules.specs.Edit.{Edit, Rematerialize, updated, andThen, each, find, filter}
 use Rattle.rules.specs.Scratch.{Cache, emptyCache, Evicted, ScratchAllocator, Acquired, push, withEvicted, Found, unevict, unevictAll, overlapsEvicted, unevictForReg, acquireFrom, acquire, release, releasePlace, usable, slotScratch, evictLast, reuse, orScratch, getScratchReg, nothingBarred, moveEdits, doMove}
-use Rattle.rules.specs.Order.{KeptMove, noMove, Remat, State, New, Pending, Done, isNew, isPending, Diverted, ParallelMoves, withState, carry, remats, doRemat, rematWithScratch, source, dest, value, bank, writers, cycleMoveSources, emit, noted, divert, carried, lead, lost, undivert, undivertAll, close, visit, visitUnlessMemory, start, moves}
+use Rattle.rules.specs.Order.{KeptMove, noMove, Remat, State, Pending, Done, isNew, isPending, Diverted, ParallelMoves, withState, carry, remats, doRemat, rematWithScratch, source, dest, value, bank, writers, cycleMoveSources, emit, noted, divert, carried, lead, lost, undivert, undivertAll, close, visit, visitUnlessMemory, start, moves}
 use Rattle.rules.specs.Patch.{Patch, Sorted, sorted, run}
 use Rattle.rules.specs.Sorted.{MoveOk, RematOk, noRemat, SortedOk, Ran}
 use Rattle.machine.specs.Slots.{InStacks, Stays}
-use Rattle.machine.proofs.Steps.{All, all-then, all-map, branch, same?, Every, every-getD, every-reverse, every-index, all-each, updated-at, updated-same, updated-other}
+use Rattle.machine.proofs.Steps.{All, all-then, branch, same?, Every, every-getD, every-reverse, every-index, all-each, updated-at, updated-same, updated-other}
+use Rattle.machine.proofs.Bound.{unevict-evicted}
 use Rattle.machine.proofs.Sum.{sum, sum-change, sum-zero}
 use Rattle.machine.proofs.Diversions.{clash, bit, occurs, occurs-head, occurs-tail, has-occurs, writers-low, Counted, Grown, carry-grown, was-live, lost-counted}
+
+positive : (a : ℕ) → (a ≡ 0 → ⊥) → 0 < a
+positive a h = omega arith
 
 less? : (a b : ℕ) → (a < b) ⊎ (b ≤ a)
 less? a b = go (ltb a b) refl
@@ -387,7 +391,7 @@ module _ (t : RegInfo) (f : Function) (c₀ : Cache) where
                     (λ s y. omega (
                       arith,
                       diverted-change v vl (w .diverted .refCount) (d′ .refCount) (w .scratch) (updated v (x .place) (w .scratch)) (grown .0 .others)
-                      (λ k d. updated-other v (x .place) (w .scratch) k d) s y,
+                          (λ k d. updated-other v (x .place) (w .scratch) k d) s y,
                       held-ended (w .diverted .refCount v) (w .scratch v) (size v) s y z,
                       held-live (d′ .refCount v) (updated v (x .place) (w .scratch) v) (size v) s y (grown .1 e),
                       ap (λ p. holds p (size v) s y) (updated-same v (x .place) (w .scratch)),
@@ -404,6 +408,221 @@ module _ (t : RegInfo) (f : Function) (c₀ : Cache) where
               (λ e. branch (All (Walk loaded calm)) (eqb (w .diverted .refCount v) 0) _ _ (λ z. divert-walk e (eqb-true (w .diverted .refCount v) 0 z))
               (λ z. emit-walk i il (w .scratch v) (carried t f ms i w) (joined (positive (w .diverted .refCount v) (eqb-false (w .diverted .refCount v) 0 z)))))
               (λ _. emit-walk i il (source t f ms i) w g)
-            where
-              positive : (a : ℕ) → (a ≡ 0 → ⊥) → 0 < a
-              positive a h = omega arith
+
+      module _ (i : ℕ) (il : i < n) (calm : ℕ → Type 0) where
+        abbrev Closing : ParallelMoves → Type 0
+        Closing = Walk (λ k. k ≡ i) calm
+
+        module _ (v : ℕ) (l : List ℕ) (w : ParallelMoves) (e : w .diverted .values i ≡ v ∷ l) (g : Closing w) where
+          abbrev Left : ParallelMoves → Type 0
+          Left w′ = Closing w′ × (w′ .diverted .values i ≡ l)
+
+          abbrev d″ : Diverted
+          d″ = lost t f ms i v l (w .diverted)
+
+          lives : 0 < w .diverted .refCount v
+          lives = was-live t f ms i il v l (w .diverted) e (g .counted)
+
+          there : v < numValues f
+          there = g .counted .small v lives
+
+          -- with one carrier fewer: the scratch is held no more where it was the last
+          fewer : (s y : ℕ) → diverted (d″ .refCount) (w .scratch) s y + holds (w .scratch v) (size v) s y ≡ diverted (w .diverted .refCount) (w .scratch) s y + held (d″ .refCount v) (w .scratch v) (size v) s y
+          fewer s y =
+              omega (
+                arith,
+                diverted-change v there (w .diverted .refCount) (d″ .refCount) (w .scratch) (w .scratch) (λ x d. updated-other v (pred (w .diverted .refCount v)) (w .diverted .refCount) x d) (λ x d. refl) s y,
+                held-live (w .diverted .refCount v) (w .scratch v) (size v) s y lives,
+              )
+
+          left : (w′ : ParallelMoves) → w′ .diverted ≡ d″ → w′ .state ≡ w .state → Kept (diverted (w′ .diverted .refCount) (w′ .scratch)) (w′ .allocator) → Left w′
+          left w′ q r h = (
+            record {
+              good = h;
+              counted = subst (Counted t f ms) (sym q) (lost-counted t f ms i il v l (w .diverted) e (g .counted));
+              idle = λ k a b. ap (λ (d : Diverted). d .values k) q ∙ updated-other i l (w .diverted .values) k a ∙ g .idle k a (ap (λ (s : ℕ → State). isPending (s k)) (sym r) ∙ b);
+              still = λ k a. ap (λ (s : ℕ → State). isPending (s k)) r ∙ g .still k a;
+            },
+            ap (λ (d : Diverted). d .values i) q ∙ updated-same i l (w .diverted .values),
+          )
+
+          undivert-walk : All Left (undivert t f ms i v l w)
+          unfolding undivert
+          undivert-walk =
+              branch (All Left) (eqb (d″ .refCount v) 0) _ _
+              (λ z. all-then (Kept (diverted (w .diverted .refCount) (w .scratch))) Left (doMove t f (bank t f ms v) (w .scratch v) (w .alloc v) v (w .allocator)) _
+              (move-good (bank t f ms v) (bank-there t f af v there) (diverted (w .diverted .refCount) (w .scratch)) (w .scratch v) (w .alloc v) v (w .allocator) (g .good))
+              (λ k q. left _ refl refl
+              (place-good (size v) (w .scratch v) k (diverted (d″ .refCount) (w .scratch))
+              (kept-cong (diverted (w .diverted .refCount) (w .scratch)) _ k (λ s y. omega (arith, fewer s y, held-ended (d″ .refCount v) (w .scratch v) (size v) s y (eqb-true (d″ .refCount v) 0 z))) q))))
+              (λ z. left _ refl refl
+              (kept-cong (diverted (w .diverted .refCount) (w .scratch)) _ (w .allocator)
+              (λ s y. omega (arith, fewer s y, held-live (d″ .refCount v) (w .scratch v) (size v) s y (positive (d″ .refCount v) (eqb-false (d″ .refCount v) 0 z)))) (g .good)))
+
+        undivertAll-walk : (l : List ℕ) (w : ParallelMoves) → w .diverted .values i ≡ l → Closing w → All (Walk (λ k. ⊥) calm) (undivertAll t f ms i l w)
+        unfolding undivertAll
+        undivertAll-walk [] w e g =
+            record {
+              good = g .good;
+              counted = g .counted;
+              idle = λ k a b. ⊎-elim (λ q. ap (w .diverted .values) q ∙ e) (λ d. g .idle k d b) (same? k i);
+              still = g .still;
+            }
+        undivertAll-walk (v ∷ l) w e g =
+            all-then (Left v l w e g) (Walk (λ k. ⊥) calm) (undivert t f ms i v l w) _ (undivert-walk v l w e g) (λ w′ q. undivertAll-walk l w′ (q .1) (q .0))
+
+        abbrev Others : ℕ → Type 0
+        Others k = calm k × (k ≡ i → ⊥)
+
+        done-walk : (w : ParallelMoves) → Walk (λ k. ⊥) Others w → Closing (withState i Done w)
+        done-walk w g =
+            record {
+              good = g .good;
+              counted = g .counted;
+              idle = λ k a b. g .idle k (λ x. x) (ap isPending (sym (updated-other i Done (w .state) k a)) ∙ b);
+              still = λ k a. updated-at (λ (s : State). isPending s ≡ false) i Done (w .state) k (λ _. refl) (λ d. g .still k (a, d));
+            }
+
+        close-walk : (w : ParallelMoves) → Walk (λ k. ⊥) Others w → All (Walk (λ k. ⊥) calm) (close t f ms i w)
+        unfolding close
+        close-walk w g =
+            all-then Closing (Walk (λ k. ⊥) calm) (lead t f ms i (withState i Done w)) _ (lead-walk (λ k. k ≡ i) calm i il (withState i Done w) (done-walk w g))
+            (λ w′ q. undivertAll-walk (w′ .diverted .values i) w′ refl q)
+
+        open-walk : (w : ParallelMoves) → Walk (λ k. ⊥) calm w → Walk (λ k. ⊥) Others (withState i Pending w)
+        open-walk w g =
+            record {
+              good = g .good;
+              counted = g .counted;
+              idle = λ k a. updated-at (λ (s : State). isPending s ≡ false → w .diverted .values k ≡ []) i Pending (w .state) k (λ _ b. absurd (clash (sym b))) (λ _ b. g .idle k a b);
+              still = λ k a. ap isPending (updated-other i Pending (w .state) k (a .1)) ∙ g .still k (a .0);
+            }
+
+      visit-walk : (fuel : ℕ) (calm : ℕ → Type 0) (i : ℕ) (w : ParallelMoves) → i < n → Walk (λ k. ⊥) calm w → All (Walk (λ k. ⊥) calm) (visit t f ms fuel i w)
+      unfolding visit
+      visit-walk zero calm i w il g = branch (All (Walk (λ k. ⊥) calm)) (isNew (w .state i)) _ _ (λ _. tt) (λ _. g)
+      visit-walk (suc fuel) calm i w il g =
+          branch (All (Walk (λ k. ⊥) calm)) (isNew (w .state i)) _ _
+          (λ e. all-then (Walk (λ k. ⊥) (Others i il calm)) (Walk (λ k. ⊥) calm) (each (visit t f ms fuel) (reverse (writers t f ms i)) (withState i Pending w)) _
+          (all-each (Walk (λ k. ⊥) (Others i il calm)) (λ m. m < n) (visit t f ms fuel) (λ m w′ ml q. visit-walk fuel (Others i il calm) m w′ ml q) (reverse (writers t f ms i))
+          (every-reverse (λ m. m < n) (writers t f ms i) (writers-low t f ms i)) (withState i Pending w) (open-walk i il calm w g))
+          (λ w′ q. close-walk i il calm w′ q))
+          (λ _. g)
+
+      -- no move is open
+      abbrev Resting : ParallelMoves → Type 0
+      Resting = Walk (λ k. ⊥) (λ k. Unit {0})
+
+      first-walk : (i : ℕ) (w : ParallelMoves) → i < n → Resting w → All Resting (visitUnlessMemory t f ms i w)
+      unfolding visitUnlessMemory
+      first-walk i w il g = branch (All Resting) (or (isMemory t (source t f ms i)) (isMemory t (dest t f ms i))) _ _ (λ _. g) (λ _. visit-walk n (λ k. Unit {0}) i w il g)
+
+      start-walk : (k : ScratchAllocator) → Kept (λ s y. 0) k → Resting (start t f ms k)
+      unfolding start occurs diverted held
+      start-walk k g =
+          record {
+            good = kept-cong (λ s y. 0) _ k (λ s y. sum-zero (λ v. 0) (numValues f) (λ v h. refl)) g;
+            counted = record { counts = λ v. sym (sum-zero (λ m. 0) n (λ m h. refl)); small = λ v h. absurd (omega arith) };
+            idle = λ k a b. refl;
+            still = λ k a. refl;
+          }
+
+      -- nothing is diverted any more
+      end-walk : (w : ParallelMoves) → Resting w → Kept (λ s y. 0) (w .allocator)
+      unfolding occurs diverted
+      end-walk w g = kept-cong _ (λ s y. 0) (w .allocator) (λ s y. sym (sum-zero (λ v. held (w .diverted .refCount v) (w .scratch v) (size v) s y) (numValues f) (λ v h. held-ended (w .diverted .refCount v) (w .scratch v) (size v) s y (ended v)))) (g .good)
+        where
+          ended : (v : ℕ) → w .diverted .refCount v ≡ 0
+          ended v = g .counted .counts v ∙ sum-zero (λ m. occurs v (w .diverted .values m)) n (λ m h. ap (occurs v) (g .idle m (λ x. x) (g .still m tt)))
+
+      moves-good : (k : ScratchAllocator) → Kept (λ s y. 0) k → All (λ k′. Good (stacked (k′ .cache)) (k′ .cache .made)) (moves t f ms k)
+      unfolding moves Kept waits
+      moves-good k g =
+          all-then Resting (λ k′. Good (stacked (k′ .cache)) (k′ .cache .made)) (andThen (each (visitUnlessMemory t f ms) (indices 0 n) (start t f ms k)) (each (visit t f ms n) (indices 0 n))) _
+          (all-then Resting Resting (each (visitUnlessMemory t f ms) (indices 0 n) (start t f ms k)) _
+          (all-each Resting (λ i. i < n) (visitUnlessMemory t f ms) first-walk (indices 0 n) below (start t f ms k) (start-walk k g))
+          (λ w p. all-each Resting (λ i. i < n) (visit t f ms n) (λ i w. visit-walk n (λ k. Unit {0}) i w) (indices 0 n) below w p))
+          (λ w p. saved (w .allocator) (end-walk w p))
+        where
+          below : Every (λ i. i < n) (indices 0 n)
+          below = every-index n 0 n (omega arith)
+
+          saved : (k : ScratchAllocator) → Kept (λ s y. 0) k → Good (stacked (unevictAll t f k .cache)) (unevictAll t f k .cache .made)
+          saved k h = good-cong _ _ (unevictAll t f k .cache .made) (λ s z. omega (arith, ap (λ l. waits l s z) (unevict-evicted t f (k .evicted) (withEvicted [] k)))) (all-good k (λ s y. 0) h)
+
+    run-good : InStacks f c₀ → (p : Patch) → SortedOk t f (sorted t f p) → All (λ k. Good (stacked (k .cache)) (k .cache .made)) (run t f p (sorted t f p) c₀)
+    unfolding run Kept waits
+    run-good ins p ok =
+        all-then (Kept (λ s y. 0)) (λ k. Good (stacked (k .cache)) (k .cache .made)) (each (rematWithScratch t f) (a .rematsWithScratch) (remats t f (a .remats) k₀)) _
+        (all-each (Kept (λ s y. 0)) (RematOk t f false) (rematWithScratch t f) (λ r k q g. scratch-good r q (λ s y. 0) k g) (a .rematsWithScratch)
+        (every-getD (RematOk t f false) (noRemat t f) (a .rematsWithScratch) (ok .rematsWithScratch)) (remats t f (a .remats) k₀) (remats-good (a .remats) k₀ (λ s y. 0) begin))
+        (λ k g. moves-good (a .moves) (ok .moves) k g)
+      where
+        a : Sorted
+        a = sorted t f p
+
+        k₀ : ScratchAllocator
+        k₀ = record { edits = []; available = λ u. has u (p .free); evicted = []; cache = c₀ }
+
+        begin : Good (λ s z. stacked c₀ s z + (waits [] s z + 0)) (c₀ .made)
+        begin = record { grows = omega arith; old = λ s z h. omega arith; fresh = λ s h k. absurd (omega arith); none = λ s z h. omega (arith, occurs-none s (c₀ .stacks z) (never-true (has s (c₀ .stacks z)) (λ e. omega (arith, ins .below s z e)))) }
+
+  -- what the counts say of the stacks
+  module _ (ins : InStacks f c₀) (c : Cache) (g : Good (stacked c) (c .made)) where
+    -- an old slot, a new one, or none
+    Known : ℕ → ℕ → Type 0
+    Known s z = ((s < f .slots + c₀ .made) × (has s (c₀ .stacks z) ≡ true)) ⊎ ((f .slots + c₀ .made ≤ s) × (s < f .slots + c .made) × (stacked c s z ≡ 1) × ((y : ℕ) → (y ≡ z → ⊥) → stacked c s y ≡ 0))
+
+    known : (s z : ℕ) → 0 < stacked c s z → Known s z
+    unfolding Known
+    known s z h =
+        ⊎-elim (λ a. inl (a, occurs-has s (c₀ .stacks z) (omega (arith, g .old s z a))))
+        (λ a. ⊎-elim
+        (λ b. let q = g .fresh s a b in inr (
+          a,
+          b,
+          ⊎-elim (λ e. subst (λ (x : ℕ). stacked c s x ≡ 1) (sym e) (q .1)) (λ d. absurd (omega (arith, q .2 z d))) (same? z (q .0)),
+          λ y d.
+              ⊎-elim (λ e. q .2 y (λ r. d (r ∙ sym e))) (λ x. absurd (omega (arith, q .2 z x))) (same? z (q .0)),
+        ))
+        (λ b. absurd (omega (arith, g .none s z b))) (less? s (f .slots + c .made)))
+        (less? s (f .slots + c₀ .made))
+
+    in-stacks : InStacks f c
+    unfolding Known
+    in-stacks =
+        record {
+          listed = λ s lo hi.
+              ⊎-elim
+              (λ a. let q = ins .listed s lo a in (q .0, occurs-has s (c .stacks (q .0)) (omega (arith, g .old s (q .0) a, has-occurs s (c₀ .stacks (q .0)) (q .1)))))
+              (λ a. let q = g .fresh s a hi in (q .0, occurs-has s (c .stacks (q .0)) (omega (arith, q .1)))) (less? s (f .slots + c₀ .made));
+          once = λ z.
+              most-once (c .stacks z)
+              (λ s. ⊎-elim (λ h. ⊎-elim (λ a. omega (arith, g .old s z (a .0), once-most (c₀ .stacks z) (ins .once z) s)) (λ a. omega (arith, a .2)) (known s z h)) (λ h. omega arith)
+              (less? 0 (stacked c s z)));
+          sole = λ s y z a b.
+              ⊎-elim
+              (λ k. ⊎-elim (λ l. ins .sole s y z (k .1) (l .1)) (λ l. absurd (omega (arith, k .0, l .0))) (known s z (has-occurs s (c .stacks z) b)))
+              (λ k. ⊎-elim (λ e. sym e) (λ d. absurd (omega (arith, k .3 z d, has-occurs s (c .stacks z) b))) (same? z y)) (known s y (has-occurs s (c .stacks y) a));
+          low = λ s z a. ⊎-elim (λ k. ins .low s z (k .1)) (λ k. omega (arith, k .0)) (known s z (has-occurs s (c .stacks z) a));
+          below = λ s z a. ⊎-elim (λ k. omega (arith, k .0, g .grows)) (λ k. k .1) (known s z (has-occurs s (c .stacks z) a));
+        }
+
+    stays : Stays c₀ c
+    stays s z h = occurs-has s (c .stacks z) (omega (arith, g .old s z (ins .below s z h), has-occurs s (c₀ .stacks z) h))
+
+-- "A new function starts with none."
+pub slots-empty : (f : Function) → InStacks f emptyCache
+unfolding has twice
+slots-empty f =
+    record { listed = λ s lo hi. absurd (omega arith); once = λ z. refl; sole = λ s y z a b. absurd (clash a); low = λ s z a. absurd (clash a); below = λ s z a. absurd (clash a) }
+
+-- from call to call every slot made lies in exactly one stack, and where it lay
+pub slots-ok :
+    (t : RegInfo) (f : Function) → target.Accepted t → function.Accepted t f → (p : Patch) (room : ℕ) (c c′ : Cache) (es : List Edit) → Ran t f p room c es c′ → InStacks f c
+    → InStacks f c′ × Stays c c′
+slots-ok t f at af p room c c′ es r ins =
+    subst (λ x. InStacks f x × Stays c x) (sym (r .cache)) (in-stacks t f c ins (r .allocator .cache) good, stays t f c ins (r .allocator .cache) good)
+  where
+    good : Good t f c (stacked (r .allocator .cache)) (r .allocator .cache .made)
+    good = subst (All (λ k. Good t f c (stacked (k .cache)) (k .cache .made))) (r .ran) (run-good t f c at af ins p (r .ok))

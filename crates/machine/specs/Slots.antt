@@ -1,7 +1,7 @@
 -- 01, Scratch keeper: where the emergency slots lie between patches.
 use Prim.Native.Nat.{ℕ, _+_, _<_, _≤_}
 use mathlib.Core.Path.{_≡_}
-use mathlib.Core.Bool.{Bool, true, false}
+use mathlib.Core.Bool.{true, false}
 use Rattle.entity.specs.Logic.{has, twice}
 use Rattle.function.specs.Function.{Function}
 use Rattle.rules.specs.Scratch.{Cache}
