@@ -1,5 +1,4 @@
--- Between patches every slot made lies in exactly one stack, once, and no slot changes its stack. All through a run each slot is
--- counted where it is: in a stack, with an evicted register, or as the scratch of a live diversion.
+-- Between patches every slot made lies in exactly one stack, once: all through a run each is counted in a stack, with an evicted register or as a live scratch.
 use Prim.Native.Nat.{ℕ, zero, suc, pred, _+_, _<_, _≤_}
 use mathlib.Core.Path.{_≡_, refl, sym, ap, subst, _∙_}
 use mathlib.Core.Bool.{Bool, true, false}
