@@ -78,7 +78,7 @@ module _ (t : RegInfo) (f : Function) where
   unevict-edits [] k = omega arith
   unevict-edits (e ∷ l) k = omega (arith, unevict-edits l k)
 
-  unevict-evicted : (l : List Evicted) (k : ScratchAllocator) → unevict t f l k .evicted ≡ k .evicted
+  pub unevict-evicted : (l : List Evicted) (k : ScratchAllocator) → unevict t f l k .evicted ≡ k .evicted
   unfolding unevict
   unevict-evicted [] k = refl
   unevict-evicted (e ∷ l) k = unevict-evicted l k

@@ -16,3 +16,4 @@ pub mod Order
 pub mod Rebuild
 pub mod Passes
 pub mod Whole
+pub mod Slots
