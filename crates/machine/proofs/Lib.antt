@@ -17,3 +17,4 @@ pub mod Rebuild
 pub mod Passes
 pub mod Whole
 pub mod Slots
+pub mod Demand

@@ -303,7 +303,7 @@ module _ (t : RegInfo) (f : Function) where
   slot-slot s x d u h k = has-cases u (512 + s) [] h (λ p. has-cases u (512 + x) [] k (λ q. d (omega arith)) false≢true) false≢true
 
   -- a register that is not there has no unit
-  no-units : (r : ℕ) → numRegs t ≤ r → regUnits t r ≡ []
+  pub no-units : (r : ℕ) → numRegs t ≤ r → regUnits t r ≡ []
   unfolding regUnits
   no-units r h = ap (λ (x : Reg). x .units) (List·getD-eq-default (t .regs) noReg h)
 
