@@ -8,10 +8,13 @@ use lib.ListN.{getD, length}
 use lib.Dec.{eqb, ltb, leb}
 use borrow.Author.Tests.{leb-true, ltb-true, ltb-false, eqb-true, eqb-false, eq-eqb}
 use Rattle.entity.specs.Logic.{and, or, no, any, has, meets, twice}
+use Rattle.entity.specs.Place.{Place, reg, slot, names}
 use Rattle.entity.proofs.Laws.{or-false, and-true, and-false, no-false, any-below, any-has, all-has, has-getD, last-has}
 use Rattle.reginfo.specs.RegInfo.{RegInfo, numBanks, numRegs, numClasses, spillslotSize, topLevelClass, stackToStackClass, regMemory, bankForReg, regUnits, bankForClass, classSlots, classMembers, allocationOrder, isMemoryReg, includesSpillslots, lastInOrder}
 use Rattle.reginfo.specs.Refused.{Condition, cond, some-below, within, allBelow, orderTotal, countsFit, bankFits, regFits, classFits, outsideLimits, listedTwice, unequalWidths, foreignMember, sharedMemory, unfitClass, targetRefusal, Accepted}
-use Rattle.reginfo.specs.Known.{KnownReg, KnownClass, KnownBank, KnownUnits}
+use Rattle.reginfo.specs.Known.{KnownReg, KnownClass, KnownBank, KnownUnits, KnownPlace, KnownMembers}
+use Rattle.reginfo.specs.Table.{regInfoOf, Indexed}
+use Rattle.reginfo.proofs.Table.{classes-count, members-length}
 use Rattle.reginfo.proofs.First.{first-none}
 
 abbrev rules : RegInfo → List Condition
@@ -255,3 +258,12 @@ module _ (t : RegInfo) (ok : Accepted t) where
 
     pub last-ordered : has (lastInOrder t c) (allocationOrder t c) ≡ true
     last-ordered = last-has 0 (allocationOrder t c) order-some
+
+-- what the code asks of a place and of a class
+pub known-place : (t : RegInfo) → Accepted t → (slots : ℕ) (p : Place) → slots ≤ 65024 → names (numRegs t) slots p ≡ true → KnownPlace t p
+known-place t ok slots (reg r) few e = known-units t ok r (ltb-true r (numRegs t) e)
+known-place t ok slots (slot s) few e = omega (arith, ltb-true s slots e)
+
+pub known-members : (t : List ℕ) → Accepted (regInfoOf t) → Indexed t → (c : ℕ) → c < numClasses (regInfoOf t) → KnownMembers t c
+known-members t ok indexed c h =
+    record { known = known-class (regInfoOf t) ok c h; few = members-fit (regInfoOf t) ok c h; indexed = rw (members-length t c h) (indexed c (rw classes-count at h)) }
