@@ -26,7 +26,7 @@ pub fn answer(job: &[u8]) -> String {
     let outcome = panic::catch_unwind(AssertUnwindSafe(|| run(job, &mut text)));
     match outcome {
         Ok(Ok(())) => {}
-        Ok(Err(Refused(number))) => text.push_str(&format!("refused {number}\n")),
+        Ok(Err(Refused(number))) => put(&mut text, format_args!("refused {number}\n")),
         Err(payload) => {
             let message = payload
                 .downcast_ref::<String>()
@@ -34,7 +34,7 @@ pub fn answer(job: &[u8]) -> String {
                 .or_else(|| payload.downcast_ref::<&str>().copied())
                 .unwrap_or("without a message");
             let message = message.split_whitespace().collect::<Vec<_>>().join(" ");
-            text.push_str(&format!("panic {message}\n"));
+            put(&mut text, format_args!("panic {message}\n"));
         }
     }
     text
@@ -67,7 +67,11 @@ fn run(job: &[u8], text: &mut String) -> Result<(), Refused> {
             put_edit(text, edit);
         }
     }
-    if reader.at_end() { Ok(()) } else { Err(LEFT_OVER) }
+    if reader.at_end() {
+        Ok(())
+    } else {
+        Err(LEFT_OVER)
+    }
 }
 
 /// The original, over one function.

@@ -85,7 +85,10 @@ fn without_comment(line: &str) -> &str {
 fn words(text: &str, definitions: &Definitions) -> Result<Vec<u8>, Mistake> {
     let mut job = Vec::new();
     let mut opened = None;
-    for word in text.lines().flat_map(|l| without_comment(l).split_whitespace()) {
+    for word in text
+        .lines()
+        .flat_map(|l| without_comment(l).split_whitespace())
+    {
         let unknown = || format!("not a word of a job: {word}");
         if word == "(" && opened.is_none() {
             opened = Some(job.len());

@@ -3,7 +3,9 @@
 mod accepted;
 mod damaged;
 mod limits;
+mod patches;
 mod refused;
+mod targets;
 
 use accepted::{BIG, Flavour, MEMORY, PATCHES, REMAT, SHARED, SMALL};
 
@@ -27,7 +29,11 @@ pub enum Mode {
 /// The modes by name, with what they are.
 pub const MODES: [(&str, Mode, &str); 10] = [
     ("mixed", Mode::Mixed, "all of the others"),
-    ("small", Mode::Small, "few registers and entries, dense cycles"),
+    (
+        "small",
+        Mode::Small,
+        "few registers and entries, dense cycles",
+    ),
     ("big", Mode::Big, "many registers, up to 128 entries"),
     (
         "shared",
@@ -131,5 +137,5 @@ fn flavour(mode: Mode) -> &'static Flavour {
 
 fn any_flavour(random: &mut Random) -> &'static Flavour {
     let flavours = [&SMALL, &SMALL, &SHARED, &MEMORY, &REMAT];
-    *random.pick(&flavours)
+    random.pick::<&Flavour>(&flavours)
 }

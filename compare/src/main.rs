@@ -59,9 +59,9 @@ fn main() -> ExitCode {
         ["encode"] => encode(),
         ["trials", file, folder] => write_trials(file, Path::new(folder)),
         ["tally"] => tally(),
-        ["--help"] | ["help"] => {
-            io::stdout().write_all(help().as_bytes()).map_err(Into::into)
-        }
+        ["--help" | "help"] => io::stdout()
+            .write_all(help().as_bytes())
+            .map_err(Into::into),
         _ => {
             eprint!("{}", help());
             return ExitCode::from(2);

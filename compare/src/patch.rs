@@ -105,7 +105,11 @@ impl Entry {
 }
 
 /// Slot s is 2s, register r is 2r + 1.
-fn read_place(reader: &mut Reader, target: &Target, values: &Values) -> Result<Allocation, Refused> {
+fn read_place(
+    reader: &mut Reader,
+    target: &Target,
+    values: &Values,
+) -> Result<Allocation, Refused> {
     let code = reader.number()? as usize;
     let index = code / 2;
     if code % 2 == 1 && index < target.registers.len() {

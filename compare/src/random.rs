@@ -27,6 +27,11 @@ impl Random {
         least + self.below(most - least + 1)
     }
 
+    /// A number of a range, given by its least and its most.
+    pub fn range(&mut self, (least, most): (usize, usize)) -> usize {
+        self.within(least, most)
+    }
+
     /// True `percent` times in a hundred.
     pub fn chance(&mut self, percent: usize) -> bool {
         self.below(100) < percent

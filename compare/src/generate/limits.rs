@@ -108,7 +108,7 @@ fn banks(random: &mut Random, past: usize) -> Vec<u8> {
         draft.target.registers.push(Register {
             memory: false,
             bank,
-            units: (0..bank.min(7) + 1).collect(),
+            units: (0..=bank.min(7)).collect(),
         });
         for slots in [true, false] {
             draft.target.classes.push(Class {
@@ -227,11 +227,7 @@ fn slots(random: &mut Random, past: usize) -> Vec<u8> {
     let mut draft = plain(3, 2, 4096 + past);
     draft.patches[0].entries = vec![
         entry(Place::Slot(4095), Place::Register(1), 0),
-        entry(
-            Place::Register(1),
-            Place::Slot(4095 + random.below(2)),
-            1,
-        ),
+        entry(Place::Register(1), Place::Slot(4095 + random.below(2)), 1),
     ];
     draft.job()
 }
@@ -254,9 +250,7 @@ fn patches(random: &mut Random, past: usize) -> Vec<u8> {
             ];
         }
         if random.chance(30) {
-            patch
-                .entries
-                .push(entry(Place::Slot(0), Place::Slot(1), 0));
+            patch.entries.push(entry(Place::Slot(0), Place::Slot(1), 0));
         }
     }
     draft.job()
@@ -319,7 +313,11 @@ fn bytes_left_over(random: &mut Random, past: usize) -> Vec<u8> {
 
 /// The last value, register, slot or unit, or the one past it.
 fn last_of_each(random: &mut Random, past: usize) -> Vec<u8> {
-    let mut draft = plain(random.within(2, 200), random.within(1, 200), random.within(1, 200));
+    let mut draft = plain(
+        random.within(2, 200),
+        random.within(1, 200),
+        random.within(1, 200),
+    );
     let registers = draft.target.registers.len();
     let (mut source, mut dest, mut value) = (Place::Register(0), Place::Register(1), 0);
     match random.below(6) {
@@ -403,7 +401,12 @@ fn least(random: &mut Random) -> Vec<u8> {
 
 /// L is what the patches need, or one less.
 fn just_enough_slots(random: &mut Random, past: usize) -> Vec<u8> {
-    let flavours = [&SMALL, &accepted::SHARED, &accepted::MEMORY, &accepted::REMAT];
+    let flavours = [
+        &SMALL,
+        &accepted::SHARED,
+        &accepted::MEMORY,
+        &accepted::REMAT,
+    ];
     let flavour = *random.pick(&flavours);
     let mut draft = accepted::draft(random, flavour);
     draft.emergency_limit = 2048;

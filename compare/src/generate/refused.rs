@@ -96,9 +96,7 @@ fn write_with_bad_number(random: &mut Random, fields: &[Field]) -> Vec<u8> {
             // The same number with groups of nothing on top.
             let last = bad.len() - 1;
             bad[last] |= 0x80;
-            for _ in 0..random.below(3) {
-                bad.push(0x80);
-            }
+            bad.extend(vec![0x80; random.below(3)]);
             bad.push(0);
             random.chance(20)
         }

@@ -1,0 +1,413 @@
+//! Random patches: cycles, several writers, repeated values, rebuilds.
+
+use super::accepted::Flavour;
+use crate::draft::{COST_NONE, Draft, Entry, FIRST_SLOT_UNIT, Patch, Place};
+use crate::patch::MOST_ENTRIES;
+use crate::random::Random;
+
+/// Makes a patch entry by entry.
+pub struct PatchMaker<'a> {
+    random: &'a mut Random,
+    draft: &'a Draft,
+    flavour: &'a Flavour,
+    patch: Patch,
+    /// Which units are some destination's, or free.
+    taken: Vec<bool>,
+    /// Which units are some destination's.
+    written: Vec<bool>,
+    /// The values and the registers of each bank.
+    values: Vec<Vec<usize>>,
+    registers: Vec<Vec<usize>>,
+    /// The place that a value is usually read from.
+    homes: Vec<Option<Place>>,
+    /// Chance that a move takes its value from another place than its home.
+    stray: usize,
+}
+
+impl<'a> PatchMaker<'a> {
+    pub fn new(random: &'a mut Random, draft: &'a Draft, flavour: &'a Flavour) -> Self {
+        let banks = draft.target.banks.len();
+        let mut values = vec![Vec::new(); banks];
+        for (index, value) in draft.values.iter().enumerate() {
+            values[value.bank].push(index);
+        }
+        let units = FIRST_SLOT_UNIT + draft.slots;
+        let stray = *random.pick(&[0, 10, 40, 100]);
+        PatchMaker {
+            random,
+            draft,
+            flavour,
+            patch: Patch::default(),
+            taken: vec![false; units],
+            written: vec![false; units],
+            values,
+            registers: (0..banks).map(|b| draft.target.registers_of(b)).collect(),
+            homes: vec![None; draft.values.len()],
+            stray,
+        }
+    }
+
+    /// Makes it.
+    pub fn make(mut self) -> Patch {
+        self.choose_free_units();
+        let wanted = self.random.range(self.flavour.entries);
+        if wanted > 2 && self.random.chance(35) {
+            self.add_braid();
+        }
+        for _ in 0..2 * wanted + 4 {
+            if self.patch.entries.len() >= wanted {
+                break;
+            }
+            let room = wanted - self.patch.entries.len();
+            match self.random.below(24) {
+                0..=4 => self.add_cycle(room),
+                5 => self.add_joined_cycle(room),
+                6..=8 => self.add_knot(room),
+                9..=12 if room > 2 => self.add_braid(),
+                13 | 14 => self.add_fan(room),
+                15 | 16 => self.add_rebuild(),
+                17 => self.repeat_entry(),
+                _ => self.add_single_move(),
+            }
+        }
+        if self.random.chance(50) {
+            self.random.shuffle(&mut self.patch.entries);
+        }
+        self.patch.entries.truncate(MOST_ENTRIES);
+        self.patch
+    }
+
+    fn choose_free_units(&mut self) {
+        let percent = *self.random.pick(&[0, 0, 5, 15, 40]);
+        for unit in 0..self.draft.target.units {
+            if self.random.chance(percent) {
+                self.patch.free.push(unit);
+                self.taken[unit] = true;
+            }
+        }
+    }
+
+    fn any_value(&mut self) -> Option<usize> {
+        if self.draft.values.is_empty() {
+            None
+        } else {
+            Some(self.random.below(self.draft.values.len()))
+        }
+    }
+
+    /// A value of the bank of another one.
+    fn value_like(&mut self, value: usize) -> usize {
+        let bank = self.draft.values[value].bank;
+        *self.random.pick(&self.values[bank])
+    }
+
+    /// A place where a value of the bank may lie.
+    fn any_place(&mut self, bank: usize) -> Place {
+        if self.draft.slots > 0 && self.random.chance(self.flavour.slot_places) {
+            Place::Slot(self.random.below(self.draft.slots))
+        } else {
+            Place::Register(*self.random.pick(&self.registers[bank]))
+        }
+    }
+
+    /// A place for a destination.
+    fn open_place(&mut self, bank: usize) -> Option<Place> {
+        for _ in 0..6 {
+            let place = self.any_place(bank);
+            let units = self.draft.target.units_of(place);
+            if !units.iter().any(|&unit| self.taken[unit]) {
+                return Some(place);
+            }
+        }
+        None
+    }
+
+    /// A place that some destination overlaps, if there is one.
+    fn written_place(&mut self, bank: usize) -> Place {
+        for _ in 0..8 {
+            let place = self.any_place(bank);
+            let units = self.draft.target.units_of(place);
+            if units.iter().any(|&unit| self.written[unit]) {
+                return place;
+            }
+        }
+        self.any_place(bank)
+    }
+
+    /// Adds an entry if it would be accepted.
+    fn add(&mut self, source: Option<Place>, dest: Place, value: usize) -> bool {
+        let entry = Entry {
+            source,
+            dest,
+            value,
+        };
+        let units = self.draft.target.units_of(dest);
+        if source == Some(dest)
+            || units.iter().any(|&unit| self.taken[unit])
+            || self.draft.evicts_destination(&entry)
+        {
+            return false;
+        }
+        for unit in units {
+            self.taken[unit] = true;
+            self.written[unit] = true;
+        }
+        if source.is_some() {
+            self.homes[value] = source;
+        }
+        self.patch.entries.push(entry);
+        true
+    }
+
+    /// Some places, none of which overlap, each moved to the next.
+    fn add_cycle(&mut self, room: usize) {
+        let Some(value) = self.any_value() else {
+            return;
+        };
+        let places = self.apart(value, room);
+        let open = self.random.chance(10);
+        for index in 0..places.len() {
+            let source = places[index];
+            let next = (index + 1) % places.len();
+            if open && next == 0 {
+                break;
+            }
+            let value = self.value_like(value);
+            self.add(Some(source), places[next], value);
+        }
+    }
+
+    /// A cycle in which one value lies in several places.
+    fn add_joined_cycle(&mut self, room: usize) {
+        let Some(value) = self.any_value() else {
+            return;
+        };
+        let mut places = self.apart(value, room);
+        let mut sources = places.clone();
+        self.random.shuffle(&mut sources);
+        self.random.shuffle(&mut places);
+        for (source, dest) in sources.into_iter().zip(places) {
+            let value = if self.random.chance(60) {
+                value
+            } else {
+                self.value_like(value)
+            };
+            self.add(Some(source), dest, value);
+        }
+    }
+
+    /// Moves within a few units: as many registers as fit are written, of any
+    /// bank, and each is read from another of the same units. So a source has
+    /// several writers, and one value is often read from several places.
+    fn add_knot(&mut self, room: usize) {
+        let target = &self.draft.target;
+        let mut area = vec![false; target.units];
+        for _ in 0..self.random.within(2, 4) {
+            let reg = self.random.below(target.registers.len());
+            for &unit in &target.registers[reg].units {
+                area[unit] = true;
+            }
+        }
+        let mut inside: Vec<usize> = (0..target.registers.len())
+            .filter(|&reg| {
+                let register = &target.registers[reg];
+                !self.values[register.bank].is_empty()
+                    && register.units.iter().all(|&unit| area[unit])
+            })
+            .collect();
+        self.random.shuffle(&mut inside);
+
+        let joining = *self.random.pick(&[0, 30, 60, 90]);
+        let mut last_values = vec![None; self.values.len()];
+        let most = self.patch.entries.len() + room;
+        for &dest in &inside {
+            if self.patch.entries.len() == most {
+                break;
+            }
+            let bank = target.registers[dest].bank;
+            let sources: Vec<usize> = inside
+                .iter()
+                .copied()
+                .filter(|&reg| reg != dest && target.registers[reg].bank == bank)
+                .collect();
+            let value = match last_values[bank] {
+                Some(value) if self.random.chance(joining) => value,
+                _ => *self.random.pick(&self.values[bank]),
+            };
+            last_values[bank] = Some(value);
+            if let Some(&source) = self.random.pick_any(&sources) {
+                let source = Place::Register(source);
+                self.add(Some(source), Place::Register(dest), value);
+            }
+        }
+    }
+
+    /// A register moved to another, and moves of smaller ones that lie on the
+    /// two, such that the first has several writers that are open together, or
+    /// several moves of one value are diverted together.
+    fn add_braid(&mut self) {
+        for _ in 0..12 {
+            let (Some(value), Some(small_value)) = (self.any_value(), self.any_value()) else {
+                return;
+            };
+            let bank = self.draft.values[value].bank;
+            let small_bank = self.draft.values[small_value].bank;
+            let source = *self.random.pick(&self.registers[bank]);
+            let dest = *self.random.pick(&self.registers[bank]);
+            let width = |bank: usize| {
+                let reg = self.registers[bank][0];
+                self.draft.target.registers[reg].units.len()
+            };
+            if width(bank) < 2 || width(small_bank) > width(bank) {
+                continue;
+            }
+            let on_source = self.lying_on(small_bank, source, dest);
+            let on_dest = self.lying_on(small_bank, dest, source);
+            let (source, dest) = (Place::Register(source), Place::Register(dest));
+            if !self.draft.target.overlap(source, dest)
+                && on_source.len() > 1
+                && !on_dest.is_empty()
+            {
+                self.braid((source, dest, value), &on_source, &on_dest, small_value);
+                return;
+            }
+        }
+    }
+
+    fn braid(
+        &mut self,
+        (source, dest, value): (Place, Place, usize),
+        on_source: &[Place],
+        on_dest: &[Place],
+        small_value: usize,
+    ) {
+        let small_bank = self.draft.values[small_value].bank;
+        if self.random.chance(40) {
+            // Each of those on the source is moved to the one before, and one
+            // on the destination to the last.
+            for pair in on_source.windows(2) {
+                let value = self.value_like(small_value);
+                self.add(Some(pair[1]), pair[0], value);
+            }
+            let value_of_last = self.value_like(small_value);
+            self.add(
+                Some(on_dest[0]),
+                on_source[on_source.len() - 1],
+                value_of_last,
+            );
+            self.add(Some(source), dest, value);
+        } else {
+            // Those on the destination are moved to the source, most of them
+            // of one value, at times by way of another place.
+            for (&from, &to) in on_dest.iter().zip(on_source) {
+                let value = if self.random.chance(75) {
+                    small_value
+                } else {
+                    self.value_like(small_value)
+                };
+                let between = match self.random.below(3) {
+                    0 => self.open_place(small_bank),
+                    _ => None,
+                };
+                match between {
+                    Some(place) if place != from && place != to => {
+                        let other = self.value_like(small_value);
+                        self.add(Some(from), place, other);
+                        self.add(Some(place), to, value);
+                    }
+                    _ => {
+                        self.add(Some(from), to, value);
+                    }
+                }
+            }
+            self.add(Some(source), dest, value);
+        }
+    }
+
+    /// The open registers of a bank that overlap `under` and neither `other`
+    /// nor each other.
+    fn lying_on(&mut self, bank: usize, under: usize, other: usize) -> Vec<Place> {
+        let target = &self.draft.target;
+        let (under, other) = (Place::Register(under), Place::Register(other));
+        let mut all = self.registers[bank].clone();
+        self.random.shuffle(&mut all);
+        let mut lying: Vec<Place> = Vec::new();
+        for place in all.into_iter().map(Place::Register) {
+            if target.overlap(place, under)
+                && !target.overlap(place, other)
+                && !target.units_of(place).iter().any(|&unit| self.taken[unit])
+                && !lying.iter().any(|&before| target.overlap(before, place))
+            {
+                lying.push(place);
+            }
+        }
+        lying
+    }
+
+    /// Up to `room` open places of the value's bank that don't overlap.
+    fn apart(&mut self, value: usize, room: usize) -> Vec<Place> {
+        let bank = self.draft.values[value].bank;
+        let most = if self.random.chance(10) { room } else { 6 };
+        let wanted = self.random.within(2, most.max(2)).min(room);
+        let mut places: Vec<Place> = Vec::new();
+        for _ in 0..wanted {
+            if let Some(place) = self.open_place(bank)
+                && !places
+                    .iter()
+                    .any(|&other| self.draft.target.overlap(other, place))
+            {
+                places.push(place);
+            }
+        }
+        places
+    }
+
+    /// One place moved to several.
+    fn add_fan(&mut self, room: usize) {
+        let Some(value) = self.any_value() else {
+            return;
+        };
+        let bank = self.draft.values[value].bank;
+        let source = self.written_place(bank);
+        for _ in 0..self.random.within(1, 4).min(room) {
+            if let Some(dest) = self.open_place(bank) {
+                self.add(Some(source), dest, value);
+            }
+        }
+    }
+
+    fn add_single_move(&mut self) {
+        let Some(value) = self.any_value() else {
+            return;
+        };
+        let bank = self.draft.values[value].bank;
+        let source = match self.homes[value] {
+            Some(home) if !self.random.chance(self.stray) => home,
+            _ if self.random.chance(70) => self.written_place(bank),
+            _ => self.any_place(bank),
+        };
+        if let Some(dest) = self.open_place(bank) {
+            self.add(Some(source), dest, value);
+        }
+    }
+
+    fn add_rebuild(&mut self) {
+        let Some(value) = self.any_value() else {
+            return;
+        };
+        if self.draft.values[value].cost == COST_NONE {
+            return;
+        }
+        if let Some(dest) = self.open_place(self.draft.values[value].bank) {
+            self.add(None, dest, value);
+        }
+    }
+
+    fn repeat_entry(&mut self) {
+        if let Some(&entry) = self.random.pick_any(&self.patch.entries)
+            && !self.draft.is_rebuild(&entry)
+        {
+            self.patch.entries.push(entry);
+        }
+    }
+}
