@@ -1,0 +1,1 @@
+// Edits packed into one number each, and the buffer that they are made in.

@@ -1,0 +1,40 @@
+-- The emergency slots of a function (the cache), and what a patch has done to them so far.
+--   cache: depth of stack z at z, slots made at 32, stack z from 64 + 2048 z, the bottom first
+--   slots, for one patch: how many of the cache's stack z are left at z, how many were put back since at 32 + z, those from 64 + 1024 z
+use Prim.Native.Nat.{ℕ, zero, suc, _+_, _*_, _<_, _≤_}
+use mathlib.Core.Path.{_≡_}
+use mathlib.Core.Bool.{Bool, true, false}
+use mathlib.Core.List.{List, [], _∷_, _++_}
+use lib.ListN.{getD}
+use lib.Dec.{ltb}
+use Rattle.entity.specs.Logic.{pick}
+use Rattle.rules.specs.Scratch.{Cache}
+
+-- the n cells from `at` on, the last first: the top of a stack stands first
+unfoldable pub topFirst : List ℕ → ℕ → ℕ → List ℕ
+topFirst t at zero = []
+topFirst t at (suc n) = getD t (at + n) 0 ∷ topFirst t at n
+
+abbrev pub depthOf : List ℕ → ℕ → ℕ
+depthOf cache z = getD cache z 0
+
+abbrev pub leftOf : List ℕ → ℕ → ℕ
+leftOf slots z = getD slots z 0
+
+abbrev pub ownOf : List ℕ → ℕ → ℕ
+ownOf slots z = getD slots (32 + z) 0
+
+unfoldable pub cacheOf : List ℕ → Cache
+cacheOf cache = record { stacks = λ z. pick (ltb z 32) (topFirst cache (64 + z * 2048) (depthOf cache z)) []; made = getD cache 32 0 }
+
+-- the stacks as the patch has them now: what it put back lies on what is left of the cache's
+unfoldable pub stacksOf : List ℕ → List ℕ → ℕ → List ℕ
+stacksOf slots cache z = pick (ltb z 32) (topFirst slots (64 + z * 1024) (ownOf slots z) ++ topFirst cache (64 + z * 2048) (leftOf slots z)) []
+
+pub record CacheFits (cache : List ℕ) : Type 0 where
+  pub deep : (z : ℕ) → z < 32 → depthOf cache z ≤ 2048
+
+-- no more was put back on a stack than n
+pub record SlotsFit (n : ℕ) (slots : List ℕ) : Type 0 where
+  pub left : (z : ℕ) → z < 32 → leftOf slots z ≤ 2048
+  pub own : (z : ℕ) → z < 32 → ownOf slots z ≤ n
