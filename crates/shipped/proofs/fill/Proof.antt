@@ -35,7 +35,9 @@ put-regs-requires c κs = search needs
 returns : tie.Need-returns
 returns c =
     let t = c .before .before .before .before .before .before .before .before .before .before .args .t .now in
-    rw (c .put-regs .ensures, c .before .before .put-bank3 .ensures, c .before .before .before .before .put-bank2 .ensures, c .before .before .before .before .before .before .put-bank .ensures, ← shipped-written t) (filled-is t (c .before .before .before .before .before .before .before .before .told .ensures), filled-indexed t (c .before .before .before .before .before .before .before .before .told .ensures))
+    let s = c .before .before .before .before .before .before .before .before .told .ensures in
+    rw (c .put-regs .ensures, c .before .before .put-bank3 .ensures, c .before .before .before .before .put-bank2 .ensures, c .before .before .before .before .before .before .put-bank .ensures)
+    (rw (shipped-written t) at (filled-is t s), rw (shipped-written t) at (filled-indexed t s))
 
 pub fill-spec : {M : Type 1} → statement M
 fill-spec =
