@@ -1,0 +1,97 @@
+// The search for a scratch register, and the marks on a register's units.
+use entity::{Allocation, AllocationKind, PhysReg, RegClass};
+use reginfo::RegInfo;
+use small_set::RegUnitSet;
+
+ghost use mathlib.Core.Path.{_≡_};
+ghost use Prim.Native.Nat.{_<_, _≤_};
+ghost use lib.ListN.{length};
+ghost use Rattle.entity.specs.Place.{placeAt};
+ghost use Rattle.reginfo.specs.RegInfo.{numClasses, allocationOrder};
+ghost use Rattle.reginfo.specs.Refused.{Accepted};
+ghost use Rattle.reginfo.specs.Known.{KnownUnits, KnownPlace};
+ghost use Rattle.reginfo.specs.Table.{regInfoOf};
+ghost use Rattle.small_set.specs.Set.{setOf};
+ghost use Rattle.rules.specs.Edit.{find};
+ghost use Rattle.search.specs.Search.{searchOf, usableIn, withUnits, withoutUnits};
+
+// A register of a class's order, or none that would do.
+pub enum Search {
+    At(PhysReg),
+    Nothing,
+}
+
+// Whether every unit of a register is available, and none is a source unit of a kept move if asked for a cycle.
+pub fn usable(t: &RegInfo, available: &RegUnitSet, sources: &RegUnitSet, cycle: bool, r: PhysReg) -> bool
+    requires { ⌜ KnownUnits (regInfoOf (now t)) (r .0) ⌝ }
+    ensures { λ b. ⌜ b ≡ usableIn (regInfoOf (now (t .entry))) (now (available .entry)) (now (sources .entry)) cycle (r .0) ⌝ }
+{
+    let n = reginfo::num_reg_units(t, r);
+    let mut j: usize = 0;
+    let mut left = n;
+    while 0 < left {
+        let u = reginfo::reg_unit(t, r, j);
+        if !small_set::contains(available, u) {
+            return false;
+        }
+        if cycle {
+            if small_set::contains(sources, u) {
+                return false;
+            }
+        }
+        j += 1;
+        left -= 1;
+    }
+    true
+}
+
+// The first register of a class's order that is usable.
+pub fn first_usable(t: &RegInfo, available: &RegUnitSet, sources: &RegUnitSet, cycle: bool, c: RegClass) -> Search
+    requires { ⌜ Accepted (regInfoOf (now t)) × (c .0 < numClasses (regInfoOf (now t))) ⌝ }
+    ensures { λ s. ⌜ searchOf s ≡ find (usableIn (regInfoOf (now (t .entry))) (now (available .entry)) (now (sources .entry)) cycle) (allocationOrder (regInfoOf (now (t .entry))) (c .0)) ⌝ }
+{
+    let n = reginfo::order_len(t, c);
+    let mut i: usize = 0;
+    let mut left = n;
+    while 0 < left {
+        let r = reginfo::order_at(t, c, i);
+        if usable(t, available, sources, cycle, r) {
+            return Search::At(r);
+        }
+        i += 1;
+        left -= 1;
+    }
+    Search::Nothing
+}
+
+// Puts the units of a place into the set; a slot has none.
+pub fn insert_units(t: &RegInfo, s: &mut RegUnitSet, p: Allocation)
+    requires { ⌜ KnownPlace (regInfoOf (now t)) (placeAt (p .0)) ⌝ }
+    ensures { λ _. ⌜ setOf (now (s .exit)) ≡ withUnits (regInfoOf (now (t .entry))) (placeAt (p .0)) (setOf (now (s .entry))) ⌝ }
+{
+    let AllocationKind::PhysReg(r) = p.kind() else {
+        return;
+    };
+    let n = reginfo::num_reg_units(t, r);
+    let mut j: usize = 0;
+    while j < n {
+        small_set::insert(s, reginfo::reg_unit(t, r, j));
+        j += 1;
+    }
+}
+
+// Takes the units of a place out of the set.
+pub fn remove_units(t: &RegInfo, s: &mut RegUnitSet, p: Allocation)
+    requires { ⌜ KnownPlace (regInfoOf (now t)) (placeAt (p .0)) ⌝ }
+    ensures { λ _. ⌜ setOf (now (s .exit)) ≡ withoutUnits (regInfoOf (now (t .entry))) (placeAt (p .0)) (setOf (now (s .entry))) ⌝ }
+{
+    let AllocationKind::PhysReg(r) = p.kind() else {
+        return;
+    };
+    let n = reginfo::num_reg_units(t, r);
+    let mut j: usize = 0;
+    while j < n {
+        small_set::remove(s, reginfo::reg_unit(t, r, j));
+        j += 1;
+    }
+}
