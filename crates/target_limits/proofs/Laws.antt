@@ -1,0 +1,93 @@
+-- Laws of tests and lists, as the loops over a target use them.
+use Prim.Native.Nat.{ℕ, zero, suc, _+_, _*_, _<_, _≤_}
+use mathlib.Core.Path.{_≡_, refl, sym, ap, _∙_}
+use mathlib.Core.Bool.{Bool, true, false}
+use mathlib.Core.List.{List, _∷_}
+use native.Mathlib.Omega.{arith}
+use borrow.Author.Tests.{eq-eqb, ne-eqb, eqb-true, eqb-false}
+use lib.Dec.{eqb}
+use lib.ListN.{length, getD}
+use Rattle.entity.specs.Logic.{and, or, no, any, all, has, twice, indices, cells}
+use Rattle.reginfo.specs.RegInfo.{RegInfo, numRegs, numClasses, regUnits, classMembers, allocationOrder}
+use Rattle.reginfo.specs.Table.{regInfoOf}
+use Rattle.reginfo.proofs.Table.{units-are, units-length, members-are, members-length, order-is, order-length}
+
+-- the parts of a test
+pub and-left : (a b : Bool) → and a b ≡ true → a ≡ true
+and-left true b h = refl
+and-left false b h = h
+
+pub and-right : (a b : Bool) → and a b ≡ true → b ≡ true
+and-right true b h = h
+and-right false true h = refl
+and-right false false h = h
+
+pub or-left : (a b : Bool) → or a b ≡ false → a ≡ false
+or-left true b h = h
+or-left false b h = refl
+
+pub or-right : (a b : Bool) → or a b ≡ false → b ≡ false
+or-right true true h = h
+or-right true false h = refl
+or-right false b h = h
+
+pub no-false : (a : Bool) → no a ≡ false → a ≡ true
+no-false true h = refl
+no-false false h = sym h
+
+module _ {A : Type 0} (p : A → Bool) where
+  -- the first element passes the test, or does not
+  pub any-here : {l m : List A} {x : A} → l ≡ x ∷ m → p x ≡ true → any p l ≡ true
+  unfolding any
+  any-here e h = rw (e, h)
+
+  pub any-on : {l m : List A} {x : A} → l ≡ x ∷ m → p x ≡ false → any p l ≡ any p m
+  unfolding any
+  any-on e h = rw (e, h)
+
+  pub all-here : {l m : List A} {x : A} → l ≡ x ∷ m → p x ≡ false → all p l ≡ false
+  unfolding all
+  all-here e h = rw (e, h)
+
+  pub all-on : {l m : List A} {x : A} → l ≡ x ∷ m → p x ≡ true → all p l ≡ all p m
+  unfolding all
+  all-on e h = rw (e, h)
+
+-- x is listed first, or not
+pub has-here : {x y : ℕ} {l m : List ℕ} → l ≡ y ∷ m → x ≡ y → has x l ≡ true
+unfolding has
+has-here {x} {y} e h = rw (e, eq-eqb x y h)
+
+pub has-on : {x y : ℕ} {l m : List ℕ} → l ≡ y ∷ m → (x ≡ y → ⊥) → has x l ≡ has x m
+unfolding has
+has-on {x} {y} e h = rw (e, ne-eqb x y h)
+
+-- the first number is listed again, or not
+pub twice-here : {x : ℕ} {l m : List ℕ} → l ≡ x ∷ m → has x m ≡ true → twice l ≡ true
+unfolding twice
+twice-here e h = rw (e, h)
+
+pub twice-on : {x : ℕ} {l m : List ℕ} → l ≡ x ∷ m → has x m ≡ false → twice l ≡ twice m
+unfolding twice
+twice-on e h = rw (e, h)
+
+-- no index passes the test, so k does not
+pub none-at : (p : ℕ → Bool) (i n k : ℕ) → any p (indices i n) ≡ false → i ≤ k → k < i + n → p k ≡ false
+unfolding any indices
+none-at p i zero k h l m = absurd (omega arith)
+none-at p i (suc n) k h l m = go (eqb i k) refl (λ d. none-at p (i + 1) n k (or-right (p i) (any p (indices (i + 1) n)) h) (omega arith) (omega arith))
+  where
+    go : (b : Bool) → eqb i k ≡ b → ((i ≡ k → ⊥) → p k ≡ false) → p k ≡ false
+    go true e f = ap p (sym (eqb-true i k e)) ∙ or-left (p i) (any p (indices (i + 1) n)) h
+    go false e f = f (eqb-false i k e)
+
+-- the lists of a target as cells of its table
+module _ (t : List ℕ) where
+  pub units-cells : (r : ℕ) → r < numRegs (regInfoOf t) → regUnits (regInfoOf t) r ≡ cells t (8 + r * 16) (length (regUnits (regInfoOf t) r))
+  units-cells r h = units-are t r h ∙ ap (cells t (8 + r * 16)) (sym (units-length t r h))
+
+  pub members-cells : (c : ℕ) → c < numClasses (regInfoOf t) → classMembers (regInfoOf t) c ≡ cells t (9216 + c * 512) (length (classMembers (regInfoOf t) c))
+  members-cells c h = members-are t c h ∙ ap (cells t (9216 + c * 512)) (sym (members-length t c h))
+
+  pub order-cells : (c : ℕ) → c < numClasses (regInfoOf t) → allocationOrder (regInfoOf t) c ≡ cells t (41984 + c * 512) (length (allocationOrder (regInfoOf t) c))
+  order-cells c h = order-is t c h ∙ ap (cells t (41984 + c * 512)) (sym (order-length t c h))
