@@ -53,6 +53,15 @@ module _ {A : Type 0} (p : A → Bool) where
   unfolding all
   all-on e h = rw (e, h)
 
+  -- every element passes the test, so the first and the others do
+  pub all-first : {l m : List A} {x : A} → l ≡ x ∷ m → all p l ≡ true → p x ≡ true
+  unfolding all
+  all-first {l} {m} {x} e h = and-left (p x) (all p m) (rw e at h)
+
+  pub all-rest : {l m : List A} {x : A} → l ≡ x ∷ m → all p l ≡ true → all p m ≡ true
+  unfolding all
+  all-rest {l} {m} {x} e h = and-right (p x) (all p m) (rw e at h)
+
 -- x is listed first, or not
 pub has-here : {x y : ℕ} {l m : List ℕ} → l ≡ y ∷ m → x ≡ y → has x l ≡ true
 unfolding has

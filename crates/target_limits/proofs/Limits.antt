@@ -10,6 +10,7 @@ use lib.ListN.{length}
 use Rattle.entity.specs.Logic.{and, or, no, any, all, indices, cells}
 use Rattle.entity.proofs.Laws.{indices-step}
 use Rattle.reginfo.specs.RegInfo.{RegInfo, numBanks, numRegs, numClasses, spillslotSize, topLevelClass, stackToStackClass, regMemory, bankForReg, regUnits, bankForClass, classSlots, classMembers, allocationOrder}
+use Rattle.reginfo.specs.Known.{KnownReg, KnownClass, KnownBank}
 use Rattle.reginfo.specs.Table.{classAt, regInfoOf}
 use Rattle.reginfo.specs.Refused.{some-below, within, allBelow, orderTotal, countsFit, bankFits, regFits, classFits, outsideLimits}
 use Rattle.reginfo.proofs.Table.{order-is}
@@ -68,3 +69,71 @@ module _ (t : RegInfo) (h : some-below (numClasses t) (λ c. no (classFits t c))
 pub total-step : (t : List ℕ) (i n : ℕ) → 0 < n → i < numClasses (regInfoOf t) → orderTotal (map (classAt t) (indices i n)) ≡ length (allocationOrder (regInfoOf t) i) + orderTotal (map (classAt t) (indices (i + 1) (n - 1)))
 unfolding orderTotal classAt
 total-step t i n h k = rw (indices-step i n h, order-is t i k)
+
+-- a target within the limits
+module _ (t : RegInfo) (h : outsideLimits t ≡ false) where
+  abbrev rest4 : Bool
+  rest4 = ltb 4096 (orderTotal (t .classes))
+
+  abbrev rest3 : Bool
+  rest3 = or (some-below (numClasses t) (λ c. no (classFits t c))) rest4
+
+  abbrev rest2 : Bool
+  rest2 = or (some-below (numRegs t) (λ r. no (regFits t r))) rest3
+
+  abbrev rest1 : Bool
+  rest1 = or (some-below (numBanks t) (λ b. no (bankFits t b))) rest2
+
+  counts : countsFit t ≡ true
+  unfolding outsideLimits
+  counts = no-false (countsFit t) (or-left (no (countsFit t)) rest1 h)
+
+  from-banks : rest1 ≡ false
+  unfolding outsideLimits
+  from-banks = or-right (no (countsFit t)) rest1 h
+
+  from-regs : rest2 ≡ false
+  from-regs = or-right (some-below (numBanks t) (λ b. no (bankFits t b))) rest2 from-banks
+
+  from-classes : rest3 ≡ false
+  from-classes = or-right (some-below (numRegs t) (λ r. no (regFits t r))) rest3 from-regs
+
+  pub bank-known : (b : ℕ) → b < numBanks t → KnownBank t b
+  bank-known b k = record { is = k; few = banks-few t counts }
+
+  pub reg-known : (r : ℕ) → r < numRegs t → KnownReg t r
+  reg-known r k = record { is = k; few = regs-few t counts }
+
+  pub class-known : (c : ℕ) → c < numClasses t → KnownClass t c
+  class-known c k = record { is = k; few = classes-few t counts }
+
+  class-fit : (c : ℕ) → c < numClasses t → classFits t c ≡ true
+  class-fit c k = class-fits-at t (or-left (some-below (numClasses t) (λ x. no (classFits t x))) rest4 from-classes) c k
+
+  pub members-listed : (c : ℕ) → c < numClasses t → listFits t (classMembers t c) ≡ true
+  members-listed c k = members-fit t c (class-fit c k)
+
+  pub order-listed : (c : ℕ) → c < numClasses t → listFits t (allocationOrder t c) ≡ true
+  order-listed c k = order-fit t c (class-fit c k)
+
+  reg-fit : (r : ℕ) → r < numRegs t → regFits t r ≡ true
+  reg-fit r k = no-false (regFits t r) (none-at (λ x. no (regFits t x)) 0 (numRegs t) r (or-left (some-below (numRegs t) (λ x. no (regFits t x))) rest3 from-regs) (omega arith) (omega arith))
+
+  pub width-few : (r : ℕ) → r < numRegs t → length (regUnits t r) ≤ 8
+  unfolding regFits
+  width-few r k =
+      let w = and-right (leb (regMemory t r) 1) (and (ltb (bankForReg t r) (numBanks t)) (and (within 1 8 (length (regUnits t r))) (allBelow (t .units) (regUnits t r)))) (reg-fit r k) in
+      let v = and-right (ltb (bankForReg t r) (numBanks t)) (and (within 1 8 (length (regUnits t r))) (allBelow (t .units) (regUnits t r))) w in
+      within-high 1 8 (length (regUnits t r)) (and-left (within 1 8 (length (regUnits t r))) (allBelow (t .units) (regUnits t r)) v)
+
+  bank-fit : (b : ℕ) → b < numBanks t → and (ltb (topLevelClass t b) (numClasses t)) (ltb (stackToStackClass t b) (numClasses t)) ≡ true
+  unfolding bankFits
+  bank-fit b k =
+      and-right (leb (spillslotSize t b) 31) (and (ltb (topLevelClass t b) (numClasses t)) (ltb (stackToStackClass t b) (numClasses t)))
+      (no-false (bankFits t b) (none-at (λ x. no (bankFits t x)) 0 (numBanks t) b (or-left (some-below (numBanks t) (λ x. no (bankFits t x))) rest2 from-banks) (omega arith) (omega arith)))
+
+  pub top-known : (b : ℕ) → b < numBanks t → KnownClass t (topLevelClass t b)
+  top-known b k = class-known (topLevelClass t b) (ltb-true (topLevelClass t b) (numClasses t) (and-left (ltb (topLevelClass t b) (numClasses t)) (ltb (stackToStackClass t b) (numClasses t)) (bank-fit b k)))
+
+  pub stack-known : (b : ℕ) → b < numBanks t → KnownClass t (stackToStackClass t b)
+  stack-known b k = class-known (stackToStackClass t b) (ltb-true (stackToStackClass t b) (numClasses t) (and-right (ltb (topLevelClass t b) (numClasses t)) (ltb (stackToStackClass t b) (numClasses t)) (bank-fit b k)))
