@@ -8,12 +8,12 @@ use borrow.Author.Tests.{ltb-true, leb-true}
 use lib.Dec.{ltb, leb}
 use lib.ListN.{length}
 use Rattle.entity.specs.Logic.{and, or, no, any, all, indices, cells}
-use Rattle.entity.proofs.Laws.{indices-step}
-use Rattle.reginfo.specs.RegInfo.{RegInfo, numBanks, numRegs, numClasses, spillslotSize, topLevelClass, stackToStackClass, regMemory, bankForReg, regUnits, bankForClass, classSlots, classMembers, allocationOrder}
-use Rattle.reginfo.specs.Known.{KnownReg, KnownClass, KnownBank}
-use Rattle.reginfo.specs.Table.{classAt, regInfoOf}
+use Rattle.entity.proofs.Laws.{indices-step, all-has, last-has}
+use Rattle.reginfo.specs.RegInfo.{RegInfo, numBanks, numRegs, numClasses, spillslotSize, topLevelClass, stackToStackClass, regMemory, bankForReg, regUnits, bankForClass, classSlots, classMembers, allocationOrder, lastInOrder}
+use Rattle.reginfo.specs.Known.{KnownReg, KnownClass, KnownBank, KnownMembers}
+use Rattle.reginfo.specs.Table.{classAt, regInfoOf, Indexed}
 use Rattle.reginfo.specs.Refused.{some-below, within, allBelow, orderTotal, countsFit, bankFits, regFits, classFits, outsideLimits}
-use Rattle.reginfo.proofs.Table.{order-is}
+use Rattle.reginfo.proofs.Table.{classes-count, members-length, order-is}
 use Rattle.target_limits.specs.Fits.{listFits}
 use Rattle.target_limits.proofs.Laws.{and-left, and-right, or-left, or-right, no-false, none-at}
 
@@ -84,9 +84,9 @@ module _ (t : RegInfo) (h : outsideLimits t ≡ false) where
   abbrev rest1 : Bool
   rest1 = or (some-below (numBanks t) (λ b. no (bankFits t b))) rest2
 
-  counts : countsFit t ≡ true
+  pub counts-of : countsFit t ≡ true
   unfolding outsideLimits
-  counts = no-false (countsFit t) (or-left (no (countsFit t)) rest1 h)
+  counts-of = no-false (countsFit t) (or-left (no (countsFit t)) rest1 h)
 
   from-banks : rest1 ≡ false
   unfolding outsideLimits
@@ -99,13 +99,13 @@ module _ (t : RegInfo) (h : outsideLimits t ≡ false) where
   from-classes = or-right (some-below (numRegs t) (λ r. no (regFits t r))) rest3 from-regs
 
   pub bank-known : (b : ℕ) → b < numBanks t → KnownBank t b
-  bank-known b k = record { is = k; few = banks-few t counts }
+  bank-known b k = record { is = k; few = banks-few t counts-of }
 
   pub reg-known : (r : ℕ) → r < numRegs t → KnownReg t r
-  reg-known r k = record { is = k; few = regs-few t counts }
+  reg-known r k = record { is = k; few = regs-few t counts-of }
 
   pub class-known : (c : ℕ) → c < numClasses t → KnownClass t c
-  class-known c k = record { is = k; few = classes-few t counts }
+  class-known c k = record { is = k; few = classes-few t counts-of }
 
   class-fit : (c : ℕ) → c < numClasses t → classFits t c ≡ true
   class-fit c k = class-fits-at t (or-left (some-below (numClasses t) (λ x. no (classFits t x))) rest4 from-classes) c k
@@ -137,3 +137,14 @@ module _ (t : RegInfo) (h : outsideLimits t ≡ false) where
 
   pub stack-known : (b : ℕ) → b < numBanks t → KnownClass t (stackToStackClass t b)
   stack-known b k = class-known (stackToStackClass t b) (ltb-true (stackToStackClass t b) (numClasses t) (and-right (ltb (topLevelClass t b) (numClasses t)) (ltb (stackToStackClass t b) (numClasses t)) (bank-fit b k)))
+
+  pub last-known : (c : ℕ) → c < numClasses t → 0 < length (allocationOrder t c) → KnownReg t (lastInOrder t c)
+  last-known c k o = reg-known (lastInOrder t c) (ltb-true (lastInOrder t c) (numRegs t) (all-has (λ x. ltb x (numRegs t)) (allocationOrder t c) (lastInOrder t c) (list-known t (allocationOrder t c) (order-listed c k)) (last-has 0 (allocationOrder t c) o)))
+
+-- a table whose index is right, over a target within the limits
+pub members-known : (t : List ℕ) → outsideLimits (regInfoOf t) ≡ false → Indexed t → (c : ℕ) → c < numClasses (regInfoOf t) → KnownMembers t c
+members-known t h x c k =
+    record
+      { known = class-known (regInfoOf t) h c k
+      ; few = list-few (regInfoOf t) (classMembers (regInfoOf t) c) (members-listed (regInfoOf t) h c k)
+      ; indexed = rw (members-length t c k) (x c (rw (classes-count t) at k)) }

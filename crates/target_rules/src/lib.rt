@@ -1,6 +1,6 @@
 // 01, The target: its rules 4 to 7, tested over a lent table whose target is within the limits.
 use entity::{PhysReg, RegBank, RegClass};
-use reginfo::{RegInfo, bank_for_class, bank_for_reg, class_includes_spillslots, is_memory_reg, num_banks, num_classes, num_members, num_reg_units, num_regs, order_len, regs_overlap, stack_to_stack_class, top_level_class};
+use reginfo::{RegInfo, bank_for_class, bank_for_reg, class_has_reg, class_includes_spillslots, is_memory_reg, num_banks, num_classes, num_members, num_reg_units, num_regs, order_last, order_len, regs_overlap, stack_to_stack_class, top_level_class};
 use target_limits::{members_from, order_from};
 
 ghost use mathlib.Core.Path.{_≡_};
@@ -231,4 +231,97 @@ fn banks_unfit(t: &RegInfo) -> bool
         left -= 1;
     }
     false
+}
+
+fn class_unfit(t: &RegInfo, c: RegClass) -> bool
+    requires { ⌜ (outsideLimits (regInfoOf (now t)) ≡ false) × (c .0 < numClasses (regInfoOf (now t))) ⌝ }
+    ensures { λ u. ⌜ u ≡ unfitOrder (regInfoOf (now (t .entry))) (c .0) ⌝ }
+{
+    if class_includes_spillslots(t, c) {
+        return false;
+    }
+    if order_len(t, c) == 0 {
+        return true;
+    }
+    let last = order_last(t, c);
+    is_memory_reg(t, last)
+}
+
+fn classes_unfit(t: &RegInfo) -> bool
+    requires { ⌜ outsideLimits (regInfoOf (now t)) ≡ false ⌝ }
+    ensures { λ u. ⌜ u ≡ some-below (numClasses (regInfoOf (now (t .entry)))) (unfitOrder (regInfoOf (now (t .entry)))) ⌝ }
+{
+    let mut i: u16 = 0;
+    let mut left = num_classes(t);
+    while 0 < left {
+        if class_unfit(t, RegClass(i)) {
+            return true;
+        }
+        i += 1;
+        left -= 1;
+    }
+    false
+}
+
+pub fn unfit_class(t: &RegInfo) -> bool
+    requires { ⌜ outsideLimits (regInfoOf (now t)) ≡ false ⌝ }
+    ensures { λ r. ⌜ r ≡ unfitClass (regInfoOf (now (t .entry))) ⌝ }
+{
+    if banks_unfit(t) {
+        return true;
+    }
+    classes_unfit(t)
+}
+
+// 5: an order lists members only. The index of the class's members is right.
+fn order_foreign(t: &RegInfo, c: RegClass) -> bool
+    requires { ⌜ (outsideLimits (regInfoOf (now t)) ≡ false) × (c .0 < numClasses (regInfoOf (now t))) × Indexed (now t) ⌝ }
+    ensures { λ f. ⌜ f ≡ any (noMember (regInfoOf (now (t .entry))) (c .0)) (allocationOrder (regInfoOf (now (t .entry))) (c .0)) ⌝ }
+{
+    let mut i = order_from(c);
+    let mut left = order_len(t, c);
+    while 0 < left {
+        if !class_has_reg(t, c, PhysReg(t[i])) {
+            return true;
+        }
+        i += 1;
+        left -= 1;
+    }
+    false
+}
+
+fn class_foreign(t: &RegInfo, c: RegClass) -> bool
+    requires { ⌜ (outsideLimits (regInfoOf (now t)) ≡ false) × (c .0 < numClasses (regInfoOf (now t))) × Indexed (now t) ⌝ }
+    ensures { λ f. ⌜ f ≡ foreignClass (regInfoOf (now (t .entry))) (c .0) ⌝ }
+{
+    if members_foreign(t, c) {
+        return true;
+    }
+    order_foreign(t, c)
+}
+
+fn classes_foreign(t: &RegInfo) -> bool
+    requires { ⌜ (outsideLimits (regInfoOf (now t)) ≡ false) × Indexed (now t) ⌝ }
+    ensures { λ f. ⌜ f ≡ some-below (numClasses (regInfoOf (now (t .entry)))) (foreignClass (regInfoOf (now (t .entry)))) ⌝ }
+{
+    let mut i: u16 = 0;
+    let mut left = num_classes(t);
+    while 0 < left {
+        if class_foreign(t, RegClass(i)) {
+            return true;
+        }
+        i += 1;
+        left -= 1;
+    }
+    false
+}
+
+pub fn foreign_member(t: &RegInfo) -> bool
+    requires { ⌜ (outsideLimits (regInfoOf (now t)) ≡ false) × Indexed (now t) ⌝ }
+    ensures { λ r. ⌜ r ≡ foreignMember (regInfoOf (now (t .entry))) ⌝ }
+{
+    if classes_foreign(t) {
+        return true;
+    }
+    banks_foreign(t)
 }
