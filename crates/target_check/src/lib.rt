@@ -111,3 +111,73 @@ fn index_members(t: &mut RegInfo, c: RegClass) -> bool
     }
     false
 }
+
+fn class_twice(t: &mut RegInfo, c: RegClass) -> bool
+    requires { ⌜ (outsideLimits (regInfoOf (now t)) ≡ false) × (c .0 < numClasses (regInfoOf (now t))) ⌝ }
+    ensures { λ d. ⌜ (d ≡ twiceIn (regInfoOf (now (t .entry))) (c .0)) × SameBelow (74752 + c .0 * 512) (now (t .entry)) (now (t .exit)) × (d ≡ false → IndexedAt (now (t .exit)) (c .0) (length (classMembers (regInfoOf (now (t .entry))) (c .0)))) ⌝ }
+{
+    if index_members(t, c) {
+        return true;
+    }
+    order_twice(t, c)
+}
+
+fn classes_twice(t: &mut RegInfo) -> bool
+    requires { ⌜ outsideLimits (regInfoOf (now t)) ≡ false ⌝ }
+    ensures { λ d. ⌜ (d ≡ some-below (numClasses (regInfoOf (now (t .entry)))) (twiceIn (regInfoOf (now (t .entry))))) × SameBelow 74752 (now (t .entry)) (now (t .exit)) × (d ≡ false → Indexed (now (t .exit))) ⌝ }
+{
+    let mut i: u16 = 0;
+    let mut left = num_classes(t);
+    while 0 < left {
+        if class_twice(t, RegClass(i)) {
+            return true;
+        }
+        i += 1;
+        left -= 1;
+    }
+    false
+}
+
+fn listed_twice(t: &mut RegInfo) -> bool
+    requires { ⌜ outsideLimits (regInfoOf (now t)) ≡ false ⌝ }
+    ensures { λ d. ⌜ (d ≡ listedTwice (regInfoOf (now (t .entry)))) × SameBelow 74752 (now (t .entry)) (now (t .exit)) × (d ≡ false → Indexed (now (t .exit))) ⌝ }
+{
+    if regs_twice(t) {
+        return true;
+    }
+    classes_twice(t)
+}
+
+// The first of the rules 4 to 7 that is broken.
+fn broken_rule(t: &RegInfo) -> TargetCheck
+    requires { ⌜ (outsideLimits (regInfoOf (now t)) ≡ false) × Indexed (now t) ⌝ }
+    ensures { λ r. ⌜ numberOf r ≡ firstOf (cond 4 (unequalWidths (regInfoOf (now (t .entry)))) ∷ cond 5 (foreignMember (regInfoOf (now (t .entry)))) ∷ cond 6 (sharedMemory (regInfoOf (now (t .entry)))) ∷ cond 7 (unfitClass (regInfoOf (now (t .entry)))) ∷ []) ⌝ }
+{
+    if unequal_widths(t) {
+        return TargetCheck::UnequalWidths;
+    }
+    if foreign_member(t) {
+        return TargetCheck::ForeignMember;
+    }
+    if shared_memory(t) {
+        return TargetCheck::SharedMemory;
+    }
+    if unfit_class(t) {
+        return TargetCheck::UnfitClass;
+    }
+    TargetCheck::Accepted
+}
+
+// 01: the target of a lent table is accepted, or refused with the least number whose rule it breaks.
+// Only the index of members is written, and of an accepted target it is right.
+pub fn check(t: &mut RegInfo) -> TargetCheck
+    ensures { λ r. ⌜ (numberOf r ≡ targetRefusal (regInfoOf (now (t .entry)))) × SameBelow 74752 (now (t .entry)) (now (t .exit)) × (regInfoOf (now (t .exit)) ≡ regInfoOf (now (t .entry))) × (r ≡ Accepted → Indexed (now (t .exit))) ⌝ }
+{
+    if outside_limits(t) {
+        return TargetCheck::OutsideLimits;
+    }
+    if listed_twice(t) {
+        return TargetCheck::ListedTwice;
+    }
+    broken_rule(t)
+}
