@@ -2,15 +2,15 @@
 use Prim.Native.Nat.{ℕ, zero, suc, _+_, _-_, _*_, _/_, _%_, _<_, _≤_}
 use mathlib.Core.Path.{_≡_, refl, sym, ap, _∙_}
 use mathlib.Core.Bool.{Bool, true, false, true≢false, false≢true}
-use mathlib.Core.List.{List, [], _∷_, _++_, map}
+use mathlib.Core.List.{List, [], _∷_, map}
 use native.Mathlib.Omega.{arith}
 use native.Mathlib.Numerals.{add-one}
 use lib.Dec.{eqb, ltb}
-use lib.ListN.{getD, length, set, drop, length-map}
+use lib.ListN.{getD, length, drop, length-map}
 use lib.Seq.{drop-cons}
 use borrow.Author.Tests.{lt-ltb, le-ltb, eq-eqb, ne-eqb, eqb-true, eqb-false, ltb-true, ltb-false}
-use Rattle.entity.specs.Logic.{pick, and, or, no, any, all, has, meets, twice, lastOr, indices, cells}
-use Rattle.entity.specs.Place.{Place, reg, slot, codeOf, placeAt, Unit, regUnit, slotUnit, unitCode, unitAt}
+use Rattle.entity.specs.Logic.{pick, and, or, no, any, all, has, meets, lastOr, indices, cells}
+use Rattle.entity.specs.Place.{Place, reg, slot, codeOf, placeAt, regUnit, slotUnit, unitCode, unitAt}
 
 -- what a test says of its parts
 pub or-false : (a b : Bool) → or a b ≡ false → (a ≡ false) × (b ≡ false)

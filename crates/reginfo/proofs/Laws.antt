@@ -37,15 +37,15 @@ same-shift n a b = go (eqb a b) refl
     go true e = let h : a ≡ b = eqb-true a b e in eq-eqb (n + a) (n + b) (omega arith)
     go false e = let h : a ≡ b → ⊥ = eqb-false a b e in ne-eqb (n + a) (n + b) (λ q. h (omega arith))
 
-slot-unit : (t : RegInfo) (s : ℕ) (l : List ℕ) → meets ((512 + s) ∷ []) l ≡ has (512 + s) l
+slot-unit : (s : ℕ) (l : List ℕ) → meets ((512 + s) ∷ []) l ≡ has (512 + s) l
 unfolding meets
-slot-unit t s l = or-end (has (512 + s) l)
+slot-unit s l = or-end (has (512 + s) l)
 
 pub overlap-slot : (t : RegInfo) (p : Place) (s : ℕ) → KnownPlace t p → overlap t p (slot s) ≡ samePlace p (slot s)
 unfolding has
 overlap-slot t (reg r) s k =
-    overlap-comm t (reg r) (slot s) ∙ slot-unit t s (regUnits t r) ∙ never-true (has (512 + s) (regUnits t r)) (λ h. let l : 512 + s < 512 = k .low (512 + s) h in omega arith)
-overlap-slot t (slot a) s k = slot-unit t a ((512 + s) ∷ []) ∙ or-end (eqb (512 + a) (512 + s)) ∙ same-shift 512 a s
+    overlap-comm t (reg r) (slot s) ∙ slot-unit s (regUnits t r) ∙ never-true (has (512 + s) (regUnits t r)) (λ h. let l : 512 + s < 512 = k .low (512 + s) h in omega arith)
+overlap-slot t (slot a) s k = slot-unit a ((512 + s) ∷ []) ∙ or-end (eqb (512 + a) (512 + s)) ∙ same-shift 512 a s
 
 -- the only place where a member can stand is where the index points
 pub member-at : (t : List ℕ) (c r p : ℕ) → KnownMembers t c → p ≡ getD t (74752 + c * 512 + r) 0 → has r (classMembers (regInfoOf t) c) ≡ and (ltb p (length (classMembers (regInfoOf t) c))) (eqb (getD (classMembers (regInfoOf t) c) p 0) r)

@@ -1,2 +1,4 @@
 pub mod Table
 pub mod Laws
+pub mod First
+pub mod Accepted

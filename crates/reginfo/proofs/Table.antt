@@ -1,12 +1,12 @@
 -- What the accessors of a target read in its table.
-use Prim.Native.Nat.{ℕ, zero, suc, _+_, _*_, _<_, _≤_}
-use mathlib.Core.Path.{_≡_, refl, sym, ap, _∙_}
-use mathlib.Core.List.{List, map}
+use Prim.Native.Nat.{ℕ, _+_, _*_, _<_}
+use mathlib.Core.Path.{_≡_, refl, ap, _∙_}
+use mathlib.Core.List.{List}
 use native.Mathlib.Omega.{arith}
 use lib.ListN.{getD, length}
-use Rattle.entity.specs.Logic.{indices, cells}
+use Rattle.entity.specs.Logic.{cells}
 use Rattle.entity.proofs.Laws.{length-built, getD-built, length-cells, getD-cells}
-use Rattle.reginfo.specs.RegInfo.{Bank, Reg, Class, RegInfo, noBank, noReg, noClass, numBanks, numRegs, numClasses, spillslotSize, topLevelClass, stackToStackClass, regMemory, bankForReg, regUnits, bankForClass, classSlots, classMembers, allocationOrder}
+use Rattle.reginfo.specs.RegInfo.{Bank, Reg, Class, noBank, noReg, noClass, numBanks, numRegs, numClasses, spillslotSize, topLevelClass, stackToStackClass, regMemory, bankForReg, regUnits, bankForClass, classSlots, classMembers, allocationOrder}
 use Rattle.reginfo.specs.Table.{bankAt, regAt, classAt, regInfoOf}
 
 module _ (t : List ℕ) where

@@ -1,3 +1,4 @@
+-- `bank_for_class` meets its contract: a cell of the table.
 use borrow.Author.Needs.{needs}
 use Rattle.reginfo.proofs.Table.{class-bank-is}
 use Rattle.reginfo.proofs.bank_for_class.Statement.{statement}

@@ -1,3 +1,4 @@
+-- `bank_for_reg` meets its contract: a cell of the table.
 use borrow.Author.Needs.{needs}
 use Rattle.reginfo.proofs.Table.{reg-bank-is}
 use Rattle.reginfo.proofs.bank_for_reg.Statement.{statement}

@@ -1,3 +1,4 @@
+-- `class_includes_spillslots` meets its contract: a cell of the table.
 use borrow.Author.Needs.{needs}
 use Rattle.reginfo.proofs.Table.{slots-is}
 use Rattle.reginfo.proofs.class_includes_spillslots.Statement.{statement}

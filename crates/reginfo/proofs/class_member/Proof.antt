@@ -1,3 +1,4 @@
+-- `class_member` meets its contract: a cell of the table.
 use borrow.Author.Needs.{needs}
 use Rattle.reginfo.proofs.Table.{member-is}
 use Rattle.reginfo.proofs.class_member.Statement.{statement}

@@ -32,7 +32,7 @@ returns c =
     let l = c .before .before .before .before .before .loop in
     let s = c .before .before .before .before .before .before .before in
     let us = regUnits (regInfoOf (s .args .t .now)) (s .args .r .0) in
-    sym (l .inv .0 ∙ has-step (s .args .u .0) us (l .j) (omega arith) ∙ rw (eq-eqb (s .args .u .0) (getD us (l .j) 0) (c .if1 .taken ∙ c .before .before .before .reg-unit .ensures)))
+    sym (l .inv .0 ∙ has-step (s .args .u .0) us (l .j) (omega arith) ∙ rw (eq-eqb (s .args .u .0) (getD us (l .j) 0) (omega arith)))
 
 add-j : tie.Need-add-j Inv-loop μ-loop
 add-j c = search needs
@@ -45,7 +45,7 @@ loop-again c =
     let l = c .before .before .before .before .before .loop in
     let s = c .before .before .before .before .before .before .before in
     let us = regUnits (regInfoOf (s .args .t .now)) (s .args .r .0) in
-    (l .inv .0 ∙ has-step (s .args .u .0) us (l .j) (omega arith) ∙ rw (ne-eqb (s .args .u .0) (getD us (l .j) 0) (λ e. c .if1 .left (e ∙ sym (c .before .before .before .reg-unit .ensures)))), omega arith)
+    (l .inv .0 ∙ has-step (s .args .u .0) us (l .j) (omega arith) ∙ rw (ne-eqb (s .args .u .0) (getD us (l .j) 0) (λ e. omega arith)), omega arith)
 
 returns-2 : tie.Need-returns-2 Inv-loop μ-loop
 unfolding has

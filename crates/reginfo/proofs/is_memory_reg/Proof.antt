@@ -1,3 +1,4 @@
+-- `is_memory_reg` meets its contract: a cell of the table.
 use borrow.Author.Needs.{needs}
 use Rattle.reginfo.proofs.Table.{memory-is}
 use Rattle.reginfo.proofs.is_memory_reg.Statement.{statement}

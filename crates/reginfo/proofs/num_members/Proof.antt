@@ -1,3 +1,4 @@
+-- `num_members` meets its contract: a cell of the table.
 use borrow.Author.Needs.{needs}
 use Rattle.reginfo.proofs.Table.{members-length}
 use Rattle.reginfo.proofs.num_members.Statement.{statement}

@@ -1,3 +1,4 @@
+-- `num_reg_units` meets its contract: a cell of the table.
 use borrow.Author.Needs.{needs}
 use Rattle.reginfo.proofs.Table.{units-length}
 use Rattle.reginfo.proofs.num_reg_units.Statement.{statement}

@@ -1,3 +1,4 @@
+-- `num_regs` meets its contract: a cell of the table.
 use borrow.Author.Needs.{needs}
 use mathlib.Core.Path.{_∙_, sym}
 use Rattle.reginfo.proofs.Table.{regs-count}

@@ -1,3 +1,4 @@
+-- `order_at` meets its contract: a cell of the table.
 use borrow.Author.Needs.{needs}
 use Rattle.reginfo.proofs.Table.{order-at-is}
 use Rattle.reginfo.proofs.order_at.Statement.{statement}

@@ -1,3 +1,4 @@
+-- `order_len` meets its contract: a cell of the table.
 use borrow.Author.Needs.{needs}
 use Rattle.reginfo.proofs.Table.{order-length}
 use Rattle.reginfo.proofs.order_len.Statement.{statement}

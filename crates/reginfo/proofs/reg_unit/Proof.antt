@@ -1,3 +1,4 @@
+-- `reg_unit` meets its contract: a cell of the table.
 use borrow.Author.Needs.{needs}
 use Rattle.reginfo.proofs.Table.{unit-is}
 use Rattle.reginfo.proofs.reg_unit.Statement.{statement}

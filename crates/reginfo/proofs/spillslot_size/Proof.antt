@@ -1,3 +1,4 @@
+-- `spillslot_size` meets its contract: a cell of the table.
 use borrow.Author.Needs.{needs}
 use Rattle.reginfo.proofs.Table.{size-is}
 use Rattle.reginfo.proofs.spillslot_size.Statement.{statement}

@@ -1,3 +1,4 @@
+-- `stack_to_stack_class` meets its contract: a cell of the table.
 use borrow.Author.Needs.{needs}
 use Rattle.reginfo.proofs.Table.{stack-is}
 use Rattle.reginfo.proofs.stack_to_stack_class.Statement.{statement}

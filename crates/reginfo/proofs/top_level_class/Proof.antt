@@ -1,3 +1,4 @@
+-- `top_level_class` meets its contract: a cell of the table.
 use borrow.Author.Needs.{needs}
 use Rattle.reginfo.proofs.Table.{top-is}
 use Rattle.reginfo.proofs.top_level_class.Statement.{statement}

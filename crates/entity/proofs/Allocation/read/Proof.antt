@@ -1,5 +1,4 @@
 -- `Allocation::read` meets its contract: the code's place, where it names one.
-use native.Mathlib.Omega.{arith}
 use borrow.Author.Needs.{needs}
 use borrow.Author.Tests.{eq-eqb, ne-eqb, lt-ltb, le-ltb}
 use Rattle.entity.specs.Place.{placeAt, readPlace}
