@@ -171,7 +171,10 @@ fn broken_rule(t: &RegInfo) -> TargetCheck
 // 01: the target of a lent table is accepted, or refused with the least number whose rule it breaks.
 // Only the index of members is written, and of an accepted target it is right.
 pub fn check(t: &mut RegInfo) -> TargetCheck
-    ensures { λ r. ⌜ (numberOf r ≡ targetRefusal (regInfoOf (now (t .entry)))) × SameBelow 74752 (now (t .entry)) (now (t .exit)) × (regInfoOf (now (t .exit)) ≡ regInfoOf (now (t .entry))) × (r ≡ Accepted → Indexed (now (t .exit))) ⌝ }
+    ensures number { λ r. ⌜ numberOf r ≡ targetRefusal (regInfoOf (now (t .entry))) ⌝ }
+    ensures kept { λ r. ⌜ SameBelow 74752 (now (t .entry)) (now (t .exit)) ⌝ }
+    ensures target { λ r. ⌜ regInfoOf (now (t .exit)) ≡ regInfoOf (now (t .entry)) ⌝ }
+    ensures index { λ r. ⌜ (r ≡ Accepted → Indexed (now (t .exit))) ⌝ }
 {
     if outside_limits(t) {
         return TargetCheck::OutsideLimits;

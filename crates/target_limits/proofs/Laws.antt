@@ -1,39 +1,15 @@
 -- Laws of tests and lists, as the loops over a target use them.
-use Prim.Native.Nat.{ℕ, zero, suc, _+_, _*_, _<_, _≤_}
-use mathlib.Core.Path.{_≡_, refl, sym, ap, _∙_}
+use Prim.Native.Nat.{ℕ, _+_, _*_, _<_}
+use mathlib.Core.Path.{_≡_, sym, ap, _∙_}
 use mathlib.Core.Bool.{Bool, true, false}
 use mathlib.Core.List.{List, _∷_}
-use native.Mathlib.Omega.{arith}
-use borrow.Author.Tests.{eq-eqb, ne-eqb, eqb-true, eqb-false}
-use lib.Dec.{eqb}
-use lib.ListN.{length, getD}
-use Rattle.entity.specs.Logic.{and, or, no, any, all, has, twice, indices, cells}
-use Rattle.reginfo.specs.RegInfo.{RegInfo, numRegs, numClasses, regUnits, classMembers, allocationOrder}
+use borrow.Author.Tests.{eq-eqb, ne-eqb}
+use lib.ListN.{length}
+use Rattle.entity.specs.Logic.{any, all, has, twice, cells}
+use Rattle.entity.proofs.Laws.{and-true}
+use Rattle.reginfo.specs.RegInfo.{numRegs, numClasses, regUnits, classMembers, allocationOrder}
 use Rattle.reginfo.specs.Table.{regInfoOf}
 use Rattle.reginfo.proofs.Table.{units-are, units-length, members-are, members-length, order-is, order-length}
-
--- the parts of a test
-pub and-left : (a b : Bool) → and a b ≡ true → a ≡ true
-and-left true b h = refl
-and-left false b h = h
-
-pub and-right : (a b : Bool) → and a b ≡ true → b ≡ true
-and-right true b h = h
-and-right false true h = refl
-and-right false false h = h
-
-pub or-left : (a b : Bool) → or a b ≡ false → a ≡ false
-or-left true b h = h
-or-left false b h = refl
-
-pub or-right : (a b : Bool) → or a b ≡ false → b ≡ false
-or-right true true h = h
-or-right true false h = refl
-or-right false b h = h
-
-pub no-false : (a : Bool) → no a ≡ false → a ≡ true
-no-false true h = refl
-no-false false h = sym h
 
 module _ {A : Type 0} (p : A → Bool) where
   -- the first element passes the test, or does not
@@ -56,11 +32,11 @@ module _ {A : Type 0} (p : A → Bool) where
   -- every element passes the test, so the first and the others do
   pub all-first : {l m : List A} {x : A} → l ≡ x ∷ m → all p l ≡ true → p x ≡ true
   unfolding all
-  all-first {l} {m} {x} e h = and-left (p x) (all p m) (rw e at h)
+  all-first {l} {m} {x} e h = and-true (p x) (all p m) (rw e at h) .0
 
   pub all-rest : {l m : List A} {x : A} → l ≡ x ∷ m → all p l ≡ true → all p m ≡ true
   unfolding all
-  all-rest {l} {m} {x} e h = and-right (p x) (all p m) (rw e at h)
+  all-rest {l} {m} {x} e h = and-true (p x) (all p m) (rw e at h) .1
 
 -- x is listed first, or not
 pub has-here : {x y : ℕ} {l m : List ℕ} → l ≡ y ∷ m → x ≡ y → has x l ≡ true
@@ -79,16 +55,6 @@ twice-here e h = rw (e, h)
 pub twice-on : {x : ℕ} {l m : List ℕ} → l ≡ x ∷ m → has x m ≡ false → twice l ≡ twice m
 unfolding twice
 twice-on e h = rw (e, h)
-
--- no index passes the test, so k does not
-pub none-at : (p : ℕ → Bool) (i n k : ℕ) → any p (indices i n) ≡ false → i ≤ k → k < i + n → p k ≡ false
-unfolding any indices
-none-at p i zero k h l m = absurd (omega arith)
-none-at p i (suc n) k h l m = go (eqb i k) refl (λ d. none-at p (i + 1) n k (or-right (p i) (any p (indices (i + 1) n)) h) (omega arith) (omega arith))
-  where
-    go : (b : Bool) → eqb i k ≡ b → ((i ≡ k → ⊥) → p k ≡ false) → p k ≡ false
-    go true e f = ap p (sym (eqb-true i k e)) ∙ or-left (p i) (any p (indices (i + 1) n)) h
-    go false e f = f (eqb-false i k e)
 
 -- the lists of a target as cells of its table
 module _ (t : List ℕ) where

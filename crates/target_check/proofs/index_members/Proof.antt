@@ -1,11 +1,11 @@
 -- The members before p are in the index, and nothing below it has changed.
 use Prim.Native.Nat.{_+_, _-_, _*_, _≤_, _<_}
 use mathlib.Core.Path.{_≡_, refl, sym, ap, _∙_}
-use mathlib.Core.Bool.{true≢false}
+use mathlib.Core.Bool.{true, true≢false}
 use native.Mathlib.Omega.{arith}
 use borrow.Author.Needs.{needs}
 use lib.ListN.{length, getD, length-set}
-use Rattle.entity.specs.Logic.{twice}
+use Rattle.entity.specs.Logic.{has, twice, cells}
 use Rattle.reginfo.specs.RegInfo.{classMembers}
 use Rattle.reginfo.specs.Table.{regInfoOf, IndexedAt}
 use Rattle.target_limits.proofs.Laws.{members-cells}
@@ -65,8 +65,8 @@ stands-before-requires c κs = (class-low (c .before .before), omega (arith, few
 
 returns : tie.Need-returns Inv-loop μ-loop
 returns c =
-    let same = same-cells (c .before .before .before .before .before .before .before .before .before .before .before .before .args .t .now) (c .before .before .before .before .before .loop .t) (74752 + (c .before .before .before .before .before .before .before .before .before .before .before .before .args .c .0) * 512) (9216 + (c .before .before .before .before .before .before .before .before .before .before .before .before .args .c .0) * 512) (c .before .before .before .before .before .loop .p) (c .before .before .before .before .before .loop .inv .2) (omega (arith, few-members (c .before .before .before .before))) in
-    let h = rw (c .before .before .before .before .before .before .before .members-from .ensures) at (sym (c .before .stands-before .ensures) ∙ c .if1 .taken) in
+    let same : cells (c .before .before .before .before .before .loop .t) (9216 + (c .before .before .before .before .before .before .before .before .before .before .before .before .args .c .0) * 512) (c .before .before .before .before .before .loop .p) ≡ cells (c .before .before .before .before .before .before .before .before .before .before .before .before .args .t .now) (9216 + (c .before .before .before .before .before .before .before .before .before .before .before .before .args .c .0) * 512) (c .before .before .before .before .before .loop .p) = same-cells (c .before .before .before .before .before .before .before .before .before .before .before .before .args .t .now) (c .before .before .before .before .before .loop .t) (74752 + (c .before .before .before .before .before .before .before .before .before .before .before .before .args .c .0) * 512) (9216 + (c .before .before .before .before .before .before .before .before .before .before .before .before .args .c .0) * 512) (c .before .before .before .before .before .loop .p) (c .before .before .before .before .before .loop .inv .2) (omega (arith, few-members (c .before .before .before .before))) in
+    let h : has (getD (c .before .before .before .before .before .loop .t) (9216 + (c .before .before .before .before .before .before .before .before .before .before .before .before .args .c .0) * 512 + c .before .before .before .before .before .loop .p) 0) (cells (c .before .before .before .before .before .loop .t) (9216 + (c .before .before .before .before .before .before .before .before .before .before .before .before .args .c .0) * 512) (c .before .before .before .before .before .loop .p)) ≡ true = rw (c .before .before .before .before .before .before .before .members-from .ensures) at (sym (c .before .stands-before .ensures) ∙ c .if1 .taken) in
     ( sym (ap twice (members-cells (c .before .before .before .before .before .before .before .before .before .before .before .before .args .t .now) (c .before .before .before .before .before .before .before .before .before .before .before .before .args .c .0) (c .before .before .before .before .before .before .before .before .before .before .before .before .pre .1)) ∙ again-twice (c .before .before .before .before .before .before .before .before .before .before .before .before .args .t .now) (9216 + (c .before .before .before .before .before .before .before .before .before .before .before .before .args .c .0) * 512) (length (classMembers (regInfoOf (c .before .before .before .before .before .before .before .before .before .before .before .before .args .t .now)) (c .before .before .before .before .before .before .before .before .before .before .before .before .args .c .0))) (c .before .before .before .before .before .loop .p) (in-list (c .before .before .before .before)) (rw (unchanged (c .before .before .before .before), same) at h))
     , c .before .before .before .before .before .loop .inv .2
     , λ e. absurd (true≢false e) )

@@ -1,14 +1,11 @@
+-- The low end first.
 use borrow.Author.Tests.{le-leb, lt-leb}
 use Rattle.target_limits.proofs.within.Statement.{statement}
 use Rattle.target_limits.proofs.within.Tie as tie
-use Rattle.target_limits.proofs.within.Reads as reads
-use Rattle.target_limits.proofs.within.Lts as lts
 
--- src/lib.rt:55:9
 returns : tie.Need-returns
 returns c = rw (lt-leb _ _ (c .if1 .taken))
 
--- src/lib.rt:51:1
 returns-2 : tie.Need-returns-2
 returns-2 c = rw (le-leb _ _ (c .if1 .left))
 
