@@ -1,10 +1,24 @@
 // 01, The target: a lent table of any numbers is accepted, or refused with the number of the first rule that it breaks.
 // The check writes the index of each class's members, and no other cell.
-use entity::{PhysReg, RegClass, narrow, wide};
-use reginfo::{RegInfo, num_classes, num_members, num_reg_units, num_regs, order_len};
-use target_limits::{cells_twice, members_from, order_from, outside_limits, units_from};
-use target_rules::{foreign_member, shared_memory, unequal_widths, unfit_class};
-
+use entity::PhysReg;
+use entity::RegClass;
+use entity::narrow;
+use entity::wide;
+use reginfo::RegInfo;
+use reginfo::num_classes;
+use reginfo::num_members;
+use reginfo::num_reg_units;
+use reginfo::num_regs;
+use reginfo::order_len;
+use target_limits::cells_twice;
+use target_limits::members_from;
+use target_limits::order_from;
+use target_limits::outside_limits;
+use target_limits::units_from;
+use target_rules::foreign_member;
+use target_rules::shared_memory;
+use target_rules::unequal_widths;
+use target_rules::unfit_class;
 ghost use mathlib.Core.Path.{_≡_};
 ghost use mathlib.Core.Bool.{true, false};
 ghost use mathlib.Core.List.{[], _∷_};

@@ -126,7 +126,8 @@ module _ (t : RegInfo) (h : outsideLimits t ≡ false) where
 -- a table whose index is right, over a target within the limits
 pub members-known : (t : List ℕ) → outsideLimits (regInfoOf t) ≡ false → Indexed t → (c : ℕ) → c < numClasses (regInfoOf t) → KnownMembers t c
 members-known t h x c k =
-    record
-      { known = class-known (regInfoOf t) h c k
-      ; few = list-few (regInfoOf t) (classMembers (regInfoOf t) c) (members-listed (regInfoOf t) h c k)
-      ; indexed = rw (members-length t c k) (x c (rw (classes-count t) at k)) }
+    record {
+      known = class-known (regInfoOf t) h c k;
+      few = list-few (regInfoOf t) (classMembers (regInfoOf t) c) (members-listed (regInfoOf t) h c k);
+      indexed = rw (members-length t c k) (x c (rw (classes-count t) at k));
+    }

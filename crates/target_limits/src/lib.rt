@@ -1,7 +1,21 @@
 // 01, The target: its limits, tested over a lent table of any numbers. Each test is a condition of reginfo's specs/Refused.antt.
-use entity::{PhysReg, RegBank, RegClass, wide};
-use reginfo::{RegInfo, bank_for_class, bank_for_reg, num_banks, num_classes, num_members, num_reg_units, num_regs, num_units, order_len, spillslot_size, stack_to_stack_class, top_level_class};
-
+use entity::PhysReg;
+use entity::RegBank;
+use entity::RegClass;
+use entity::wide;
+use reginfo::RegInfo;
+use reginfo::bank_for_class;
+use reginfo::bank_for_reg;
+use reginfo::num_banks;
+use reginfo::num_classes;
+use reginfo::num_members;
+use reginfo::num_reg_units;
+use reginfo::num_regs;
+use reginfo::num_units;
+use reginfo::order_len;
+use reginfo::spillslot_size;
+use reginfo::stack_to_stack_class;
+use reginfo::top_level_class;
 ghost use mathlib.Core.Path.{_≡_};
 ghost use mathlib.Core.Bool.{true, false};
 ghost use Prim.Native.Nat.{ℕ, _<_, _≤_, _+_, _*_};

@@ -1,8 +1,25 @@
 // 01, The target: its rules 4 to 7, tested over a lent table whose target is within the limits.
-use entity::{PhysReg, RegBank, RegClass};
-use reginfo::{RegInfo, bank_for_class, bank_for_reg, class_has_reg, class_includes_spillslots, is_memory_reg, num_banks, num_classes, num_members, num_reg_units, num_regs, order_last, order_len, regs_overlap, stack_to_stack_class, top_level_class};
-use target_limits::{members_from, order_from};
-
+use entity::PhysReg;
+use entity::RegBank;
+use entity::RegClass;
+use reginfo::RegInfo;
+use reginfo::bank_for_class;
+use reginfo::bank_for_reg;
+use reginfo::class_has_reg;
+use reginfo::class_includes_spillslots;
+use reginfo::is_memory_reg;
+use reginfo::num_banks;
+use reginfo::num_classes;
+use reginfo::num_members;
+use reginfo::num_reg_units;
+use reginfo::num_regs;
+use reginfo::order_last;
+use reginfo::order_len;
+use reginfo::regs_overlap;
+use reginfo::stack_to_stack_class;
+use reginfo::top_level_class;
+use target_limits::members_from;
+use target_limits::order_from;
 ghost use mathlib.Core.Path.{_≡_};
 ghost use mathlib.Core.Bool.{true, false};
 ghost use Prim.Native.Nat.{ℕ, _<_, _≤_, _+_};

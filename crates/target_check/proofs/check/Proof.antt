@@ -28,18 +28,20 @@ listed-twice-requires c κs = limits (c .before)
 
 returns-2 : tie.Need-returns-2
 unfolding targetRefusal firstOf
-returns-2 c =
-    ( rw (limits (c .before .before .before), sym (c .before .listed-twice .ensures .0) ∙ c .if2 .taken)
-    , (c .before .listed-twice .ensures .1, (same (c .before), λ e. absurd (let z : _≡_ {A = ℕ} 0 1 = cc in omega arith))) )
+returns-2 c = (
+  rw (limits (c .before .before .before), sym (c .before .listed-twice .ensures .0) ∙ c .if2 .taken),
+  (c .before .listed-twice .ensures .1, (same (c .before), λ e. absurd (let z : _≡_ {A = ℕ} 0 1 = cc in omega arith))),
+)
 
 broken-rule-requires : tie.Need-broken-rule-requires
 broken-rule-requires c κs = (rw (same (c .before .before)) (limits (c .before .before .before .before)), c .before .before .listed-twice .ensures .2 (c .before .if2 .left))
 
 returns-3 : tie.Need-returns-3
 unfolding targetRefusal firstOf
-returns-3 c =
-    ( rw (limits (c .before .before .before .before .before), sym (c .before .before .before .listed-twice .ensures .0) ∙ c .before .before .if2 .left) (rw (same (c .before .before .before)) at (c .broken-rule .ensures))
-    , (c .before .before .before .listed-twice .ensures .1, (same (c .before .before .before), λ e. c .before .before .before .listed-twice .ensures .2 (c .before .before .if2 .left))) )
+returns-3 c = (
+  rw (limits (c .before .before .before .before .before), sym (c .before .before .before .listed-twice .ensures .0) ∙ c .before .before .if2 .left) (rw (same (c .before .before .before)) at (c .broken-rule .ensures)),
+  (c .before .before .before .listed-twice .ensures .1, (same (c .before .before .before), λ e. c .before .before .before .listed-twice .ensures .2 (c .before .before .if2 .left))),
+)
 
 pub check-spec : {M : Type 1} → statement M
 check-spec =

@@ -39,10 +39,11 @@ class-twice-requires : tie.Need-class-twice-requires Inv-loop μ-loop
 class-twice-requires c κs = rw (target (c .before)) (c .before .before .before .before .before .pre, omega arith)
 
 returns : tie.Need-returns Inv-loop μ-loop
-returns c =
-    ( sym (c .before .before .before .before .loop .inv .0 ∙ any-here (bad (c .before .before .before .before .before .before .before .args .t .now)) (indices-step (c .before .before .before .before .loop .i) (c .before .before .before .before .loop .left) (c .before .before .before .loop-test .taken)) (sym (rw (target (c .before .before .before)) at (c .before .class-twice .ensures .0)) ∙ c .if1 .taken))
-    , (λ k l. c .before .class-twice .ensures .1 k (omega arith) ∙ c .before .before .before .before .loop .inv .2 k l)
-    , λ e. absurd (true≢false e) )
+returns c = (
+  sym (c .before .before .before .before .loop .inv .0 ∙ any-here (bad (c .before .before .before .before .before .before .before .args .t .now)) (indices-step (c .before .before .before .before .loop .i) (c .before .before .before .before .loop .left) (c .before .before .before .loop-test .taken)) (sym (rw (target (c .before .before .before)) at (c .before .class-twice .ensures .0)) ∙ c .if1 .taken)),
+  (λ k l. c .before .class-twice .ensures .1 k (omega arith) ∙ c .before .before .before .before .loop .inv .2 k l),
+  λ e. absurd (true≢false e),
+)
 
 add-i : tie.Need-add-i Inv-loop μ-loop
 add-i c = omega (arith, classes-few (regInfoOf (c .before .before .before .before .before .before .before .args .t .now)) (counts-of (regInfoOf (c .before .before .before .before .before .before .before .args .t .now)) (c .before .before .before .before .before .before .before .pre)))
@@ -54,11 +55,12 @@ loop-less : tie.Need-loop-less Inv-loop μ-loop
 loop-less c = search needs
 
 loop-again : tie.Need-loop-again Inv-loop μ-loop
-loop-again c =
-    ( c .before .before .before .before .loop .inv .0 ∙ any-on (bad (c .before .before .before .before .before .before .before .args .t .now)) (indices-step (c .before .before .before .before .loop .i) (c .before .before .before .before .loop .left) (c .before .before .before .loop-test .taken)) (sym (rw (target (c .before .before .before)) at (c .before .class-twice .ensures .0)) ∙ c .if1 .left)
-    , omega arith
-    , (λ k l. c .before .class-twice .ensures .1 k (omega arith) ∙ c .before .before .before .before .loop .inv .2 k l)
-    , index-more (c .before .before .before .before .before .before .before .args .t .now) (c .before .before .before .before .loop .t) (c .before .before .before .before .before .before .before .pre) (c .before .before .before .before .loop .inv .2) (c .before .class-twice .last .0) (c .before .before .before .before .loop .i) (omega arith) (c .before .class-twice .ensures .1) (c .before .before .before .before .loop .inv .3) (rw (target (c .before .before .before)) at (c .before .class-twice .ensures .2 (c .if1 .left))) )
+loop-again c = (
+  c .before .before .before .before .loop .inv .0 ∙ any-on (bad (c .before .before .before .before .before .before .before .args .t .now)) (indices-step (c .before .before .before .before .loop .i) (c .before .before .before .before .loop .left) (c .before .before .before .loop-test .taken)) (sym (rw (target (c .before .before .before)) at (c .before .class-twice .ensures .0)) ∙ c .if1 .left),
+  omega arith,
+  (λ k l. c .before .class-twice .ensures .1 k (omega arith) ∙ c .before .before .before .before .loop .inv .2 k l),
+  index-more (c .before .before .before .before .before .before .before .args .t .now) (c .before .before .before .before .loop .t) (c .before .before .before .before .before .before .before .pre) (c .before .before .before .before .loop .inv .2) (c .before .class-twice .last .0) (c .before .before .before .before .loop .i) (omega arith) (c .before .class-twice .ensures .1) (c .before .before .before .before .loop .inv .3) (rw (target (c .before .before .before)) at (c .before .class-twice .ensures .2 (c .if1 .left))),
+)
 
 returns-2 : tie.Need-returns-2 Inv-loop μ-loop
 unfolding any indices

@@ -66,10 +66,11 @@ stands-before-requires c κs = (class-low (c .before .before), omega (arith, few
 returns : tie.Need-returns Inv-loop μ-loop
 returns c =
     let same : cells (c .before .before .before .before .before .loop .t) (9216 + (c .before .before .before .before .before .before .before .before .before .before .before .before .args .c .0) * 512) (c .before .before .before .before .before .loop .p) ≡ cells (c .before .before .before .before .before .before .before .before .before .before .before .before .args .t .now) (9216 + (c .before .before .before .before .before .before .before .before .before .before .before .before .args .c .0) * 512) (c .before .before .before .before .before .loop .p) = same-cells (c .before .before .before .before .before .before .before .before .before .before .before .before .args .t .now) (c .before .before .before .before .before .loop .t) (74752 + (c .before .before .before .before .before .before .before .before .before .before .before .before .args .c .0) * 512) (9216 + (c .before .before .before .before .before .before .before .before .before .before .before .before .args .c .0) * 512) (c .before .before .before .before .before .loop .p) (c .before .before .before .before .before .loop .inv .2) (omega (arith, few-members (c .before .before .before .before))) in
-    let h : has (getD (c .before .before .before .before .before .loop .t) (9216 + (c .before .before .before .before .before .before .before .before .before .before .before .before .args .c .0) * 512 + c .before .before .before .before .before .loop .p) 0) (cells (c .before .before .before .before .before .loop .t) (9216 + (c .before .before .before .before .before .before .before .before .before .before .before .before .args .c .0) * 512) (c .before .before .before .before .before .loop .p)) ≡ true = rw (c .before .before .before .before .before .before .before .members-from .ensures) at (sym (c .before .stands-before .ensures) ∙ c .if1 .taken) in
-    ( sym (ap twice (members-cells (c .before .before .before .before .before .before .before .before .before .before .before .before .args .t .now) (c .before .before .before .before .before .before .before .before .before .before .before .before .args .c .0) (c .before .before .before .before .before .before .before .before .before .before .before .before .pre .1)) ∙ again-twice (c .before .before .before .before .before .before .before .before .before .before .before .before .args .t .now) (9216 + (c .before .before .before .before .before .before .before .before .before .before .before .before .args .c .0) * 512) (length (classMembers (regInfoOf (c .before .before .before .before .before .before .before .before .before .before .before .before .args .t .now)) (c .before .before .before .before .before .before .before .before .before .before .before .before .args .c .0))) (c .before .before .before .before .before .loop .p) (in-list (c .before .before .before .before)) (rw (unchanged (c .before .before .before .before), same) at h))
-    , c .before .before .before .before .before .loop .inv .2
-    , λ e. absurd (true≢false e) )
+    let h : has (getD (c .before .before .before .before .before .loop .t) (9216 + (c .before .before .before .before .before .before .before .before .before .before .before .before .args .c .0) * 512 + c .before .before .before .before .before .loop .p) 0) (cells (c .before .before .before .before .before .loop .t) (9216 + (c .before .before .before .before .before .before .before .before .before .before .before .before .args .c .0) * 512) (c .before .before .before .before .before .loop .p)) ≡ true = rw (c .before .before .before .before .before .before .before .members-from .ensures) at (sym (c .before .stands-before .ensures) ∙ c .if1 .taken) in (
+      sym (ap twice (members-cells (c .before .before .before .before .before .before .before .before .before .before .before .before .args .t .now) (c .before .before .before .before .before .before .before .before .before .before .before .before .args .c .0) (c .before .before .before .before .before .before .before .before .before .before .before .before .pre .1)) ∙ again-twice (c .before .before .before .before .before .before .before .before .before .before .before .before .args .t .now) (9216 + (c .before .before .before .before .before .before .before .before .before .before .before .before .args .c .0) * 512) (length (classMembers (regInfoOf (c .before .before .before .before .before .before .before .before .before .before .before .before .args .t .now)) (c .before .before .before .before .before .before .before .before .before .before .before .before .args .c .0))) (c .before .before .before .before .before .loop .p) (in-list (c .before .before .before .before)) (rw (unchanged (c .before .before .before .before), same) at h)),
+      c .before .before .before .before .before .loop .inv .2,
+      λ e. absurd (true≢false e),
+    )
 
 narrow-requires : tie.Need-narrow-requires Inv-loop μ-loop
 narrow-requires c κs = omega (arith, few-members (c .before .before .before .before))
@@ -96,20 +97,22 @@ loop-again : tie.Need-loop-again Inv-loop μ-loop
 loop-again c =
     let new = rw (c .before .before .before .before .before .before .before .before .before .members-from .ensures) at (sym (c .before .before .before .stands-before .ensures) ∙ c .before .before .if1 .left) in
     let r = getD (c .before .before .before .before .before .before .before .loop .t) (9216 + (c .before .before .before .before .before .before .before .before .before .before .before .before .before .before .args .c .0) * 512 + c .before .before .before .before .before .before .before .loop .p) 0 in
-    rw (c .before .narrow .ensures, c .wide .ensures .0, c .before .before .before .before .before .before .before .before .index-from .ensures, c .before .before .before .before .before .before .before .before .before .members-from .ensures)
-    ( omega arith
-    , length-set (c .before .before .before .before .before .before .before .loop .t) (74752 + (c .before .before .before .before .before .before .before .before .before .before .before .before .before .before .args .c .0) * 512 + r) (c .before .before .before .before .before .before .before .loop .p) ∙ c .before .before .before .before .before .before .before .loop .inv .1
-    , (λ i l. kept (c .before .before .before .before .before .before .before .loop .t) (c .before .before .before .before .before .before .before .before .before .before .before .before .before .before .args .c .0) (c .before .before .before .before .before .before .before .loop .p) r (c .before .before .before .before .before .before .before .loop .inv .1) (class-low (c .before .before .before .before .before .before)) (few-members (c .before .before .before .before .before .before)) refl (reg-low (c .before .before .before .before .before .before)) (c .before .before .before .before .before .before .before .loop .inv .3) new i l ∙ c .before .before .before .before .before .before .before .loop .inv .2 i l)
-    , indexed-more (c .before .before .before .before .before .before .before .loop .t) (c .before .before .before .before .before .before .before .before .before .before .before .before .before .before .args .c .0) (c .before .before .before .before .before .before .before .loop .p) r (c .before .before .before .before .before .before .before .loop .inv .1) (class-low (c .before .before .before .before .before .before)) (few-members (c .before .before .before .before .before .before)) refl (reg-low (c .before .before .before .before .before .before)) (c .before .before .before .before .before .before .before .loop .inv .3) new )
+    rw (c .before .narrow .ensures, c .wide .ensures .0, c .before .before .before .before .before .before .before .before .index-from .ensures, c .before .before .before .before .before .before .before .before .before .members-from .ensures) (
+      omega arith,
+      length-set (c .before .before .before .before .before .before .before .loop .t) (74752 + (c .before .before .before .before .before .before .before .before .before .before .before .before .before .before .args .c .0) * 512 + r) (c .before .before .before .before .before .before .before .loop .p) ∙ c .before .before .before .before .before .before .before .loop .inv .1,
+      (λ i l. kept (c .before .before .before .before .before .before .before .loop .t) (c .before .before .before .before .before .before .before .before .before .before .before .before .before .before .args .c .0) (c .before .before .before .before .before .before .before .loop .p) r (c .before .before .before .before .before .before .before .loop .inv .1) (class-low (c .before .before .before .before .before .before)) (few-members (c .before .before .before .before .before .before)) refl (reg-low (c .before .before .before .before .before .before)) (c .before .before .before .before .before .before .before .loop .inv .3) new i l ∙ c .before .before .before .before .before .before .before .loop .inv .2 i l),
+      indexed-more (c .before .before .before .before .before .before .before .loop .t) (c .before .before .before .before .before .before .before .before .before .before .before .before .before .before .args .c .0) (c .before .before .before .before .before .before .before .loop .p) r (c .before .before .before .before .before .before .before .loop .inv .1) (class-low (c .before .before .before .before .before .before)) (few-members (c .before .before .before .before .before .before)) refl (reg-low (c .before .before .before .before .before .before)) (c .before .before .before .before .before .before .before .loop .inv .3) new,
+    )
 
 returns-2 : tie.Need-returns-2 Inv-loop μ-loop
 returns-2 c =
     let e : c .before .loop .p ≡ length (classMembers (regInfoOf (c .before .before .before .before .before .before .before .before .args .t .now)) (c .before .before .before .before .before .before .before .before .args .c .0)) = let z : c .before .loop .p ≡ c .before .before .before .before .num-members .result = omega arith in z ∙ c .before .before .before .before .num-members .ensures in
     let x : IndexedAt (c .before .loop .t) (c .before .before .before .before .before .before .before .before .args .c .0) (length (classMembers (regInfoOf (c .before .before .before .before .before .before .before .before .args .t .now)) (c .before .before .before .before .before .before .before .before .args .c .0))) = rw e at (c .before .loop .inv .3) in
-    let same = same-cells (c .before .before .before .before .before .before .before .before .args .t .now) (c .before .loop .t) (74752 + (c .before .before .before .before .before .before .before .before .args .c .0) * 512) (9216 + (c .before .before .before .before .before .before .before .before .args .c .0) * 512) (length (classMembers (regInfoOf (c .before .before .before .before .before .before .before .before .args .t .now)) (c .before .before .before .before .before .before .before .before .args .c .0))) (c .before .loop .inv .2) (omega (arith, list-few (regInfoOf (c .before .before .before .before .before .before .before .before .args .t .now)) (classMembers (regInfoOf (c .before .before .before .before .before .before .before .before .args .t .now)) (c .before .before .before .before .before .before .before .before .args .c .0)) (members-listed (regInfoOf (c .before .before .before .before .before .before .before .before .args .t .now)) (c .before .before .before .before .before .before .before .before .pre .0) (c .before .before .before .before .before .before .before .before .args .c .0) (c .before .before .before .before .before .before .before .before .pre .1)))) in
-    ( sym (ap twice (members-cells (c .before .before .before .before .before .before .before .before .args .t .now) (c .before .before .before .before .before .before .before .before .args .c .0) (c .before .before .before .before .before .before .before .before .pre .1)) ∙ ap twice (sym same) ∙ distinct (c .before .loop .t) (c .before .before .before .before .before .before .before .before .args .c .0) (length (classMembers (regInfoOf (c .before .before .before .before .before .before .before .before .args .t .now)) (c .before .before .before .before .before .before .before .before .args .c .0))) x)
-    , c .before .loop .inv .2
-    , λ f. x )
+    let same = same-cells (c .before .before .before .before .before .before .before .before .args .t .now) (c .before .loop .t) (74752 + (c .before .before .before .before .before .before .before .before .args .c .0) * 512) (9216 + (c .before .before .before .before .before .before .before .before .args .c .0) * 512) (length (classMembers (regInfoOf (c .before .before .before .before .before .before .before .before .args .t .now)) (c .before .before .before .before .before .before .before .before .args .c .0))) (c .before .loop .inv .2) (omega (arith, list-few (regInfoOf (c .before .before .before .before .before .before .before .before .args .t .now)) (classMembers (regInfoOf (c .before .before .before .before .before .before .before .before .args .t .now)) (c .before .before .before .before .before .before .before .before .args .c .0)) (members-listed (regInfoOf (c .before .before .before .before .before .before .before .before .args .t .now)) (c .before .before .before .before .before .before .before .before .pre .0) (c .before .before .before .before .before .before .before .before .args .c .0) (c .before .before .before .before .before .before .before .before .pre .1)))) in (
+      sym (ap twice (members-cells (c .before .before .before .before .before .before .before .before .args .t .now) (c .before .before .before .before .before .before .before .before .args .c .0) (c .before .before .before .before .before .before .before .before .pre .1)) ∙ ap twice (sym same) ∙ distinct (c .before .loop .t) (c .before .before .before .before .before .before .before .before .args .c .0) (length (classMembers (regInfoOf (c .before .before .before .before .before .before .before .before .args .t .now)) (c .before .before .before .before .before .before .before .before .args .c .0))) x),
+      c .before .loop .inv .2,
+      λ f. x,
+    )
 
 pub index-members-spec : {M : Type 1} → statement M
 index-members-spec =

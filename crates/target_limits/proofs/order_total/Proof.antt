@@ -42,10 +42,11 @@ loop-less : tie.Need-loop-less Inv-loop μ-loop
 loop-less c = search needs
 
 loop-again : tie.Need-loop-again Inv-loop μ-loop
-loop-again c =
-    ( omega (arith, c .before .before .loop .inv .0, total-step (c .before .before .before .before .args .t .now) (c .before .before .loop .i) (c .before .before .loop .left) (c .before .loop-test .taken) (omega arith))
-    , omega arith
-    , omega (arith, order-few-at (regInfoOf (c .before .before .before .before .args .t .now)) (c .before .before .before .before .pre .1) (c .before .before .loop .i) (omega arith)) )
+loop-again c = (
+  omega (arith, c .before .before .loop .inv .0, total-step (c .before .before .before .before .args .t .now) (c .before .before .loop .i) (c .before .before .loop .left) (c .before .loop-test .taken) (omega arith)),
+  omega arith,
+  omega (arith, order-few-at (regInfoOf (c .before .before .before .before .args .t .now)) (c .before .before .before .before .pre .1) (c .before .before .loop .i) (omega arith)),
+)
 
 returns : tie.Need-returns Inv-loop μ-loop
 unfolding orderTotal indices

@@ -48,10 +48,11 @@ loop-less : tie.Need-loop-less Inv-loop μ-loop
 loop-less c = search needs
 
 loop-again : tie.Need-loop-again Inv-loop μ-loop
-loop-again c =
-    ( c .before .before .before .before .loop .inv .0 ∙ any-on (λ r. isMemoryReg (regInfoOf (c .before .before .before .before .before .args .t .now)) r) (cells-step (c .before .before .before .before .before .args .t .now) (c .before .before .before .before .loop .i) (c .before .before .before .before .loop .left) (c .before .before .before .loop-test .taken)) (sym (c .before .is-memory-reg .ensures) ∙ c .if1 .left)
-    , omega arith
-    , all-rest (λ x. ltb x (numRegs (regInfoOf (c .before .before .before .before .before .args .t .now)))) (cells-step (c .before .before .before .before .before .args .t .now) (c .before .before .before .before .loop .i) (c .before .before .before .before .loop .left) (c .before .before .before .loop-test .taken)) (c .before .before .before .before .loop .inv .2) )
+loop-again c = (
+  c .before .before .before .before .loop .inv .0 ∙ any-on (λ r. isMemoryReg (regInfoOf (c .before .before .before .before .before .args .t .now)) r) (cells-step (c .before .before .before .before .before .args .t .now) (c .before .before .before .before .loop .i) (c .before .before .before .before .loop .left) (c .before .before .before .loop-test .taken)) (sym (c .before .is-memory-reg .ensures) ∙ c .if1 .left),
+  omega arith,
+  all-rest (λ x. ltb x (numRegs (regInfoOf (c .before .before .before .before .before .args .t .now)))) (cells-step (c .before .before .before .before .before .args .t .now) (c .before .before .before .before .loop .i) (c .before .before .before .before .loop .left) (c .before .before .before .loop-test .taken)) (c .before .before .before .before .loop .inv .2),
+)
 
 returns-2 : tie.Need-returns-2 Inv-loop μ-loop
 unfolding any cells

@@ -17,10 +17,11 @@ num-members-requires : tie.Need-num-members-requires
 num-members-requires c κs = class-known (regInfoOf (c .before .before .args .t .now)) (c .before .before .pre .0) (c .before .before .args .c .0) (c .before .before .pre .1)
 
 regs-foreign-requires : tie.Need-regs-foreign-requires
-regs-foreign-requires c κs =
-    ( c .before .before .before .pre .0
-    , omega (arith, list-few (regInfoOf (c .before .before .before .args .t .now)) (classMembers (regInfoOf (c .before .before .before .args .t .now)) (c .before .before .before .args .c .0)) (members-listed (regInfoOf (c .before .before .before .args .t .now)) (c .before .before .before .pre .0) (c .before .before .before .args .c .0) (c .before .before .before .pre .1)), class-known (regInfoOf (c .before .before .before .args .t .now)) (c .before .before .before .pre .0) (c .before .before .before .args .c .0) (c .before .before .before .pre .1))
-    , rw (c .before .members-from .ensures, c .num-members .ensures, ← members-cells (c .before .before .before .args .t .now) (c .before .before .before .args .c .0) (c .before .before .before .pre .1)) (list-known (regInfoOf (c .before .before .before .args .t .now)) (classMembers (regInfoOf (c .before .before .before .args .t .now)) (c .before .before .before .args .c .0)) (members-listed (regInfoOf (c .before .before .before .args .t .now)) (c .before .before .before .pre .0) (c .before .before .before .args .c .0) (c .before .before .before .pre .1))) )
+regs-foreign-requires c κs = (
+  c .before .before .before .pre .0,
+  omega (arith, list-few (regInfoOf (c .before .before .before .args .t .now)) (classMembers (regInfoOf (c .before .before .before .args .t .now)) (c .before .before .before .args .c .0)) (members-listed (regInfoOf (c .before .before .before .args .t .now)) (c .before .before .before .pre .0) (c .before .before .before .args .c .0) (c .before .before .before .pre .1)), class-known (regInfoOf (c .before .before .before .args .t .now)) (c .before .before .before .pre .0) (c .before .before .before .args .c .0) (c .before .before .before .pre .1)),
+  rw (c .before .members-from .ensures, c .num-members .ensures, ← members-cells (c .before .before .before .args .t .now) (c .before .before .before .args .c .0) (c .before .before .before .pre .1)) (list-known (regInfoOf (c .before .before .before .args .t .now)) (classMembers (regInfoOf (c .before .before .before .args .t .now)) (c .before .before .before .args .c .0)) (members-listed (regInfoOf (c .before .before .before .args .t .now)) (c .before .before .before .pre .0) (c .before .before .before .args .c .0) (c .before .before .before .pre .1))),
+)
 
 returns : tie.Need-returns
 returns c = rw (c .before .before .before .bank-for-class .ensures, c .before .before .members-from .ensures, c .before .num-members .ensures, ← members-cells (c .before .before .before .before .args .t .now) (c .before .before .before .before .args .c .0) (c .before .before .before .before .pre .1)) at (c .regs-foreign .ensures)

@@ -32,10 +32,11 @@ order-len-requires c κs = class-known (regInfoOf (c .before .args .t .now)) (c 
 
 loop-holds : tie.Need-loop-holds Inv-loop μ-loop
 loop-holds c =
-    rw (c .before .order-from .ensures, c .order-len .ensures, ← order-cells (c .before .before .args .t .now) (c .before .before .args .c .0) (c .before .before .pre .1))
-    ( refl
-    , omega (arith, list-few (regInfoOf (c .before .before .args .t .now)) (allocationOrder (regInfoOf (c .before .before .args .t .now)) (c .before .before .args .c .0)) (order-listed (regInfoOf (c .before .before .args .t .now)) (c .before .before .pre .0) (c .before .before .args .c .0) (c .before .before .pre .1)), class-known (regInfoOf (c .before .before .args .t .now)) (c .before .before .pre .0) (c .before .before .args .c .0) (c .before .before .pre .1))
-    , list-known (regInfoOf (c .before .before .args .t .now)) (allocationOrder (regInfoOf (c .before .before .args .t .now)) (c .before .before .args .c .0)) (order-listed (regInfoOf (c .before .before .args .t .now)) (c .before .before .pre .0) (c .before .before .args .c .0) (c .before .before .pre .1)) )
+    rw (c .before .order-from .ensures, c .order-len .ensures, ← order-cells (c .before .before .args .t .now) (c .before .before .args .c .0) (c .before .before .pre .1)) (
+      refl,
+      omega (arith, list-few (regInfoOf (c .before .before .args .t .now)) (allocationOrder (regInfoOf (c .before .before .args .t .now)) (c .before .before .args .c .0)) (order-listed (regInfoOf (c .before .before .args .t .now)) (c .before .before .pre .0) (c .before .before .args .c .0) (c .before .before .pre .1)), class-known (regInfoOf (c .before .before .args .t .now)) (c .before .before .pre .0) (c .before .before .args .c .0) (c .before .before .pre .1)),
+      list-known (regInfoOf (c .before .before .args .t .now)) (allocationOrder (regInfoOf (c .before .before .args .t .now)) (c .before .before .args .c .0)) (order-listed (regInfoOf (c .before .before .args .t .now)) (c .before .before .pre .0) (c .before .before .args .c .0) (c .before .before .pre .1)),
+    )
 
 mul-t6 : tie.Need-mul-t6 Inv-loop μ-loop
 mul-t6 c = search needs
@@ -59,10 +60,11 @@ loop-less : tie.Need-loop-less Inv-loop μ-loop
 loop-less c = search needs
 
 loop-again : tie.Need-loop-again Inv-loop μ-loop
-loop-again c =
-    ( c .before .before .before .before .loop .inv .0 ∙ any-on (noMember (regInfoOf (c .before .before .before .before .before .before .before .args .t .now)) (c .before .before .before .before .before .before .before .args .c .0)) (cells-step (c .before .before .before .before .before .before .before .args .t .now) (c .before .before .before .before .loop .i) (c .before .before .before .before .loop .left) (c .before .before .before .loop-test .taken)) (ap no (sym (c .before .class-has-reg .ensures) ∙ not-false _ (c .if1 .left)))
-    , omega arith
-    , all-rest (λ x. ltb x (numRegs (regInfoOf (c .before .before .before .before .before .before .before .args .t .now)))) (cells-step (c .before .before .before .before .before .before .before .args .t .now) (c .before .before .before .before .loop .i) (c .before .before .before .before .loop .left) (c .before .before .before .loop-test .taken)) (c .before .before .before .before .loop .inv .2) )
+loop-again c = (
+  c .before .before .before .before .loop .inv .0 ∙ any-on (noMember (regInfoOf (c .before .before .before .before .before .before .before .args .t .now)) (c .before .before .before .before .before .before .before .args .c .0)) (cells-step (c .before .before .before .before .before .before .before .args .t .now) (c .before .before .before .before .loop .i) (c .before .before .before .before .loop .left) (c .before .before .before .loop-test .taken)) (ap no (sym (c .before .class-has-reg .ensures) ∙ not-false _ (c .if1 .left))),
+  omega arith,
+  all-rest (λ x. ltb x (numRegs (regInfoOf (c .before .before .before .before .before .before .before .args .t .now)))) (cells-step (c .before .before .before .before .before .before .before .args .t .now) (c .before .before .before .before .loop .i) (c .before .before .before .before .loop .left) (c .before .before .before .loop-test .taken)) (c .before .before .before .before .loop .inv .2),
+)
 
 returns-2 : tie.Need-returns-2 Inv-loop μ-loop
 unfolding any cells
