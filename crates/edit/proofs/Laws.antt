@@ -2,14 +2,13 @@
 use Prim.Native.Nat.{ℕ, zero, suc, _+_, _-_, _*_, _/_, _%_, _<_, _≤_}
 use mathlib.Core.Path.{_≡_, refl, sym, ap, _∙_}
 use mathlib.Core.List.{List, [], _∷_, _++_, map, append-assoc}
-use mathlib.Core.Option.{Option, none, some}
+use mathlib.Core.Option.{some}
 use native.Mathlib.Omega.{arith}
 use native.Mathlib.Numerals.{add-one}
-use lib.ListN.{set, getD, length, take, drop, length-set, take-append-drop}
+use lib.ListN.{set, getD, length, take, drop, length-set}
 use lib.Seq.{getD-set-same, getD-set-other, drop-set-lt, take-suc-set}
-use lib.Dec.{eqb}
 use borrow.Author.Tests.{eq-eqb}
-use Rattle.entity.specs.Place.{Place, reg, slot, codeOf, placeAt}
+use Rattle.entity.specs.Place.{codeOf, placeAt}
 use Rattle.entity.proofs.Laws.{place-there, code-there}
 use Rattle.rules.specs.Edit.{Edit, Move, Rematerialize, EmergencySpill, EmergencyReload}
 use Rattle.edit.specs.Word.{packed, kindIn, toIn, fromIn, valueIn, wordOf, editOf, Small, InRange}
@@ -79,14 +78,22 @@ unfolding newestFirst editsOf
 cleared t e = (rw e, rw e, e)
 
 -- a word at the first free cell, and the count one more
-pub pushed : (t : List ℕ) (n w : ℕ) → length t ≡ 1025 → n ≡ countOf t → n < 1024 → (wordsOf (set (set t (n + 1) w) 0 (n + 1)) ≡ w ∷ wordsOf t) × (countOf (set (set t (n + 1) w) 0 (n + 1)) ≡ countOf t + 1)
-pushed t n w len e h =
-    let count : countOf (set (set t (n + 1) w) 0 (n + 1)) ≡ n + 1 = getD-set-same (set t (n + 1) w) 0 (n + 1) 0 (simp length-set (omega arith)) in
-    let kept : (j : ℕ) → 0 < j → getD (set (set t (n + 1) w) 0 (n + 1)) j 0 ≡ getD (set t (n + 1) w) j 0 = λ j l. getD-set-other (set t (n + 1) w) 0 j (n + 1) 0 (λ z. omega arith) in
-    let top : getD (set (set t (n + 1) w) 0 (n + 1)) (n + 1) 0 ≡ w = kept (n + 1) (omega arith) ∙ getD-set-same t (n + 1) w 0 (omega arith) in
-    let rest : newestFirst (set (set t (n + 1) w) 0 (n + 1)) n ≡ newestFirst t n = newest-kept t _ n (λ j a b. kept j a ∙ getD-set-other t (n + 1) j w 0 (λ z. omega arith)) in
-    let m : n + 1 - 1 ≡ n = omega arith in
-    (ap (newestFirst (set (set t (n + 1) w) 0 (n + 1))) count ∙ newest-step _ (n + 1) (omega arith) ∙ rw (top, m, rest, e), count ∙ rw e)
+module _ (t : List ℕ) (w : ℕ) (len : length t ≡ 1025) (few : countOf t < 1024) where
+  abbrev after : List ℕ
+  after = set (set t (countOf t + 1) w) 0 (countOf t + 1)
+
+  above : (j : ℕ) → 0 < j → getD after j 0 ≡ getD (set t (countOf t + 1) w) j 0
+  above j h = getD-set-other (set t (countOf t + 1) w) 0 j (countOf t + 1) 0 (λ e. omega arith)
+
+  pub pushed-count : countOf after ≡ countOf t + 1
+  pushed-count = getD-set-same (set t (countOf t + 1) w) 0 (countOf t + 1) 0 (simp length-set (omega arith))
+
+  pub pushed-words : wordsOf after ≡ w ∷ wordsOf t
+  pushed-words =
+      let top : getD after (countOf t + 1) 0 ≡ w = above (countOf t + 1) (omega arith) ∙ getD-set-same t (countOf t + 1) w 0 (omega arith) in
+      let m : countOf t + 1 - 1 ≡ countOf t = omega arith in
+      let rest : newestFirst after (countOf t) ≡ wordsOf t = newest-kept t after (countOf t) (λ j a b. above j a ∙ getD-set-other t (countOf t + 1) j w 0 (λ e. omega arith)) in
+      ap (newestFirst after) pushed-count ∙ newest-step after (countOf t + 1) (omega arith) ∙ rw (top, m, rest)
 
 -- an edit's word pushed is that edit pushed
 pub as-edit : (t u : List ℕ) (w : ℕ) (e : Edit) → InRange e → w ≡ wordOf e → wordsOf u ≡ w ∷ wordsOf t → editsOf u ≡ e ∷ editsOf t
@@ -100,7 +107,7 @@ move-range to from v s = rw (code-there to, code-there from) s
 pub remat-range : (to v : ℕ) → Small to 0 v → InRange (Rematerialize (placeAt to) v)
 remat-range to v s = rw (code-there to) s
 
--- ---- handing out: the list with `left` words put in from `at` on
+-- one word more handed out
 pub handed : (t l : List ℕ) (n at left : ℕ) → 0 < left → at < n → at < length l → take at l ++ (newestFirst t left ++ drop n l) ≡ take (at + 1) (set l at (getD t left 0)) ++ (newestFirst t (left - 1) ++ drop n (set l at (getD t left 0)))
 handed t l n at left h a b =
     rw (newest-step t left h, add-one at, take-suc-set l at (getD t left 0) b, drop-set-lt n l at (getD t left 0) a, append-assoc)

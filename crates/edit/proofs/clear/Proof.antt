@@ -1,8 +1,8 @@
 -- `clear` meets its contract: with a count of 0 there is no word.
 use native.Mathlib.Omega.{arith}
 use lib.Seq.{getD-set-same}
-use Rattle.edit.proofs.Laws.{cleared}
 use borrow.Author.Needs.{needs}
+use Rattle.edit.proofs.Laws.{cleared}
 use Rattle.edit.proofs.clear.Statement.{statement}
 use Rattle.edit.proofs.clear.Tie as tie
 

@@ -1,8 +1,6 @@
 -- `push` meets its contract: the word stands at the first free cell.
-use mathlib.Core.Path.{refl}
-use Rattle.edit.specs.Buffer.{countOf}
-use Rattle.edit.proofs.Laws.{pushed}
 use borrow.Author.Needs.{needs}
+use Rattle.edit.proofs.Laws.{pushed-words, pushed-count}
 use Rattle.edit.proofs.push.Statement.{statement}
 use Rattle.edit.proofs.push.Tie as tie
 
@@ -30,7 +28,8 @@ element-write-e-2 c = search needs
 returns : tie.Need-returns
 returns c =
     let s = c .before .before .before in
-    pushed (s .args .e .now) (countOf (s .args .e .now)) (s .args .word) (c .before .told .ensures) refl (s .pre)
+    let len = c .before .told .ensures in
+    (pushed-words (s .args .e .now) (s .args .word) len (s .pre), pushed-count (s .args .e .now) (s .args .word) len (s .pre))
 
 pub push-spec : {M : Type 1} → statement M
 push-spec =

@@ -1,8 +1,8 @@
 -- `push_move` meets its contract: the word that is pushed is the edit's.
-use Rattle.edit.proofs.Laws.{as-edit, move-range}
+use borrow.Author.Needs.{needs}
 use Rattle.entity.specs.Place.{placeAt}
 use Rattle.rules.specs.Edit.{Move}
-use borrow.Author.Needs.{needs}
+use Rattle.edit.proofs.Laws.{as-edit, move-range}
 use Rattle.edit.proofs.push_move.Statement.{statement}
 use Rattle.edit.proofs.push_move.Tie as tie
 

@@ -1,8 +1,8 @@
 -- `push_reload` meets its contract: the word that is pushed is the edit's.
 use native.Mathlib.Omega.{arith}
-use Rattle.edit.proofs.Laws.{as-edit}
-use Rattle.rules.specs.Edit.{EmergencyReload}
 use borrow.Author.Needs.{needs}
+use Rattle.rules.specs.Edit.{EmergencyReload}
+use Rattle.edit.proofs.Laws.{as-edit}
 use Rattle.edit.proofs.push_reload.Statement.{statement}
 use Rattle.edit.proofs.push_reload.Tie as tie
 

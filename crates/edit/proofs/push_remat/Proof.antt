@@ -1,8 +1,8 @@
 -- `push_remat` meets its contract: the word that is pushed is the edit's.
-use Rattle.edit.proofs.Laws.{as-edit, remat-range}
+use borrow.Author.Needs.{needs}
 use Rattle.entity.specs.Place.{placeAt}
 use Rattle.rules.specs.Edit.{Rematerialize}
-use borrow.Author.Needs.{needs}
+use Rattle.edit.proofs.Laws.{as-edit, remat-range}
 use Rattle.edit.proofs.push_remat.Statement.{statement}
 use Rattle.edit.proofs.push_remat.Tie as tie
 

@@ -1,8 +1,8 @@
 -- `push_spill` meets its contract: the word that is pushed is the edit's.
 use native.Mathlib.Omega.{arith}
-use Rattle.edit.proofs.Laws.{as-edit}
-use Rattle.rules.specs.Edit.{EmergencySpill}
 use borrow.Author.Needs.{needs}
+use Rattle.rules.specs.Edit.{EmergencySpill}
+use Rattle.edit.proofs.Laws.{as-edit}
 use Rattle.edit.proofs.push_spill.Statement.{statement}
 use Rattle.edit.proofs.push_spill.Tie as tie
 

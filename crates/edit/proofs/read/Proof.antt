@@ -1,7 +1,7 @@
 -- `read` meets its contract: the kind of a word decides.
 use borrow.Author.Tests.{ne-eqb}
-use Rattle.edit.specs.Word.{editOf}
 use borrow.Author.Needs.{needs}
+use Rattle.edit.specs.Word.{editOf}
 use Rattle.edit.proofs.read.Statement.{statement}
 use Rattle.edit.proofs.read.Tie as tie
 

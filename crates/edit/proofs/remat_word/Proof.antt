@@ -1,6 +1,6 @@
 -- `remat_word` meets its contract: a place is packed by its code.
-use Rattle.entity.proofs.Laws.{code-there}
 use borrow.Author.Needs.{needs}
+use Rattle.entity.proofs.Laws.{code-there}
 use Rattle.edit.proofs.remat_word.Statement.{statement}
 use Rattle.edit.proofs.remat_word.Tie as tie
 
