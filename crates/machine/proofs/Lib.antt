@@ -1,5 +1,3 @@
-pub mod Steps
-pub mod Sum
 pub mod Diversions
 pub mod Bound
 pub mod Premises

@@ -24,10 +24,11 @@ use Rattle.rules.specs.Order.{KeptMove, noMove, Remat, State, Pending, Done, is
 use Rattle.rules.specs.Patch.{Patch, Sorted, sorted, run}
 use Rattle.rules.specs.Sorted.{MoveOk, RematOk, noRemat, SortedOk, Ran}
 use Rattle.machine.specs.Slots.{InStacks, Stays}
-use Rattle.machine.proofs.Steps.{All, all-then, branch, same?, Every, every-getD, every-reverse, every-index, all-each, updated-at, updated-same, updated-other}
+use Rattle.rules.proofs.Steps.{All, all-then, branch, same?, Every, every-getD, every-reverse, every-index, all-each, updated-at, updated-same, updated-other}
 use Rattle.machine.proofs.Bound.{unevict-evicted}
-use Rattle.machine.proofs.Sum.{sum, sum-change, sum-zero}
-use Rattle.machine.proofs.Diversions.{clash, bit, occurs, occurs-head, occurs-tail, has-occurs, writers-low, Counted, Grown, carry-grown, was-live, lost-counted}
+use Rattle.rules.proofs.Writers.{writers-low}
+use Rattle.rules.proofs.Sum.{bit, sum, sum-change, sum-zero}
+use Rattle.machine.proofs.Diversions.{clash, occurs, occurs-head, occurs-tail, has-occurs, Counted, Grown, carry-grown, was-live, lost-counted}
 
 positive : (a : ℕ) → (a ≡ 0 → ⊥) → 0 < a
 positive a h = omega arith
