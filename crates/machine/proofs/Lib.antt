@@ -16,3 +16,4 @@ pub mod Passes
 pub mod Whole
 pub mod Slots
 pub mod Demand
+pub mod Instance
