@@ -23,9 +23,10 @@ use Rattle.rules.specs.Scratch.{Cache, Evicted, ScratchAllocator, push, withEvi
 use Rattle.rules.specs.Order.{KeptMove, noMove, Remat, State, New, Pending, Done, isNew, isPending, Diverted, ParallelMoves, withState, carry, doRemat, remats, rematWithScratch, source, dest, value, bank, writers, cycleMoveSources, emit, noted, divert, carried, lead, lost, undivert, undivertAll, close, visit, visitUnlessMemory, start, moves}
 use Rattle.rules.specs.Patch.{Patch, Sorted, sorted, bound, run}
 use Rattle.rules.specs.Sorted.{MoveOk, RematOk, noRemat, SortedOk, Ran}
-use Rattle.machine.proofs.Steps.{All, all-then, all-after, all-map, branch, Every, every-getD, every-reverse, every-index, all-each, updated-same, updated-other}
-use Rattle.machine.proofs.Sum.{sum, sum-change, sum-zero, sum-ones}
-use Rattle.machine.proofs.Diversions.{clash, occurs, writers-low, Counted, Grown, carry-grown, was-live, lost-counted}
+use Rattle.rules.proofs.Steps.{All, all-then, all-after, all-map, branch, Every, every-getD, every-reverse, every-index, all-each, updated-same, updated-other}
+use Rattle.rules.proofs.Writers.{writers-low}
+use Rattle.rules.proofs.Sum.{sum, sum-change, sum-zero, sum-ones}
+use Rattle.machine.proofs.Diversions.{clash, occurs, Counted, Grown, carry-grown, was-live, lost-counted}
 
 -- the edits made, and those still owed: each evicted register will be saved
 abbrev owed : ScratchAllocator → ℕ

@@ -13,17 +13,13 @@ use Rattle.reginfo.specs.RegInfo.{RegInfo, placeUnits}
 use Rattle.function.specs.Function.{Function, numValues}
 use Rattle.rules.specs.Edit.{updated}
 use Rattle.rules.specs.Order.{KeptMove, State, isPending, Diverted, carryOne, carry, source, writerFrom, writersOf, writers, lost}
-use Rattle.machine.proofs.Steps.{All, all-map, branch, Every, updated-at, updated-same, updated-other}
-use Rattle.machine.proofs.Sum.{sum, sum-change, sum-part}
+use Rattle.rules.proofs.Steps.{Every, updated-at, updated-same, updated-other}
+use Rattle.rules.proofs.Sum.{bit, sum, sum-change, sum-part}
 
 pub clash : false ≡ true → ⊥
 clash e = let z : _≡_ {A = ℕ} 0 1 = cc in omega arith
 
 -- how often x is listed
-unfoldable pub bit : Bool → ℕ
-bit true = 1
-bit false = 0
-
 unfoldable pub occurs : ℕ → List ℕ → ℕ
 occurs x [] = 0
 occurs x (y ∷ l) = bit (eqb x y) + occurs x l
@@ -53,27 +49,6 @@ has-occurs x (y ∷ l) h = go (eqb x y) h (has-occurs x l)
 module _ (t : RegInfo) (f : Function) (ms : List KeptMove) where
   abbrev n : ℕ
   n = length ms
-
-  -- a writer is a kept move
-  writer-low : (i : ℕ) (l : List KeptMove) (u : ℕ) → All (λ m. m < i + length l) (writerFrom t f ms i l u)
-  unfolding writerFrom
-  writer-low i [] u = tt
-  writer-low i (m ∷ l) u =
-      branch (All (λ m. m < i + suc (length l))) (has u (placeUnits t (m .dest))) _ _ (λ _. omega arith)
-      (λ _. all-map (λ m. m < i + 1 + length l) (λ m. m < i + suc (length l)) (writerFrom t f ms (i + 1) l u) (λ m h. omega arith) (writer-low (i + 1) l u))
-
-  writersOf-low : (us : List ℕ) → Every (λ m. m < n) (writersOf t f ms us)
-  unfolding writersOf
-  writersOf-low [] = tt
-  writersOf-low (u ∷ us) = go (writerFrom t f ms 0 ms u) refl (writer-low 0 ms u) (writersOf-low us)
-    where
-      go : (o : Option ℕ) → writerFrom t f ms 0 ms u ≡ o → All (λ m. m < 0 + n) o → Every (λ m. m < n) (writersOf t f ms us) → Every (λ m. m < n) (writersOf t f ms (u ∷ us))
-      go none e h r = rw e r
-      go (some m) e h r = rw e (omega arith, r)
-
-  pub writers-low : (i : ℕ) → Every (λ m. m < n) (writers t f ms i)
-  unfolding writers
-  writers-low i = writersOf-low (placeUnits t (source t f ms i))
 
   -- each value's count is how often it is carried, and only values there are
   pub record Counted (d : Diverted) : Type 0 where

@@ -21,13 +21,15 @@ use Rattle.function.proofs.Laws.{bank-there, class-of-bank}
 use Rattle.rules.specs.Edit.{Edit, Rematerialize, updated, andThen, each, find, filter}
 use Rattle.rules.specs.Scratch.{Cache, emptyCache, Evicted, ScratchAllocator, Acquired, push, withEvicted, Found, unevict, unevictAll, overlapsEvicted, unevictForReg, acquireFrom, acquire, release, releasePlace, usable, slotScratch, evictLast, reuse, orScratch, getScratchReg, nothingBarred, moveEdits, doMove}
 use Rattle.rules.specs.Order.{KeptMove, noMove, Remat, State, Pending, Done, isNew, isPending, Diverted, ParallelMoves, withState, carry, remats, doRemat, rematWithScratch, source, dest, value, bank, writers, cycleMoveSources, emit, noted, divert, carried, lead, lost, undivert, undivertAll, close, visit, visitUnlessMemory, start, moves}
-use Rattle.rules.specs.Patch.{Patch, Sorted, sorted, run}
+use Rattle.rules.specs.Patch.{Patch, Sorted, sorted, run, Answer, refused, resolved, resolve, Call, cacheAfter}
 use Rattle.rules.specs.Sorted.{MoveOk, RematOk, noRemat, SortedOk, Ran}
-use Rattle.machine.specs.Slots.{InStacks, Stays}
-use Rattle.machine.proofs.Steps.{All, all-then, branch, same?, Every, every-getD, every-reverse, every-index, all-each, updated-at, updated-same, updated-other}
+use Rattle.rules.proofs.Accepted.{accepted}
+use Rattle.machine.specs.Slots.{InStacks, Stays, SlotsClaim, SlotsLie}
+use Rattle.rules.proofs.Steps.{All, all-then, branch, same?, Every, every-getD, every-reverse, every-index, all-each, updated-at, updated-same, updated-other}
 use Rattle.machine.proofs.Bound.{unevict-evicted}
-use Rattle.machine.proofs.Sum.{sum, sum-change, sum-zero}
-use Rattle.machine.proofs.Diversions.{clash, bit, occurs, occurs-head, occurs-tail, has-occurs, writers-low, Counted, Grown, carry-grown, was-live, lost-counted}
+use Rattle.rules.proofs.Writers.{writers-low}
+use Rattle.rules.proofs.Sum.{bit, sum, sum-change, sum-zero}
+use Rattle.machine.proofs.Diversions.{clash, occurs, occurs-head, occurs-tail, has-occurs, Counted, Grown, carry-grown, was-live, lost-counted}
 
 positive : (a : ℕ) → (a ≡ 0 → ⊥) → 0 < a
 positive a h = omega arith
@@ -625,3 +627,14 @@ slots-ok t f at af p room c c′ es r ins =
   where
     good : Good t f c (stacked (r .allocator .cache)) (r .allocator .cache .made)
     good = subst (All (λ k. Good t f c (stacked (k .cache)) (k .cache .made))) (r .ran) (run-good t f c at af ins p (r .ok))
+
+pub slots-lie : SlotsLie
+slots-lie t f at af calls = claim calls emptyCache (slots-empty f)
+  where
+    called : (x : Call) (c : Cache) (r : Answer) → resolve t f (x .patch) (x .room) c ≡ r → InStacks f c → InStacks f (cacheAfter c r) × Stays c (cacheAfter c r)
+    called x c (refused n) e ins = (ins, λ s z h. h)
+    called x c (resolved es c′) e ins = slots-ok t f at af (x .patch) (x .room) c c′ es (accepted t f (x .patch) (x .room) c c′ es e) ins
+
+    claim : (calls : List Call) (c : Cache) → InStacks f c → SlotsClaim t f calls c
+    claim [] c ins = ins
+    claim (x ∷ l) c ins = let y = called x c (resolve t f (x .patch) (x .room) c) refl ins in (ins, y .1, claim l (cacheAfter c (resolve t f (x .patch) (x .room) c)) (y .0))
