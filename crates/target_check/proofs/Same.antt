@@ -1,6 +1,6 @@
 -- A table that is the same below the index holds the same target, and keeps the index of the classes before.
 use Prim.Native.Nat.{ℕ, zero, suc, _+_, _*_, _<_, _≤_}
-use mathlib.Core.Path.{_≡_, refl, sym, ap, _∙_}
+use mathlib.Core.Path.{_≡_, refl, _∙_}
 use mathlib.Core.Bool.{Bool, true, false}
 use mathlib.Core.List.{List, map}
 use native.Mathlib.Omega.{arith}
@@ -8,8 +8,8 @@ use lib.Arith.{lt-of-le-ne}
 use lib.Dec.{eqb}
 use lib.ListN.{getD, length}
 use borrow.Author.Tests.{eqb-true, eqb-false}
-use Rattle.entity.specs.Logic.{indices, cells}
-use Rattle.reginfo.specs.RegInfo.{Bank, Reg, Class, RegInfo, numBanks, numRegs, numClasses, regUnits, classMembers, allocationOrder}
+use Rattle.entity.specs.Logic.{indices}
+use Rattle.reginfo.specs.RegInfo.{numBanks, numRegs, numClasses, classMembers, allocationOrder}
 use Rattle.reginfo.specs.Table.{bankAt, regAt, classAt, regInfoOf, IndexedAt, Indexed}
 use Rattle.reginfo.specs.Refused.{outsideLimits}
 use Rattle.reginfo.proofs.Table.{banks-count, regs-count, classes-count, units-length, members-length, order-length}

@@ -18,10 +18,10 @@ use reginfo::stack_to_stack_class;
 use reginfo::top_level_class;
 ghost use mathlib.Core.Path.{_≡_};
 ghost use mathlib.Core.Bool.{true, false};
-ghost use Prim.Native.Nat.{ℕ, _<_, _≤_, _+_, _*_};
-ghost use lib.ListN.{length, getD};
+ghost use Prim.Native.Nat.{_<_, _≤_, _+_, _*_};
+ghost use lib.ListN.{length};
 ghost use Rattle.entity.specs.Logic.{no, has, twice, cells};
-ghost use Rattle.reginfo.specs.RegInfo.{RegInfo, numBanks, numRegs, numClasses, regMemory, classSlots, regUnits, classMembers, allocationOrder};
+ghost use Rattle.reginfo.specs.RegInfo.{numBanks, numRegs, numClasses, regMemory, classSlots, regUnits, classMembers, allocationOrder};
 ghost use Rattle.reginfo.specs.Table.{regInfoOf};
 ghost use Rattle.reginfo.specs.Known.{KnownReg, KnownClass, KnownBank};
 ghost use Rattle.reginfo.specs.Refused.{some-below, within, allBelow, orderTotal, countsFit, bankFits, regFits, classFits, outsideLimits};
@@ -61,30 +61,6 @@ pub fn cells_has(t: &RegInfo, at: usize, n: usize, x: usize) -> bool
         left -= 1;
     }
     false
-}
-
-fn within(low: usize, high: usize, n: usize) -> bool
-    ensures { λ r. ⌜ r ≡ within low high n ⌝ }
-{
-    if n < low {
-        return false;
-    }
-    n <= high
-}
-
-fn counts_fit(t: &RegInfo) -> bool
-    ensures { λ r. ⌜ r ≡ countsFit (regInfoOf (now (t .entry))) ⌝ }
-{
-    if !within(1, 512, num_units(t)) {
-        return false;
-    }
-    if !within(1, 8, num_banks(t)) {
-        return false;
-    }
-    if !within(1, 512, num_regs(t)) {
-        return false;
-    }
-    within(1, 64, num_classes(t))
 }
 
 // A number is listed twice among the n cells from `at` on.
@@ -144,6 +120,32 @@ fn slots_flag(t: &RegInfo, c: RegClass) -> usize
     wide(t[8193 + i * 8])
 }
 
+// 01: "units 1 to 512, banks 1 to 8, registers 1 to 512, classes 1 to 64".
+fn within(low: usize, high: usize, n: usize) -> bool
+    ensures { λ r. ⌜ r ≡ within low high n ⌝ }
+{
+    if n < low {
+        return false;
+    }
+    n <= high
+}
+
+fn counts_fit(t: &RegInfo) -> bool
+    ensures { λ r. ⌜ r ≡ countsFit (regInfoOf (now (t .entry))) ⌝ }
+{
+    if !within(1, 512, num_units(t)) {
+        return false;
+    }
+    if !within(1, 8, num_banks(t)) {
+        return false;
+    }
+    if !within(1, 512, num_regs(t)) {
+        return false;
+    }
+    within(1, 64, num_classes(t))
+}
+
+// A bank: its size and its two classes.
 fn bank_fits(t: &RegInfo, b: RegBank) -> bool
     requires { ⌜ KnownBank (regInfoOf (now t)) (b .0) ⌝ }
     ensures { λ r. ⌜ r ≡ bankFits (regInfoOf (now (t .entry))) (b .0) ⌝ }
@@ -160,6 +162,7 @@ fn bank_fits(t: &RegInfo, b: RegBank) -> bool
     wide(stack.0) < n
 }
 
+// A register: a flag, a bank, and 1 to 8 units.
 fn units_below(t: &RegInfo, r: PhysReg) -> bool
     requires { ⌜ KnownReg (regInfoOf (now t)) (r .0) × (length (regUnits (regInfoOf (now t)) (r .0)) ≤ 8) ⌝ }
     ensures { λ b. ⌜ b ≡ allBelow (regInfoOf (now (t .entry)) .units) (regUnits (regInfoOf (now (t .entry))) (r .0)) ⌝ }
@@ -187,6 +190,7 @@ fn reg_fits(t: &RegInfo, r: PhysReg) -> bool
     units_below(t, r)
 }
 
+// A class: a bank, a flag, and two lists of registers.
 fn members_fit(t: &RegInfo, c: RegClass) -> bool
     requires { ⌜ KnownClass (regInfoOf (now t)) (c .0) ⌝ }
     ensures { λ f. ⌜ f ≡ listFits (regInfoOf (now (t .entry))) (classMembers (regInfoOf (now (t .entry))) (c .0)) ⌝ }
@@ -230,6 +234,7 @@ fn class_fits(t: &RegInfo, c: RegClass) -> bool
     order_fits(t, c)
 }
 
+// Some bank, register or class does not fit.
 fn banks_unfit(t: &RegInfo) -> bool
     requires { ⌜ numBanks (regInfoOf (now t)) ≤ 8 ⌝ }
     ensures { λ r. ⌜ r ≡ some-below (numBanks (regInfoOf (now (t .entry)))) (λ b. no (bankFits (regInfoOf (now (t .entry))) b)) ⌝ }

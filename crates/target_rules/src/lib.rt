@@ -22,9 +22,9 @@ use target_limits::members_from;
 use target_limits::order_from;
 ghost use mathlib.Core.Path.{_≡_};
 ghost use mathlib.Core.Bool.{true, false};
-ghost use Prim.Native.Nat.{ℕ, _<_, _≤_, _+_};
+ghost use Prim.Native.Nat.{_<_, _≤_, _+_};
 ghost use Rattle.entity.specs.Logic.{any, cells};
-ghost use Rattle.reginfo.specs.RegInfo.{RegInfo, numBanks, numRegs, numClasses, bankForClass, classMembers, allocationOrder, isMemoryReg};
+ghost use Rattle.reginfo.specs.RegInfo.{numBanks, numRegs, numClasses, bankForClass, classMembers, allocationOrder, isMemoryReg};
 ghost use Rattle.reginfo.specs.Table.{regInfoOf, Indexed};
 ghost use Rattle.reginfo.specs.Refused.{some-below, allBelow, outsideLimits, unequalWidths, foreignMember, sharedMemory, unfitClass};
 ghost use Rattle.target_rules.specs.Rules.{widthsDiffer, foreignTo, noMember, foreignClass, foreignBank, sharesWith, sharedReg, unfitBank, unfitOrder};
@@ -79,7 +79,7 @@ pub fn unequal_widths(t: &RegInfo) -> bool
     false
 }
 
-// 5: the registers at the n cells from `at` on are of the bank.
+// 5: a class's members are of its bank. Of the registers at the n cells from `at` on, one is not.
 fn regs_foreign(t: &RegInfo, at: usize, n: usize, b: RegBank) -> bool
     requires { ⌜ (outsideLimits (regInfoOf (now t)) ≡ false) × (at + n ≤ 107520) × (allBelow (numRegs (regInfoOf (now t))) (cells (now t) at n) ≡ true) ⌝ }
     ensures { λ f. ⌜ f ≡ any (foreignTo (regInfoOf (now (t .entry))) (b .0)) (cells (now (t .entry)) at n) ⌝ }
@@ -107,6 +107,50 @@ fn members_foreign(t: &RegInfo, c: RegClass) -> bool
     regs_foreign(t, at, n, b)
 }
 
+// An order lists members only. The index of the members is right.
+fn order_foreign(t: &RegInfo, c: RegClass) -> bool
+    requires { ⌜ (outsideLimits (regInfoOf (now t)) ≡ false) × (c .0 < numClasses (regInfoOf (now t))) × Indexed (now t) ⌝ }
+    ensures { λ f. ⌜ f ≡ any (noMember (regInfoOf (now (t .entry))) (c .0)) (allocationOrder (regInfoOf (now (t .entry))) (c .0)) ⌝ }
+{
+    let mut i = order_from(c);
+    let mut left = order_len(t, c);
+    while 0 < left {
+        if !class_has_reg(t, c, PhysReg(t[i])) {
+            return true;
+        }
+        i += 1;
+        left -= 1;
+    }
+    false
+}
+
+fn class_foreign(t: &RegInfo, c: RegClass) -> bool
+    requires { ⌜ (outsideLimits (regInfoOf (now t)) ≡ false) × (c .0 < numClasses (regInfoOf (now t))) × Indexed (now t) ⌝ }
+    ensures { λ f. ⌜ f ≡ foreignClass (regInfoOf (now (t .entry))) (c .0) ⌝ }
+{
+    if members_foreign(t, c) {
+        return true;
+    }
+    order_foreign(t, c)
+}
+
+fn classes_foreign(t: &RegInfo) -> bool
+    requires { ⌜ (outsideLimits (regInfoOf (now t)) ≡ false) × Indexed (now t) ⌝ }
+    ensures { λ f. ⌜ f ≡ some-below (numClasses (regInfoOf (now (t .entry)))) (foreignClass (regInfoOf (now (t .entry)))) ⌝ }
+{
+    let mut i: u16 = 0;
+    let mut left = num_classes(t);
+    while 0 < left {
+        if class_foreign(t, RegClass(i)) {
+            return true;
+        }
+        i += 1;
+        left -= 1;
+    }
+    false
+}
+
+// A bank's two classes are of that bank.
 fn bank_foreign(t: &RegInfo, b: RegBank) -> bool
     requires { ⌜ (outsideLimits (regInfoOf (now t)) ≡ false) × (b .0 < numBanks (regInfoOf (now t))) ⌝ }
     ensures { λ f. ⌜ f ≡ foreignBank (regInfoOf (now (t .entry))) (b .0) ⌝ }
@@ -138,6 +182,16 @@ fn banks_foreign(t: &RegInfo) -> bool
         left -= 1;
     }
     false
+}
+
+pub fn foreign_member(t: &RegInfo) -> bool
+    requires { ⌜ (outsideLimits (regInfoOf (now t)) ≡ false) × Indexed (now t) ⌝ }
+    ensures { λ r. ⌜ r ≡ foreignMember (regInfoOf (now (t .entry))) ⌝ }
+{
+    if classes_foreign(t) {
+        return true;
+    }
+    banks_foreign(t)
 }
 
 // 6: a memory register shares no unit with one that isn't memory.
@@ -193,7 +247,7 @@ pub fn shared_memory(t: &RegInfo) -> bool
     false
 }
 
-// 7: a memory register is among those at the n cells from `at` on.
+// 7: the order of a stack class has no memory register. At the n cells from `at` on there is one.
 fn any_memory(t: &RegInfo, at: usize, n: usize) -> bool
     requires { ⌜ (outsideLimits (regInfoOf (now t)) ≡ false) × (at + n ≤ 107520) × (allBelow (numRegs (regInfoOf (now t))) (cells (now t) at n) ≡ true) ⌝ }
     ensures { λ m. ⌜ m ≡ any (λ r. isMemoryReg (regInfoOf (now (t .entry))) r) (cells (now (t .entry)) at n) ⌝ }
@@ -219,6 +273,7 @@ fn order_memory(t: &RegInfo, c: RegClass) -> bool
     any_memory(t, at, n)
 }
 
+// A top-level class includes slots, a stack class does not.
 fn bank_unfit(t: &RegInfo, b: RegBank) -> bool
     requires { ⌜ (outsideLimits (regInfoOf (now t)) ≡ false) × (b .0 < numBanks (regInfoOf (now t))) ⌝ }
     ensures { λ u. ⌜ u ≡ unfitBank (regInfoOf (now (t .entry))) (b .0) ⌝ }
@@ -250,6 +305,7 @@ fn banks_unfit(t: &RegInfo) -> bool
     false
 }
 
+// A class without slots has an order, whose last register isn't memory.
 fn class_unfit(t: &RegInfo, c: RegClass) -> bool
     requires { ⌜ (outsideLimits (regInfoOf (now t)) ≡ false) × (c .0 < numClasses (regInfoOf (now t))) ⌝ }
     ensures { λ u. ⌜ u ≡ unfitOrder (regInfoOf (now (t .entry))) (c .0) ⌝ }
@@ -288,57 +344,4 @@ pub fn unfit_class(t: &RegInfo) -> bool
         return true;
     }
     classes_unfit(t)
-}
-
-// 5: an order lists members only. The index of the class's members is right.
-fn order_foreign(t: &RegInfo, c: RegClass) -> bool
-    requires { ⌜ (outsideLimits (regInfoOf (now t)) ≡ false) × (c .0 < numClasses (regInfoOf (now t))) × Indexed (now t) ⌝ }
-    ensures { λ f. ⌜ f ≡ any (noMember (regInfoOf (now (t .entry))) (c .0)) (allocationOrder (regInfoOf (now (t .entry))) (c .0)) ⌝ }
-{
-    let mut i = order_from(c);
-    let mut left = order_len(t, c);
-    while 0 < left {
-        if !class_has_reg(t, c, PhysReg(t[i])) {
-            return true;
-        }
-        i += 1;
-        left -= 1;
-    }
-    false
-}
-
-fn class_foreign(t: &RegInfo, c: RegClass) -> bool
-    requires { ⌜ (outsideLimits (regInfoOf (now t)) ≡ false) × (c .0 < numClasses (regInfoOf (now t))) × Indexed (now t) ⌝ }
-    ensures { λ f. ⌜ f ≡ foreignClass (regInfoOf (now (t .entry))) (c .0) ⌝ }
-{
-    if members_foreign(t, c) {
-        return true;
-    }
-    order_foreign(t, c)
-}
-
-fn classes_foreign(t: &RegInfo) -> bool
-    requires { ⌜ (outsideLimits (regInfoOf (now t)) ≡ false) × Indexed (now t) ⌝ }
-    ensures { λ f. ⌜ f ≡ some-below (numClasses (regInfoOf (now (t .entry)))) (foreignClass (regInfoOf (now (t .entry)))) ⌝ }
-{
-    let mut i: u16 = 0;
-    let mut left = num_classes(t);
-    while 0 < left {
-        if class_foreign(t, RegClass(i)) {
-            return true;
-        }
-        i += 1;
-        left -= 1;
-    }
-    false
-}
-
-pub fn foreign_member(t: &RegInfo) -> bool
-    requires { ⌜ (outsideLimits (regInfoOf (now t)) ≡ false) × Indexed (now t) ⌝ }
-    ensures { λ r. ⌜ r ≡ foreignMember (regInfoOf (now (t .entry))) ⌝ }
-{
-    if classes_foreign(t) {
-        return true;
-    }
-    banks_foreign(t)
 }

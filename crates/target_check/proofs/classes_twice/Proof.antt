@@ -39,14 +39,17 @@ class-twice-requires : tie.Need-class-twice-requires Inv-loop μ-loop
 class-twice-requires c κs = rw (target (c .before)) (c .before .before .before .before .before .pre, omega arith)
 
 returns : tie.Need-returns Inv-loop μ-loop
-returns c = (
-  sym (c .before .before .before .before .loop .inv .0 ∙ any-here (bad (c .before .before .before .before .before .before .before .args .t .now)) (indices-step (c .before .before .before .before .loop .i) (c .before .before .before .before .loop .left) (c .before .before .before .loop-test .taken)) (sym (rw (target (c .before .before .before)) at (c .before .class-twice .ensures .0)) ∙ c .if1 .taken)),
-  (λ k l. c .before .class-twice .ensures .1 k (omega arith) ∙ c .before .before .before .before .loop .inv .2 k l),
-  λ e. absurd (true≢false e),
-)
+returns c =
+    let turn = c .before .before .before .before .loop in (
+      sym (turn .inv .0 ∙ any-here (bad (c .before .before .before .before .before .before .before .args .t .now)) (indices-step (turn .i) (turn .left) (c .before .before .before .loop-test .taken)) (sym (rw (target (c .before .before .before)) at (c .before .class-twice .ensures .0)) ∙ c .if1 .taken)),
+      (λ k l. c .before .class-twice .ensures .1 k (omega arith) ∙ turn .inv .2 k l),
+      λ e. absurd (true≢false e),
+    )
 
 add-i : tie.Need-add-i Inv-loop μ-loop
-add-i c = omega (arith, classes-few (regInfoOf (c .before .before .before .before .before .before .before .args .t .now)) (counts-of (regInfoOf (c .before .before .before .before .before .before .before .args .t .now)) (c .before .before .before .before .before .before .before .pre)))
+add-i c =
+    let start = c .before .before .before .before .before .before .before in
+    omega (arith, classes-few (regInfoOf (start .args .t .now)) (counts-of (regInfoOf (start .args .t .now)) (start .pre)))
 
 sub-left : tie.Need-sub-left Inv-loop μ-loop
 sub-left c = search needs
@@ -55,18 +58,22 @@ loop-less : tie.Need-loop-less Inv-loop μ-loop
 loop-less c = search needs
 
 loop-again : tie.Need-loop-again Inv-loop μ-loop
-loop-again c = (
-  c .before .before .before .before .loop .inv .0 ∙ any-on (bad (c .before .before .before .before .before .before .before .args .t .now)) (indices-step (c .before .before .before .before .loop .i) (c .before .before .before .before .loop .left) (c .before .before .before .loop-test .taken)) (sym (rw (target (c .before .before .before)) at (c .before .class-twice .ensures .0)) ∙ c .if1 .left),
-  omega arith,
-  (λ k l. c .before .class-twice .ensures .1 k (omega arith) ∙ c .before .before .before .before .loop .inv .2 k l),
-  index-more (c .before .before .before .before .before .before .before .args .t .now) (c .before .before .before .before .loop .t) (c .before .before .before .before .before .before .before .pre) (c .before .before .before .before .loop .inv .2) (c .before .class-twice .last .0) (c .before .before .before .before .loop .i) (omega arith) (c .before .class-twice .ensures .1) (c .before .before .before .before .loop .inv .3) (rw (target (c .before .before .before)) at (c .before .class-twice .ensures .2 (c .if1 .left))),
-)
+loop-again c =
+    let start = c .before .before .before .before .before .before .before in
+    let turn = c .before .before .before .before .loop in (
+      turn .inv .0 ∙ any-on (bad (start .args .t .now)) (indices-step (turn .i) (turn .left) (c .before .before .before .loop-test .taken)) (sym (rw (target (c .before .before .before)) at (c .before .class-twice .ensures .0)) ∙ c .if1 .left),
+      omega arith,
+      (λ k l. c .before .class-twice .ensures .1 k (omega arith) ∙ turn .inv .2 k l),
+      index-more (start .args .t .now) (turn .t) (start .pre) (turn .inv .2) (c .before .class-twice .last .0) (turn .i) (omega arith) (c .before .class-twice .ensures .1) (turn .inv .3) (rw (target (c .before .before .before)) at (c .before .class-twice .ensures .2 (c .if1 .left))),
+    )
 
 returns-2 : tie.Need-returns-2 Inv-loop μ-loop
 unfolding any indices
 returns-2 c =
-    let z : c .before .loop .left ≡ 0 = omega arith in
-    (sym (c .before .loop .inv .0 ∙ rw z), c .before .loop .inv .2, λ f. indexed (c .before .before .before .before .args .t .now) (c .before .loop .t) (c .before .before .before .before .pre) (c .before .loop .inv .2) (λ k l. c .before .loop .inv .3 k (omega arith)))
+    let start = c .before .before .before .before in
+    let turn = c .before .loop in
+    let z : turn .left ≡ 0 = omega arith in
+    (sym (turn .inv .0 ∙ rw z), turn .inv .2, λ f. indexed (start .args .t .now) (turn .t) (start .pre) (turn .inv .2) (λ k l. turn .inv .3 k (omega arith)))
 
 pub classes-twice-spec : {M : Type 1} → statement M
 classes-twice-spec =

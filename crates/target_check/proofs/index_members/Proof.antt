@@ -40,13 +40,19 @@ told-requires : tie.Need-told-requires Inv-loop μ-loop
 told-requires c κs = search needs
 
 num-members-requires : tie.Need-num-members-requires Inv-loop μ-loop
-num-members-requires c κs = class-known (regInfoOf (c .before .before .before .args .t .now)) (c .before .before .before .pre .0) (c .before .before .before .args .c .0) (c .before .before .before .pre .1)
+num-members-requires c κs =
+    let start = c .before .before .before in
+    class-known (regInfoOf (start .args .t .now)) (start .pre .0) (start .args .c .0) (start .pre .1)
 
 members-from-requires : tie.Need-members-from-requires Inv-loop μ-loop
-members-from-requires c κs = omega (arith, class-known (regInfoOf (c .before .before .before .before .args .t .now)) (c .before .before .before .before .pre .0) (c .before .before .before .before .args .c .0) (c .before .before .before .before .pre .1))
+members-from-requires c κs =
+    let start = c .before .before .before .before in
+    omega (arith, class-known (regInfoOf (start .args .t .now)) (start .pre .0) (start .args .c .0) (start .pre .1))
 
 index-from-requires : tie.Need-index-from-requires Inv-loop μ-loop
-index-from-requires c κs = omega (arith, class-known (regInfoOf (c .before .before .before .before .before .args .t .now)) (c .before .before .before .before .before .pre .0) (c .before .before .before .before .before .args .c .0) (c .before .before .before .before .before .pre .1))
+index-from-requires c κs =
+    let start = c .before .before .before .before .before in
+    omega (arith, class-known (regInfoOf (start .args .t .now)) (start .pre .0) (start .args .c .0) (start .pre .1))
 
 loop-holds : tie.Need-loop-holds Inv-loop μ-loop
 loop-holds c = (omega arith, c .before .before .before .before .told .ensures, (λ i l. refl), λ k l. absurd (omega arith))
@@ -65,10 +71,12 @@ stands-before-requires c κs = (class-low (c .before .before), omega (arith, few
 
 returns : tie.Need-returns Inv-loop μ-loop
 returns c =
-    let same : cells (c .before .before .before .before .before .loop .t) (9216 + (c .before .before .before .before .before .before .before .before .before .before .before .before .args .c .0) * 512) (c .before .before .before .before .before .loop .p) ≡ cells (c .before .before .before .before .before .before .before .before .before .before .before .before .args .t .now) (9216 + (c .before .before .before .before .before .before .before .before .before .before .before .before .args .c .0) * 512) (c .before .before .before .before .before .loop .p) = same-cells (c .before .before .before .before .before .before .before .before .before .before .before .before .args .t .now) (c .before .before .before .before .before .loop .t) (74752 + (c .before .before .before .before .before .before .before .before .before .before .before .before .args .c .0) * 512) (9216 + (c .before .before .before .before .before .before .before .before .before .before .before .before .args .c .0) * 512) (c .before .before .before .before .before .loop .p) (c .before .before .before .before .before .loop .inv .2) (omega (arith, few-members (c .before .before .before .before))) in
-    let h : has (getD (c .before .before .before .before .before .loop .t) (9216 + (c .before .before .before .before .before .before .before .before .before .before .before .before .args .c .0) * 512 + c .before .before .before .before .before .loop .p) 0) (cells (c .before .before .before .before .before .loop .t) (9216 + (c .before .before .before .before .before .before .before .before .before .before .before .before .args .c .0) * 512) (c .before .before .before .before .before .loop .p)) ≡ true = rw (c .before .before .before .before .before .before .before .members-from .ensures) at (sym (c .before .stands-before .ensures) ∙ c .if1 .taken) in (
-      sym (ap twice (members-cells (c .before .before .before .before .before .before .before .before .before .before .before .before .args .t .now) (c .before .before .before .before .before .before .before .before .before .before .before .before .args .c .0) (c .before .before .before .before .before .before .before .before .before .before .before .before .pre .1)) ∙ again-twice (c .before .before .before .before .before .before .before .before .before .before .before .before .args .t .now) (9216 + (c .before .before .before .before .before .before .before .before .before .before .before .before .args .c .0) * 512) (length (classMembers (regInfoOf (c .before .before .before .before .before .before .before .before .before .before .before .before .args .t .now)) (c .before .before .before .before .before .before .before .before .before .before .before .before .args .c .0))) (c .before .before .before .before .before .loop .p) (in-list (c .before .before .before .before)) (rw (unchanged (c .before .before .before .before), same) at h)),
-      c .before .before .before .before .before .loop .inv .2,
+    let start = c .before .before .before .before .before .before .before .before .before .before .before .before in
+    let turn = c .before .before .before .before .before .loop in
+    let same : cells (turn .t) (9216 + (start .args .c .0) * 512) (turn .p) ≡ cells (start .args .t .now) (9216 + (start .args .c .0) * 512) (turn .p) = same-cells (start .args .t .now) (turn .t) (74752 + (start .args .c .0) * 512) (9216 + (start .args .c .0) * 512) (turn .p) (turn .inv .2) (omega (arith, few-members (c .before .before .before .before))) in
+    let h : has (getD (turn .t) (9216 + (start .args .c .0) * 512 + turn .p) 0) (cells (turn .t) (9216 + (start .args .c .0) * 512) (turn .p)) ≡ true = rw (c .before .before .before .before .before .before .before .members-from .ensures) at (sym (c .before .stands-before .ensures) ∙ c .if1 .taken) in (
+      sym (ap twice (members-cells (start .args .t .now) (start .args .c .0) (start .pre .1)) ∙ again-twice (start .args .t .now) (9216 + (start .args .c .0) * 512) (length (classMembers (regInfoOf (start .args .t .now)) (start .args .c .0))) (turn .p) (in-list (c .before .before .before .before)) (rw (unchanged (c .before .before .before .before), same) at h)),
+      turn .inv .2,
       λ e. absurd (true≢false e),
     )
 
@@ -95,22 +103,26 @@ loop-less c = search needs
 
 loop-again : tie.Need-loop-again Inv-loop μ-loop
 loop-again c =
+    let start = c .before .before .before .before .before .before .before .before .before .before .before .before .before .before in
+    let turn = c .before .before .before .before .before .before .before .loop in
     let new = rw (c .before .before .before .before .before .before .before .before .before .members-from .ensures) at (sym (c .before .before .before .stands-before .ensures) ∙ c .before .before .if1 .left) in
-    let r = getD (c .before .before .before .before .before .before .before .loop .t) (9216 + (c .before .before .before .before .before .before .before .before .before .before .before .before .before .before .args .c .0) * 512 + c .before .before .before .before .before .before .before .loop .p) 0 in
+    let r = getD (turn .t) (9216 + (start .args .c .0) * 512 + turn .p) 0 in
     rw (c .before .narrow .ensures, c .wide .ensures .0, c .before .before .before .before .before .before .before .before .index-from .ensures, c .before .before .before .before .before .before .before .before .before .members-from .ensures) (
       omega arith,
-      length-set (c .before .before .before .before .before .before .before .loop .t) (74752 + (c .before .before .before .before .before .before .before .before .before .before .before .before .before .before .args .c .0) * 512 + r) (c .before .before .before .before .before .before .before .loop .p) ∙ c .before .before .before .before .before .before .before .loop .inv .1,
-      (λ i l. kept (c .before .before .before .before .before .before .before .loop .t) (c .before .before .before .before .before .before .before .before .before .before .before .before .before .before .args .c .0) (c .before .before .before .before .before .before .before .loop .p) r (c .before .before .before .before .before .before .before .loop .inv .1) (class-low (c .before .before .before .before .before .before)) (few-members (c .before .before .before .before .before .before)) refl (reg-low (c .before .before .before .before .before .before)) (c .before .before .before .before .before .before .before .loop .inv .3) new i l ∙ c .before .before .before .before .before .before .before .loop .inv .2 i l),
-      indexed-more (c .before .before .before .before .before .before .before .loop .t) (c .before .before .before .before .before .before .before .before .before .before .before .before .before .before .args .c .0) (c .before .before .before .before .before .before .before .loop .p) r (c .before .before .before .before .before .before .before .loop .inv .1) (class-low (c .before .before .before .before .before .before)) (few-members (c .before .before .before .before .before .before)) refl (reg-low (c .before .before .before .before .before .before)) (c .before .before .before .before .before .before .before .loop .inv .3) new,
+      length-set (turn .t) (74752 + (start .args .c .0) * 512 + r) (turn .p) ∙ turn .inv .1,
+      (λ i l. kept (turn .t) (start .args .c .0) (turn .p) r (turn .inv .1) (class-low (c .before .before .before .before .before .before)) (few-members (c .before .before .before .before .before .before)) refl (reg-low (c .before .before .before .before .before .before)) (turn .inv .3) new i l ∙ turn .inv .2 i l),
+      indexed-more (turn .t) (start .args .c .0) (turn .p) r (turn .inv .1) (class-low (c .before .before .before .before .before .before)) (few-members (c .before .before .before .before .before .before)) refl (reg-low (c .before .before .before .before .before .before)) (turn .inv .3) new,
     )
 
 returns-2 : tie.Need-returns-2 Inv-loop μ-loop
 returns-2 c =
-    let e : c .before .loop .p ≡ length (classMembers (regInfoOf (c .before .before .before .before .before .before .before .before .args .t .now)) (c .before .before .before .before .before .before .before .before .args .c .0)) = let z : c .before .loop .p ≡ c .before .before .before .before .num-members .result = omega arith in z ∙ c .before .before .before .before .num-members .ensures in
-    let x : IndexedAt (c .before .loop .t) (c .before .before .before .before .before .before .before .before .args .c .0) (length (classMembers (regInfoOf (c .before .before .before .before .before .before .before .before .args .t .now)) (c .before .before .before .before .before .before .before .before .args .c .0))) = rw e at (c .before .loop .inv .3) in
-    let same = same-cells (c .before .before .before .before .before .before .before .before .args .t .now) (c .before .loop .t) (74752 + (c .before .before .before .before .before .before .before .before .args .c .0) * 512) (9216 + (c .before .before .before .before .before .before .before .before .args .c .0) * 512) (length (classMembers (regInfoOf (c .before .before .before .before .before .before .before .before .args .t .now)) (c .before .before .before .before .before .before .before .before .args .c .0))) (c .before .loop .inv .2) (omega (arith, list-few (regInfoOf (c .before .before .before .before .before .before .before .before .args .t .now)) (classMembers (regInfoOf (c .before .before .before .before .before .before .before .before .args .t .now)) (c .before .before .before .before .before .before .before .before .args .c .0)) (members-listed (regInfoOf (c .before .before .before .before .before .before .before .before .args .t .now)) (c .before .before .before .before .before .before .before .before .pre .0) (c .before .before .before .before .before .before .before .before .args .c .0) (c .before .before .before .before .before .before .before .before .pre .1)))) in (
-      sym (ap twice (members-cells (c .before .before .before .before .before .before .before .before .args .t .now) (c .before .before .before .before .before .before .before .before .args .c .0) (c .before .before .before .before .before .before .before .before .pre .1)) ∙ ap twice (sym same) ∙ distinct (c .before .loop .t) (c .before .before .before .before .before .before .before .before .args .c .0) (length (classMembers (regInfoOf (c .before .before .before .before .before .before .before .before .args .t .now)) (c .before .before .before .before .before .before .before .before .args .c .0))) x),
-      c .before .loop .inv .2,
+    let start = c .before .before .before .before .before .before .before .before in
+    let turn = c .before .loop in
+    let e : turn .p ≡ length (classMembers (regInfoOf (start .args .t .now)) (start .args .c .0)) = let z : turn .p ≡ c .before .before .before .before .num-members .result = omega arith in z ∙ c .before .before .before .before .num-members .ensures in
+    let x : IndexedAt (turn .t) (start .args .c .0) (length (classMembers (regInfoOf (start .args .t .now)) (start .args .c .0))) = rw e at (turn .inv .3) in
+    let same = same-cells (start .args .t .now) (turn .t) (74752 + (start .args .c .0) * 512) (9216 + (start .args .c .0) * 512) (length (classMembers (regInfoOf (start .args .t .now)) (start .args .c .0))) (turn .inv .2) (omega (arith, list-few (regInfoOf (start .args .t .now)) (classMembers (regInfoOf (start .args .t .now)) (start .args .c .0)) (members-listed (regInfoOf (start .args .t .now)) (start .pre .0) (start .args .c .0) (start .pre .1)))) in (
+      sym (ap twice (members-cells (start .args .t .now) (start .args .c .0) (start .pre .1)) ∙ ap twice (sym same) ∙ distinct (turn .t) (start .args .c .0) (length (classMembers (regInfoOf (start .args .t .now)) (start .args .c .0))) x),
+      turn .inv .2,
       λ f. x,
     )
 

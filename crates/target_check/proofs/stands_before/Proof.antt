@@ -24,7 +24,9 @@ wide-requires-2 : tie.Need-wide-requires-2
 wide-requires-2 c κs = search needs
 
 returns : tie.Need-returns
-returns c = sym (not-before (c .before .before .before .before .before .args .t .now) (c .before .before .before .before .before .args .c .0) (c .before .before .before .before .before .args .p) (c .before .before .before .before .before .args .r .0) (c .before .wide2 .result) (c .before .before .before .before .before .pre .3) (rw (c .before .before .before .index-from .ensures, c .before .before .before .before .wide .ensures .0) at (c .before .wide2 .ensures .0)) (c .if1 .taken))
+returns c =
+    let start = c .before .before .before .before .before in
+    sym (not-before (start .args .t .now) (start .args .c .0) (start .args .p) (start .args .r .0) (c .before .wide2 .result) (start .pre .3) (rw (c .before .before .before .index-from .ensures, c .before .before .before .before .wide .ensures .0) at (c .before .wide2 .ensures .0)) (c .if1 .taken))
 
 members-from-requires : tie.Need-members-from-requires
 members-from-requires c κs = search needs
@@ -43,8 +45,9 @@ wide-requires-3 c κs = search needs
 
 returns-2 : tie.Need-returns-2
 returns-2 c =
+    let start = c .before .before .before .before .before .before .before .before in
     rw (c .wide3 .ensures .0, c .before .before .members-from .ensures, c .before .before .before .before .before .before .before .wide .ensures .0)
-    (sym (before (c .before .before .before .before .before .before .before .before .args .t .now) (c .before .before .before .before .before .before .before .before .args .c .0) (c .before .before .before .before .before .before .before .before .args .p) (c .before .before .before .before .before .before .before .before .args .r .0) (c .before .before .before .before .wide2 .result) (c .before .before .before .before .before .before .before .before .pre .3) (rw (c .before .before .before .before .before .before .index-from .ensures, c .before .before .before .before .before .before .before .wide .ensures .0) at (c .before .before .before .before .wide2 .ensures .0)) (c .before .before .before .if1 .left)))
+    (sym (before (start .args .t .now) (start .args .c .0) (start .args .p) (start .args .r .0) (c .before .before .before .before .wide2 .result) (start .pre .3) (rw (c .before .before .before .before .before .before .index-from .ensures, c .before .before .before .before .before .before .before .wide .ensures .0) at (c .before .before .before .before .wide2 .ensures .0)) (c .before .before .before .if1 .left)))
 
 pub stands-before-spec : {M : Type 1} → statement M
 stands-before-spec =

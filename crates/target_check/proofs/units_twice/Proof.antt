@@ -13,10 +13,14 @@ num-reg-units-requires : tie.Need-num-reg-units-requires
 num-reg-units-requires c κs = reg-known (regInfoOf (c .before .args .t .now)) (c .before .pre .0) (c .before .args .r .0) (c .before .pre .1)
 
 cells-twice-requires : tie.Need-cells-twice-requires
-cells-twice-requires c κs = omega (arith, width-few (regInfoOf (c .before .before .args .t .now)) (c .before .before .pre .0) (c .before .before .args .r .0) (c .before .before .pre .1), reg-known (regInfoOf (c .before .before .args .t .now)) (c .before .before .pre .0) (c .before .before .args .r .0) (c .before .before .pre .1))
+cells-twice-requires c κs =
+    let start = c .before .before in
+    omega (arith, width-few (regInfoOf (start .args .t .now)) (start .pre .0) (start .args .r .0) (start .pre .1), reg-known (regInfoOf (start .args .t .now)) (start .pre .0) (start .args .r .0) (start .pre .1))
 
 returns : tie.Need-returns
-returns c = rw (c .before .before .units-from .ensures, c .before .num-reg-units .ensures, ← units-cells (c .before .before .before .args .t .now) (c .before .before .before .args .r .0) (c .before .before .before .pre .1)) at (c .cells-twice .ensures)
+returns c =
+    let start = c .before .before .before in
+    rw (c .before .before .units-from .ensures, c .before .num-reg-units .ensures, ← units-cells (start .args .t .now) (start .args .r .0) (start .pre .1)) at (c .cells-twice .ensures)
 
 pub units-twice-spec : {M : Type 1} → statement M
 units-twice-spec =

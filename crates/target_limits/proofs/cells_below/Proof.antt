@@ -30,7 +30,10 @@ wide-requires : tie.Need-wide-requires Inv-loop μ-loop
 wide-requires c κs = search needs
 
 returns : tie.Need-returns Inv-loop μ-loop
-returns c = sym (c .before .before .before .before .loop .inv .0 ∙ all-here (λ x. ltb x (c .before .before .before .before .before .args .bound)) (cells-step (c .before .before .before .before .before .args .t .now) (c .before .before .before .before .loop .i) (c .before .before .before .before .loop .left) (c .before .before .before .loop-test .taken)) (le-ltb _ _ (rw (c .before .wide .ensures .0) at (c .if1 .taken))))
+returns c =
+    let start = c .before .before .before .before .before in
+    let turn = c .before .before .before .before .loop in
+    sym (turn .inv .0 ∙ all-here (λ x. ltb x (start .args .bound)) (cells-step (start .args .t .now) (turn .i) (turn .left) (c .before .before .before .loop-test .taken)) (le-ltb _ _ (rw (c .before .wide .ensures .0) at (c .if1 .taken))))
 
 add-i : tie.Need-add-i Inv-loop μ-loop
 add-i c = search needs
@@ -42,13 +45,17 @@ loop-less : tie.Need-loop-less Inv-loop μ-loop
 loop-less c = search needs
 
 loop-again : tie.Need-loop-again Inv-loop μ-loop
-loop-again c = (c .before .before .before .before .loop .inv .0 ∙ all-on (λ x. ltb x (c .before .before .before .before .before .args .bound)) (cells-step (c .before .before .before .before .before .args .t .now) (c .before .before .before .before .loop .i) (c .before .before .before .before .loop .left) (c .before .before .before .loop-test .taken)) (lt-ltb _ _ (rw (c .before .wide .ensures .0) at (c .if1 .left))), omega arith)
+loop-again c =
+    let start = c .before .before .before .before .before in
+    let turn = c .before .before .before .before .loop in
+    (turn .inv .0 ∙ all-on (λ x. ltb x (start .args .bound)) (cells-step (start .args .t .now) (turn .i) (turn .left) (c .before .before .before .loop-test .taken)) (lt-ltb _ _ (rw (c .before .wide .ensures .0) at (c .if1 .left))), omega arith)
 
 returns-2 : tie.Need-returns-2 Inv-loop μ-loop
 unfolding all cells
 returns-2 c =
-    let z : c .before .loop .left ≡ 0 = omega arith in
-    sym (c .before .loop .inv .0 ∙ rw z)
+    let turn = c .before .loop in
+    let z : turn .left ≡ 0 = omega arith in
+    sym (turn .inv .0 ∙ rw z)
 
 pub cells-below-spec : {M : Type 1} → statement M
 cells-below-spec =

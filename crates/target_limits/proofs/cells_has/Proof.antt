@@ -28,7 +28,9 @@ wide-requires : tie.Need-wide-requires Inv-loop μ-loop
 wide-requires c κs = search needs
 
 returns : tie.Need-returns Inv-loop μ-loop
-returns c = sym (c .before .before .before .before .loop .inv .0 ∙ has-here (cells-step (c .before .before .before .before .before .args .t .now) (c .before .before .before .before .loop .i) (c .before .before .before .before .loop .left) (c .before .before .before .loop-test .taken)) (c .if1 .taken ∙ c .before .wide .ensures .0))
+returns c =
+    let turn = c .before .before .before .before .loop in
+    sym (turn .inv .0 ∙ has-here (cells-step (c .before .before .before .before .before .args .t .now) (turn .i) (turn .left) (c .before .before .before .loop-test .taken)) (c .if1 .taken ∙ c .before .wide .ensures .0))
 
 add-i : tie.Need-add-i Inv-loop μ-loop
 add-i c = search needs
@@ -40,13 +42,16 @@ loop-less : tie.Need-loop-less Inv-loop μ-loop
 loop-less c = search needs
 
 loop-again : tie.Need-loop-again Inv-loop μ-loop
-loop-again c = (c .before .before .before .before .loop .inv .0 ∙ has-on (cells-step (c .before .before .before .before .before .args .t .now) (c .before .before .before .before .loop .i) (c .before .before .before .before .loop .left) (c .before .before .before .loop-test .taken)) (λ e. c .if1 .left (e ∙ sym (c .before .wide .ensures .0))), omega arith)
+loop-again c =
+    let turn = c .before .before .before .before .loop in
+    (turn .inv .0 ∙ has-on (cells-step (c .before .before .before .before .before .args .t .now) (turn .i) (turn .left) (c .before .before .before .loop-test .taken)) (λ e. c .if1 .left (e ∙ sym (c .before .wide .ensures .0))), omega arith)
 
 returns-2 : tie.Need-returns-2 Inv-loop μ-loop
 unfolding has cells
 returns-2 c =
-    let z : c .before .loop .left ≡ 0 = omega arith in
-    sym (c .before .loop .inv .0 ∙ rw z)
+    let turn = c .before .loop in
+    let z : turn .left ≡ 0 = omega arith in
+    sym (turn .inv .0 ∙ rw z)
 
 pub cells-has-spec : {M : Type 1} → statement M
 cells-has-spec =

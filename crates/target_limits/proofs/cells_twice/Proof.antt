@@ -38,20 +38,23 @@ cells-has-requires c κs = search needs
 
 returns : tie.Need-returns Inv-loop μ-loop
 returns c =
-    sym (c .before .before .before .before .before .loop .inv .0 ∙ twice-here (cells-step (c .before .before .before .before .before .before .args .t .now) (c .before .before .before .before .before .loop .i) (c .before .before .before .before .before .loop .left) (c .before .before .before .before .loop-test .taken)) (rw (c .before .before .wide .ensures .0) at (sym (c .before .cells-has .ensures) ∙ c .if1 .taken)))
+    let turn = c .before .before .before .before .before .loop in
+    sym (turn .inv .0 ∙ twice-here (cells-step (c .before .before .before .before .before .before .args .t .now) (turn .i) (turn .left) (c .before .before .before .before .loop-test .taken)) (rw (c .before .before .wide .ensures .0) at (sym (c .before .cells-has .ensures) ∙ c .if1 .taken)))
 
 loop-less : tie.Need-loop-less Inv-loop μ-loop
 loop-less c = search needs
 
 loop-again : tie.Need-loop-again Inv-loop μ-loop
 loop-again c =
-    (c .before .before .before .before .before .loop .inv .0 ∙ twice-on (cells-step (c .before .before .before .before .before .before .args .t .now) (c .before .before .before .before .before .loop .i) (c .before .before .before .before .before .loop .left) (c .before .before .before .before .loop-test .taken)) (rw (c .before .before .wide .ensures .0) at (sym (c .before .cells-has .ensures) ∙ c .if1 .left)), omega arith)
+    let turn = c .before .before .before .before .before .loop in
+    (turn .inv .0 ∙ twice-on (cells-step (c .before .before .before .before .before .before .args .t .now) (turn .i) (turn .left) (c .before .before .before .before .loop-test .taken)) (rw (c .before .before .wide .ensures .0) at (sym (c .before .cells-has .ensures) ∙ c .if1 .left)), omega arith)
 
 returns-2 : tie.Need-returns-2 Inv-loop μ-loop
 unfolding twice cells
 returns-2 c =
-    let z : c .before .loop .left ≡ 0 = omega arith in
-    sym (c .before .loop .inv .0 ∙ rw z)
+    let turn = c .before .loop in
+    let z : turn .left ≡ 0 = omega arith in
+    sym (turn .inv .0 ∙ rw z)
 
 pub cells-twice-spec : {M : Type 1} → statement M
 cells-twice-spec =

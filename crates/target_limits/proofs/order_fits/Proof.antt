@@ -26,8 +26,9 @@ cells-below-requires c κs = search needs
 
 returns-2 : tie.Need-returns-2
 returns-2 c =
+    let start = c .before .before .before .before .before in
     rw (le-leb _ _ (rw (c .before .before .before .before .order-len .ensures) at (c .before .before .before .if1 .left)))
-    (rw (c .before .before .order-from .ensures, c .before .before .before .before .order-len .ensures, c .before .num-regs .ensures) at (c .cells-below .ensures) ∙ ap (allBelow (numRegs (regInfoOf (c .before .before .before .before .before .args .t .now)))) (sym (order-cells (c .before .before .before .before .before .args .t .now) (c .before .before .before .before .before .args .c .0) (c .before .before .before .before .before .pre .is))))
+    (rw (c .before .before .order-from .ensures, c .before .before .before .before .order-len .ensures, c .before .num-regs .ensures) at (c .cells-below .ensures) ∙ ap (allBelow (numRegs (regInfoOf (start .args .t .now)))) (sym (order-cells (start .args .t .now) (start .args .c .0) (start .pre .is))))
 
 pub order-fits-spec : {M : Type 1} → statement M
 order-fits-spec =

@@ -30,7 +30,9 @@ order-len-requires : tie.Need-order-len-requires Inv-loop μ-loop
 order-len-requires c κs = search needs
 
 add-n : tie.Need-add-n Inv-loop μ-loop
-add-n c = omega (arith, order-few-at (regInfoOf (c .before .before .before .before .args .t .now)) (c .before .before .before .before .pre .1) (c .before .before .loop .i) (omega arith))
+add-n c =
+    let start = c .before .before .before .before in
+    omega (arith, order-few-at (regInfoOf (start .args .t .now)) (start .pre .1) (c .before .before .loop .i) (omega arith))
 
 add-i : tie.Need-add-i Inv-loop μ-loop
 add-i c = search needs
@@ -42,17 +44,20 @@ loop-less : tie.Need-loop-less Inv-loop μ-loop
 loop-less c = search needs
 
 loop-again : tie.Need-loop-again Inv-loop μ-loop
-loop-again c = (
-  omega (arith, c .before .before .loop .inv .0, total-step (c .before .before .before .before .args .t .now) (c .before .before .loop .i) (c .before .before .loop .left) (c .before .loop-test .taken) (omega arith)),
-  omega arith,
-  omega (arith, order-few-at (regInfoOf (c .before .before .before .before .args .t .now)) (c .before .before .before .before .pre .1) (c .before .before .loop .i) (omega arith)),
-)
+loop-again c =
+    let start = c .before .before .before .before in
+    let turn = c .before .before .loop in (
+      omega (arith, turn .inv .0, total-step (start .args .t .now) (turn .i) (turn .left) (c .before .loop-test .taken) (omega arith)),
+      omega arith,
+      omega (arith, order-few-at (regInfoOf (start .args .t .now)) (start .pre .1) (turn .i) (omega arith)),
+    )
 
 returns : tie.Need-returns Inv-loop μ-loop
 unfolding orderTotal indices
 returns c =
-    let z : c .before .loop .left ≡ 0 = omega arith in
-    omega (arith, rw z at (c .before .loop .inv .0))
+    let turn = c .before .loop in
+    let z : turn .left ≡ 0 = omega arith in
+    omega (arith, rw z at (turn .inv .0))
 
 pub order-total-spec : {M : Type 1} → statement M
 order-total-spec =

@@ -45,7 +45,9 @@ unfolding regFits
 returns-3 c = rw (le-leb _ _ (rw (c .before .before .before .before .before .before .before .before .memory-flag .ensures) at (c .before .before .before .before .before .before .before .if1 .left)), lt-ltb _ _ (rw (c .before .before .before .before .before .num-banks .ensures, c .before .before .before .before .wide .ensures .0 ∙ c .before .before .before .before .before .before .bank-for-reg .ensures) at (c .before .before .before .if2 .left)), rw (c .before .before .num-reg-units .ensures) at (sym (c .before .within .ensures) ∙ not-true _ (c .if3 .taken)))
 
 units-below-requires : tie.Need-units-below-requires
-units-below-requires c κs = (c .before .before .before .before .before .before .before .before .before .pre, within-high 1 8 (length (regUnits (regInfoOf (c .before .before .before .before .before .before .before .before .before .args .t .now)) (c .before .before .before .before .before .before .before .before .before .args .r .0))) (width-fits c))
+units-below-requires c κs =
+    let start = c .before .before .before .before .before .before .before .before .before in
+    (start .pre, within-high 1 8 (length (regUnits (regInfoOf (start .args .t .now)) (start .args .r .0))) (width-fits c))
 
 returns-4 : tie.Need-returns-4
 unfolding regFits

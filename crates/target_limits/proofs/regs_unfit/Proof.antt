@@ -34,7 +34,9 @@ reg-fits-requires : tie.Need-reg-fits-requires Inv-loop μ-loop
 reg-fits-requires c κs = search needs
 
 returns : tie.Need-returns Inv-loop μ-loop
-returns c = sym (c .before .before .before .loop .inv .0 ∙ any-here (bad (c .before .before .before .before .before .args .t .now)) (indices-step (c .before .before .before .loop .i) (c .before .before .before .loop .left) (c .before .before .loop-test .taken)) (ap no (sym (c .before .reg-fits .ensures) ∙ not-true _ (c .if1 .taken))))
+returns c =
+    let turn = c .before .before .before .loop in
+    sym (turn .inv .0 ∙ any-here (bad (c .before .before .before .before .before .args .t .now)) (indices-step (turn .i) (turn .left) (c .before .before .loop-test .taken)) (ap no (sym (c .before .reg-fits .ensures) ∙ not-true _ (c .if1 .taken))))
 
 add-i : tie.Need-add-i Inv-loop μ-loop
 add-i c = search needs
@@ -46,13 +48,16 @@ loop-less : tie.Need-loop-less Inv-loop μ-loop
 loop-less c = search needs
 
 loop-again : tie.Need-loop-again Inv-loop μ-loop
-loop-again c = (c .before .before .before .loop .inv .0 ∙ any-on (bad (c .before .before .before .before .before .args .t .now)) (indices-step (c .before .before .before .loop .i) (c .before .before .before .loop .left) (c .before .before .loop-test .taken)) (ap no (sym (c .before .reg-fits .ensures) ∙ not-false _ (c .if1 .left))), omega arith)
+loop-again c =
+    let turn = c .before .before .before .loop in
+    (turn .inv .0 ∙ any-on (bad (c .before .before .before .before .before .args .t .now)) (indices-step (turn .i) (turn .left) (c .before .before .loop-test .taken)) (ap no (sym (c .before .reg-fits .ensures) ∙ not-false _ (c .if1 .left))), omega arith)
 
 returns-2 : tie.Need-returns-2 Inv-loop μ-loop
 unfolding any indices
 returns-2 c =
-    let z : c .before .loop .left ≡ 0 = omega arith in
-    sym (c .before .loop .inv .0 ∙ rw z)
+    let turn = c .before .loop in
+    let z : turn .left ≡ 0 = omega arith in
+    sym (turn .inv .0 ∙ rw z)
 
 pub regs-unfit-spec : {M : Type 1} → statement M
 regs-unfit-spec =

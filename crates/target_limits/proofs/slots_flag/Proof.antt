@@ -23,7 +23,9 @@ wide-requires-2 : tie.Need-wide-requires-2
 wide-requires-2 c κs = search needs
 
 returns : tie.Need-returns
-returns c = rw (c .wide2 .ensures .0, slots-is (c .before .before .before .args .t .now) (c .before .before .before .args .c .0) (c .before .before .before .pre .is), c .before .before .wide .ensures .0)
+returns c =
+    let start = c .before .before .before in
+    rw (c .wide2 .ensures .0, slots-is (start .args .t .now) (start .args .c .0) (start .pre .is), c .before .before .wide .ensures .0)
 
 pub slots-flag-spec : {M : Type 1} → statement M
 slots-flag-spec =

@@ -20,7 +20,9 @@ cells-below-requires : tie.Need-cells-below-requires
 cells-below-requires c κs = search needs
 
 returns : tie.Need-returns
-returns c = rw (c .before .before .before .units-from .ensures, c .before .before .num-reg-units .ensures, c .before .num-units .ensures) at (c .cells-below .ensures) ∙ ap (allBelow (regInfoOf (c .before .before .before .before .args .t .now) .units)) (sym (units-cells (c .before .before .before .before .args .t .now) (c .before .before .before .before .args .r .0) (c .before .before .before .before .pre .0 .is)))
+returns c =
+    let start = c .before .before .before .before in
+    rw (c .before .before .before .units-from .ensures, c .before .before .num-reg-units .ensures, c .before .num-units .ensures) at (c .cells-below .ensures) ∙ ap (allBelow (regInfoOf (start .args .t .now) .units)) (sym (units-cells (start .args .t .now) (start .args .r .0) (start .pre .0 .is)))
 
 pub units-below-spec : {M : Type 1} → statement M
 units-below-spec =

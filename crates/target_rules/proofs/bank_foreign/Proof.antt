@@ -16,10 +16,14 @@ returns : tie.Need-returns
 returns c = rw (ne-eqb _ _ (λ e. c .if1 .taken (rw (c .before .before .before .before .top-level-class .ensures) at (c .before .before .before .bank-for-class .ensures) ∙ e)))
 
 stack-to-stack-class-requires : tie.Need-stack-to-stack-class-requires
-stack-to-stack-class-requires c κs = bank-known (regInfoOf (c .before .before .before .before .before .args .t .now)) (c .before .before .before .before .before .pre .0) (c .before .before .before .before .before .args .b .0) (c .before .before .before .before .before .pre .1)
+stack-to-stack-class-requires c κs =
+    let start = c .before .before .before .before .before in
+    bank-known (regInfoOf (start .args .t .now)) (start .pre .0) (start .args .b .0) (start .pre .1)
 
 bank-for-class-requires-2 : tie.Need-bank-for-class-requires-2
-bank-for-class-requires-2 c κs = rw (c .stack-to-stack-class .ensures) (stack-known (regInfoOf (c .before .before .before .before .before .before .args .t .now)) (c .before .before .before .before .before .before .pre .0) (c .before .before .before .before .before .before .args .b .0) (c .before .before .before .before .before .before .pre .1))
+bank-for-class-requires-2 c κs =
+    let start = c .before .before .before .before .before .before in
+    rw (c .stack-to-stack-class .ensures) (stack-known (regInfoOf (start .args .t .now)) (start .pre .0) (start .args .b .0) (start .pre .1))
 
 returns-2 : tie.Need-returns-2
 returns-2 c = rw (eq-eqb _ _ (sym (rw (c .before .before .before .before .before .before .before .before .before .top-level-class .ensures) at (c .before .before .before .before .before .before .before .before .bank-for-class .ensures)) ∙ c .before .before .before .before .before .if1 .left), ne-eqb _ _ (λ e. c .if2 .taken (rw (c .before .before .before .before .stack-to-stack-class .ensures) at (c .before .before .before .bank-for-class2 .ensures) ∙ e)))

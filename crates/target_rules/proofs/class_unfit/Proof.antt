@@ -20,16 +20,22 @@ returns : tie.Need-returns
 returns c = rw (sym (c .before .class-includes-spillslots .ensures) ∙ c .if1 .taken)
 
 order-len-requires : tie.Need-order-len-requires
-order-len-requires c κs = class-known (regInfoOf (c .before .before .args .t .now)) (c .before .before .pre .0) (c .before .before .args .c .0) (c .before .before .pre .1)
+order-len-requires c κs =
+    let start = c .before .before in
+    class-known (regInfoOf (start .args .t .now)) (start .pre .0) (start .args .c .0) (start .pre .1)
 
 returns-2 : tie.Need-returns-2
 returns-2 c = rw (sym (c .before .before .before .class-includes-spillslots .ensures) ∙ c .before .before .if1 .left, eq-eqb _ _ (sym (c .before .order-len .ensures) ∙ c .if2 .taken))
 
 order-last-requires : tie.Need-order-last-requires
-order-last-requires c κs = (class-known (regInfoOf (c .before .before .before .before .args .t .now)) (c .before .before .before .before .pre .0) (c .before .before .before .before .args .c .0) (c .before .before .before .before .pre .1), some-order c, list-few (regInfoOf (c .before .before .before .before .args .t .now)) (allocationOrder (regInfoOf (c .before .before .before .before .args .t .now)) (c .before .before .before .before .args .c .0)) (order-listed (regInfoOf (c .before .before .before .before .args .t .now)) (c .before .before .before .before .pre .0) (c .before .before .before .before .args .c .0) (c .before .before .before .before .pre .1)))
+order-last-requires c κs =
+    let start = c .before .before .before .before in
+    (class-known (regInfoOf (start .args .t .now)) (start .pre .0) (start .args .c .0) (start .pre .1), some-order c, list-few (regInfoOf (start .args .t .now)) (allocationOrder (regInfoOf (start .args .t .now)) (start .args .c .0)) (order-listed (regInfoOf (start .args .t .now)) (start .pre .0) (start .args .c .0) (start .pre .1)))
 
 is-memory-reg-requires : tie.Need-is-memory-reg-requires
-is-memory-reg-requires c κs = rw (c .order-last .ensures) (last-known (regInfoOf (c .before .before .before .before .before .args .t .now)) (c .before .before .before .before .before .pre .0) (c .before .before .before .before .before .args .c .0) (c .before .before .before .before .before .pre .1) (some-order (c .before)))
+is-memory-reg-requires c κs =
+    let start = c .before .before .before .before .before in
+    rw (c .order-last .ensures) (last-known (regInfoOf (start .args .t .now)) (start .pre .0) (start .args .c .0) (start .pre .1) (some-order (c .before)))
 
 returns-3 : tie.Need-returns-3
 returns-3 c = rw (sym (c .before .before .before .before .before .class-includes-spillslots .ensures) ∙ c .before .before .before .before .if1 .left, ne-eqb _ _ (λ e. c .before .before .if2 .left (c .before .before .before .order-len .ensures ∙ e))) (rw (c .before .order-last .ensures) at (c .is-memory-reg .ensures))

@@ -31,13 +31,19 @@ loop-holds : tie.Need-loop-holds Inv-loop μ-loop
 loop-holds c = (rw (c .num-classes .ensures), omega arith)
 
 class-foreign-requires : tie.Need-class-foreign-requires Inv-loop μ-loop
-class-foreign-requires c κs = (c .before .before .before .pre .0, omega arith, c .before .before .before .pre .1)
+class-foreign-requires c κs =
+    let start = c .before .before .before in
+    (start .pre .0, omega arith, start .pre .1)
 
 returns : tie.Need-returns Inv-loop μ-loop
-returns c = sym (c .before .before .before .loop .inv .0 ∙ any-here (bad (c .before .before .before .before .before .args .t .now)) (indices-step (c .before .before .before .loop .i) (c .before .before .before .loop .left) (c .before .before .loop-test .taken)) (sym (c .before .class-foreign .ensures) ∙ c .if1 .taken))
+returns c =
+    let turn = c .before .before .before .loop in
+    sym (turn .inv .0 ∙ any-here (bad (c .before .before .before .before .before .args .t .now)) (indices-step (turn .i) (turn .left) (c .before .before .loop-test .taken)) (sym (c .before .class-foreign .ensures) ∙ c .if1 .taken))
 
 add-i : tie.Need-add-i Inv-loop μ-loop
-add-i c = omega (arith, classes-few (regInfoOf (c .before .before .before .before .before .args .t .now)) (counts-of (regInfoOf (c .before .before .before .before .before .args .t .now)) (c .before .before .before .before .before .pre .0)))
+add-i c =
+    let start = c .before .before .before .before .before in
+    omega (arith, classes-few (regInfoOf (start .args .t .now)) (counts-of (regInfoOf (start .args .t .now)) (start .pre .0)))
 
 sub-left : tie.Need-sub-left Inv-loop μ-loop
 sub-left c = search needs
@@ -46,13 +52,16 @@ loop-less : tie.Need-loop-less Inv-loop μ-loop
 loop-less c = search needs
 
 loop-again : tie.Need-loop-again Inv-loop μ-loop
-loop-again c = (c .before .before .before .loop .inv .0 ∙ any-on (bad (c .before .before .before .before .before .args .t .now)) (indices-step (c .before .before .before .loop .i) (c .before .before .before .loop .left) (c .before .before .loop-test .taken)) (sym (c .before .class-foreign .ensures) ∙ c .if1 .left), omega arith)
+loop-again c =
+    let turn = c .before .before .before .loop in
+    (turn .inv .0 ∙ any-on (bad (c .before .before .before .before .before .args .t .now)) (indices-step (turn .i) (turn .left) (c .before .before .loop-test .taken)) (sym (c .before .class-foreign .ensures) ∙ c .if1 .left), omega arith)
 
 returns-2 : tie.Need-returns-2 Inv-loop μ-loop
 unfolding any indices
 returns-2 c =
-    let z : c .before .loop .left ≡ 0 = omega arith in
-    sym (c .before .loop .inv .0 ∙ rw z)
+    let turn = c .before .loop in
+    let z : turn .left ≡ 0 = omega arith in
+    sym (turn .inv .0 ∙ rw z)
 
 pub classes-foreign-spec : {M : Type 1} → statement M
 classes-foreign-spec =

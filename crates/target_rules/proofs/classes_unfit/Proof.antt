@@ -34,10 +34,14 @@ class-unfit-requires : tie.Need-class-unfit-requires Inv-loop μ-loop
 class-unfit-requires c κs = (c .before .before .before .pre, omega arith)
 
 returns : tie.Need-returns Inv-loop μ-loop
-returns c = sym (c .before .before .before .loop .inv .0 ∙ any-here (bad (c .before .before .before .before .before .args .t .now)) (indices-step (c .before .before .before .loop .i) (c .before .before .before .loop .left) (c .before .before .loop-test .taken)) (sym (c .before .class-unfit .ensures) ∙ c .if1 .taken))
+returns c =
+    let turn = c .before .before .before .loop in
+    sym (turn .inv .0 ∙ any-here (bad (c .before .before .before .before .before .args .t .now)) (indices-step (turn .i) (turn .left) (c .before .before .loop-test .taken)) (sym (c .before .class-unfit .ensures) ∙ c .if1 .taken))
 
 add-i : tie.Need-add-i Inv-loop μ-loop
-add-i c = omega (arith, classes-few (regInfoOf (c .before .before .before .before .before .args .t .now)) (counts-of (regInfoOf (c .before .before .before .before .before .args .t .now)) (c .before .before .before .before .before .pre)))
+add-i c =
+    let start = c .before .before .before .before .before in
+    omega (arith, classes-few (regInfoOf (start .args .t .now)) (counts-of (regInfoOf (start .args .t .now)) (start .pre)))
 
 sub-left : tie.Need-sub-left Inv-loop μ-loop
 sub-left c = search needs
@@ -46,13 +50,16 @@ loop-less : tie.Need-loop-less Inv-loop μ-loop
 loop-less c = search needs
 
 loop-again : tie.Need-loop-again Inv-loop μ-loop
-loop-again c = (c .before .before .before .loop .inv .0 ∙ any-on (bad (c .before .before .before .before .before .args .t .now)) (indices-step (c .before .before .before .loop .i) (c .before .before .before .loop .left) (c .before .before .loop-test .taken)) (sym (c .before .class-unfit .ensures) ∙ c .if1 .left), omega arith)
+loop-again c =
+    let turn = c .before .before .before .loop in
+    (turn .inv .0 ∙ any-on (bad (c .before .before .before .before .before .args .t .now)) (indices-step (turn .i) (turn .left) (c .before .before .loop-test .taken)) (sym (c .before .class-unfit .ensures) ∙ c .if1 .left), omega arith)
 
 returns-2 : tie.Need-returns-2 Inv-loop μ-loop
 unfolding any indices
 returns-2 c =
-    let z : c .before .loop .left ≡ 0 = omega arith in
-    sym (c .before .loop .inv .0 ∙ rw z)
+    let turn = c .before .loop in
+    let z : turn .left ≡ 0 = omega arith in
+    sym (turn .inv .0 ∙ rw z)
 
 pub classes-unfit-spec : {M : Type 1} → statement M
 classes-unfit-spec =

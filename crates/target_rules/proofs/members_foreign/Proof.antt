@@ -14,17 +14,22 @@ members-from-requires : tie.Need-members-from-requires
 members-from-requires c κs = omega (arith, class-known (regInfoOf (c .before .args .t .now)) (c .before .pre .0) (c .before .args .c .0) (c .before .pre .1))
 
 num-members-requires : tie.Need-num-members-requires
-num-members-requires c κs = class-known (regInfoOf (c .before .before .args .t .now)) (c .before .before .pre .0) (c .before .before .args .c .0) (c .before .before .pre .1)
+num-members-requires c κs =
+    let start = c .before .before in
+    class-known (regInfoOf (start .args .t .now)) (start .pre .0) (start .args .c .0) (start .pre .1)
 
 regs-foreign-requires : tie.Need-regs-foreign-requires
-regs-foreign-requires c κs = (
-  c .before .before .before .pre .0,
-  omega (arith, list-few (regInfoOf (c .before .before .before .args .t .now)) (classMembers (regInfoOf (c .before .before .before .args .t .now)) (c .before .before .before .args .c .0)) (members-listed (regInfoOf (c .before .before .before .args .t .now)) (c .before .before .before .pre .0) (c .before .before .before .args .c .0) (c .before .before .before .pre .1)), class-known (regInfoOf (c .before .before .before .args .t .now)) (c .before .before .before .pre .0) (c .before .before .before .args .c .0) (c .before .before .before .pre .1)),
-  rw (c .before .members-from .ensures, c .num-members .ensures, ← members-cells (c .before .before .before .args .t .now) (c .before .before .before .args .c .0) (c .before .before .before .pre .1)) (list-known (regInfoOf (c .before .before .before .args .t .now)) (classMembers (regInfoOf (c .before .before .before .args .t .now)) (c .before .before .before .args .c .0)) (members-listed (regInfoOf (c .before .before .before .args .t .now)) (c .before .before .before .pre .0) (c .before .before .before .args .c .0) (c .before .before .before .pre .1))),
-)
+regs-foreign-requires c κs =
+    let start = c .before .before .before in (
+      start .pre .0,
+      omega (arith, list-few (regInfoOf (start .args .t .now)) (classMembers (regInfoOf (start .args .t .now)) (start .args .c .0)) (members-listed (regInfoOf (start .args .t .now)) (start .pre .0) (start .args .c .0) (start .pre .1)), class-known (regInfoOf (start .args .t .now)) (start .pre .0) (start .args .c .0) (start .pre .1)),
+      rw (c .before .members-from .ensures, c .num-members .ensures, ← members-cells (start .args .t .now) (start .args .c .0) (start .pre .1)) (list-known (regInfoOf (start .args .t .now)) (classMembers (regInfoOf (start .args .t .now)) (start .args .c .0)) (members-listed (regInfoOf (start .args .t .now)) (start .pre .0) (start .args .c .0) (start .pre .1))),
+    )
 
 returns : tie.Need-returns
-returns c = rw (c .before .before .before .bank-for-class .ensures, c .before .before .members-from .ensures, c .before .num-members .ensures, ← members-cells (c .before .before .before .before .args .t .now) (c .before .before .before .before .args .c .0) (c .before .before .before .before .pre .1)) at (c .regs-foreign .ensures)
+returns c =
+    let start = c .before .before .before .before in
+    rw (c .before .before .before .bank-for-class .ensures, c .before .before .members-from .ensures, c .before .num-members .ensures, ← members-cells (start .args .t .now) (start .args .c .0) (start .pre .1)) at (c .regs-foreign .ensures)
 
 pub members-foreign-spec : {M : Type 1} → statement M
 members-foreign-spec =

@@ -32,10 +32,11 @@ order-len-requires c κs = class-known (regInfoOf (c .before .args .t .now)) (c 
 
 loop-holds : tie.Need-loop-holds Inv-loop μ-loop
 loop-holds c =
-    rw (c .before .order-from .ensures, c .order-len .ensures, ← order-cells (c .before .before .args .t .now) (c .before .before .args .c .0) (c .before .before .pre .1)) (
+    let start = c .before .before in
+    rw (c .before .order-from .ensures, c .order-len .ensures, ← order-cells (start .args .t .now) (start .args .c .0) (start .pre .1)) (
       refl,
-      omega (arith, list-few (regInfoOf (c .before .before .args .t .now)) (allocationOrder (regInfoOf (c .before .before .args .t .now)) (c .before .before .args .c .0)) (order-listed (regInfoOf (c .before .before .args .t .now)) (c .before .before .pre .0) (c .before .before .args .c .0) (c .before .before .pre .1)), class-known (regInfoOf (c .before .before .args .t .now)) (c .before .before .pre .0) (c .before .before .args .c .0) (c .before .before .pre .1)),
-      list-known (regInfoOf (c .before .before .args .t .now)) (allocationOrder (regInfoOf (c .before .before .args .t .now)) (c .before .before .args .c .0)) (order-listed (regInfoOf (c .before .before .args .t .now)) (c .before .before .pre .0) (c .before .before .args .c .0) (c .before .before .pre .1)),
+      omega (arith, list-few (regInfoOf (start .args .t .now)) (allocationOrder (regInfoOf (start .args .t .now)) (start .args .c .0)) (order-listed (regInfoOf (start .args .t .now)) (start .pre .0) (start .args .c .0) (start .pre .1)), class-known (regInfoOf (start .args .t .now)) (start .pre .0) (start .args .c .0) (start .pre .1)),
+      list-known (regInfoOf (start .args .t .now)) (allocationOrder (regInfoOf (start .args .t .now)) (start .args .c .0)) (order-listed (regInfoOf (start .args .t .now)) (start .pre .0) (start .args .c .0) (start .pre .1)),
     )
 
 mul-t6 : tie.Need-mul-t6 Inv-loop μ-loop
@@ -45,10 +46,16 @@ element-copy-out-t9 : tie.Need-element-copy-out-t9 Inv-loop μ-loop
 element-copy-out-t9 c = search needs
 
 class-has-reg-requires : tie.Need-class-has-reg-requires Inv-loop μ-loop
-class-has-reg-requires c κs = (members-known (c .before .before .before .before .before .args .t .now) (c .before .before .before .before .before .pre .0) (c .before .before .before .before .before .pre .2) (c .before .before .before .before .before .args .c .0) (c .before .before .before .before .before .pre .1), omega (arith, reg-known (regInfoOf (c .before .before .before .before .before .args .t .now)) (c .before .before .before .before .before .pre .0) (getD (c .before .before .before .before .before .args .t .now) (c .before .before .loop .i) 0) (ltb-true _ _ (all-first (λ x. ltb x (numRegs (regInfoOf (c .before .before .before .before .before .args .t .now)))) (cells-step (c .before .before .before .before .before .args .t .now) (c .before .before .loop .i) (c .before .before .loop .left) (c .before .loop-test .taken)) (c .before .before .loop .inv .2)))))
+class-has-reg-requires c κs =
+    let start = c .before .before .before .before .before in
+    let turn = c .before .before .loop in
+    (members-known (start .args .t .now) (start .pre .0) (start .pre .2) (start .args .c .0) (start .pre .1), omega (arith, reg-known (regInfoOf (start .args .t .now)) (start .pre .0) (getD (start .args .t .now) (turn .i) 0) (ltb-true _ _ (all-first (λ x. ltb x (numRegs (regInfoOf (start .args .t .now)))) (cells-step (start .args .t .now) (turn .i) (turn .left) (c .before .loop-test .taken)) (turn .inv .2)))))
 
 returns : tie.Need-returns Inv-loop μ-loop
-returns c = sym (c .before .before .before .before .loop .inv .0 ∙ any-here (noMember (regInfoOf (c .before .before .before .before .before .before .before .args .t .now)) (c .before .before .before .before .before .before .before .args .c .0)) (cells-step (c .before .before .before .before .before .before .before .args .t .now) (c .before .before .before .before .loop .i) (c .before .before .before .before .loop .left) (c .before .before .before .loop-test .taken)) (ap no (sym (c .before .class-has-reg .ensures) ∙ not-true _ (c .if1 .taken))))
+returns c =
+    let start = c .before .before .before .before .before .before .before in
+    let turn = c .before .before .before .before .loop in
+    sym (turn .inv .0 ∙ any-here (noMember (regInfoOf (start .args .t .now)) (start .args .c .0)) (cells-step (start .args .t .now) (turn .i) (turn .left) (c .before .before .before .loop-test .taken)) (ap no (sym (c .before .class-has-reg .ensures) ∙ not-true _ (c .if1 .taken))))
 
 add-i : tie.Need-add-i Inv-loop μ-loop
 add-i c = search needs
@@ -60,17 +67,20 @@ loop-less : tie.Need-loop-less Inv-loop μ-loop
 loop-less c = search needs
 
 loop-again : tie.Need-loop-again Inv-loop μ-loop
-loop-again c = (
-  c .before .before .before .before .loop .inv .0 ∙ any-on (noMember (regInfoOf (c .before .before .before .before .before .before .before .args .t .now)) (c .before .before .before .before .before .before .before .args .c .0)) (cells-step (c .before .before .before .before .before .before .before .args .t .now) (c .before .before .before .before .loop .i) (c .before .before .before .before .loop .left) (c .before .before .before .loop-test .taken)) (ap no (sym (c .before .class-has-reg .ensures) ∙ not-false _ (c .if1 .left))),
-  omega arith,
-  all-rest (λ x. ltb x (numRegs (regInfoOf (c .before .before .before .before .before .before .before .args .t .now)))) (cells-step (c .before .before .before .before .before .before .before .args .t .now) (c .before .before .before .before .loop .i) (c .before .before .before .before .loop .left) (c .before .before .before .loop-test .taken)) (c .before .before .before .before .loop .inv .2),
-)
+loop-again c =
+    let start = c .before .before .before .before .before .before .before in
+    let turn = c .before .before .before .before .loop in (
+      turn .inv .0 ∙ any-on (noMember (regInfoOf (start .args .t .now)) (start .args .c .0)) (cells-step (start .args .t .now) (turn .i) (turn .left) (c .before .before .before .loop-test .taken)) (ap no (sym (c .before .class-has-reg .ensures) ∙ not-false _ (c .if1 .left))),
+      omega arith,
+      all-rest (λ x. ltb x (numRegs (regInfoOf (start .args .t .now)))) (cells-step (start .args .t .now) (turn .i) (turn .left) (c .before .before .before .loop-test .taken)) (turn .inv .2),
+    )
 
 returns-2 : tie.Need-returns-2 Inv-loop μ-loop
 unfolding any cells
 returns-2 c =
-    let z : c .before .loop .left ≡ 0 = omega arith in
-    sym (c .before .loop .inv .0 ∙ rw z)
+    let turn = c .before .loop in
+    let z : turn .left ≡ 0 = omega arith in
+    sym (turn .inv .0 ∙ rw z)
 
 pub order-foreign-spec : {M : Type 1} → statement M
 order-foreign-spec =

@@ -14,14 +14,17 @@ order-len-requires : tie.Need-order-len-requires
 order-len-requires c κs = class-known (regInfoOf (c .before .args .t .now)) (c .before .pre .0) (c .before .args .c .0) (c .before .pre .1)
 
 any-memory-requires : tie.Need-any-memory-requires
-any-memory-requires c κs = (
-  c .before .before .pre .0,
-  omega (arith, list-few (regInfoOf (c .before .before .args .t .now)) (allocationOrder (regInfoOf (c .before .before .args .t .now)) (c .before .before .args .c .0)) (order-listed (regInfoOf (c .before .before .args .t .now)) (c .before .before .pre .0) (c .before .before .args .c .0) (c .before .before .pre .1)), class-known (regInfoOf (c .before .before .args .t .now)) (c .before .before .pre .0) (c .before .before .args .c .0) (c .before .before .pre .1)),
-  rw (c .before .order-from .ensures, c .order-len .ensures, ← order-cells (c .before .before .args .t .now) (c .before .before .args .c .0) (c .before .before .pre .1)) (list-known (regInfoOf (c .before .before .args .t .now)) (allocationOrder (regInfoOf (c .before .before .args .t .now)) (c .before .before .args .c .0)) (order-listed (regInfoOf (c .before .before .args .t .now)) (c .before .before .pre .0) (c .before .before .args .c .0) (c .before .before .pre .1))),
-)
+any-memory-requires c κs =
+    let start = c .before .before in (
+      start .pre .0,
+      omega (arith, list-few (regInfoOf (start .args .t .now)) (allocationOrder (regInfoOf (start .args .t .now)) (start .args .c .0)) (order-listed (regInfoOf (start .args .t .now)) (start .pre .0) (start .args .c .0) (start .pre .1)), class-known (regInfoOf (start .args .t .now)) (start .pre .0) (start .args .c .0) (start .pre .1)),
+      rw (c .before .order-from .ensures, c .order-len .ensures, ← order-cells (start .args .t .now) (start .args .c .0) (start .pre .1)) (list-known (regInfoOf (start .args .t .now)) (allocationOrder (regInfoOf (start .args .t .now)) (start .args .c .0)) (order-listed (regInfoOf (start .args .t .now)) (start .pre .0) (start .args .c .0) (start .pre .1))),
+    )
 
 returns : tie.Need-returns
-returns c = rw (c .before .before .order-from .ensures, c .before .order-len .ensures, ← order-cells (c .before .before .before .args .t .now) (c .before .before .before .args .c .0) (c .before .before .before .pre .1)) at (c .any-memory .ensures)
+returns c =
+    let start = c .before .before .before in
+    rw (c .before .before .order-from .ensures, c .before .order-len .ensures, ← order-cells (start .args .t .now) (start .args .c .0) (start .pre .1)) at (c .any-memory .ensures)
 
 pub order-memory-spec : {M : Type 1} → statement M
 order-memory-spec =

@@ -34,10 +34,16 @@ element-copy-out-t12 : tie.Need-element-copy-out-t12 Inv-loop μ-loop
 element-copy-out-t12 c = search needs
 
 bank-for-reg-requires : tie.Need-bank-for-reg-requires Inv-loop μ-loop
-bank-for-reg-requires c κs = reg-known (regInfoOf (c .before .before .before .args .t .now)) (c .before .before .before .pre .0) (getD (c .before .before .before .args .t .now) (c .before .before .loop .i) 0) (ltb-true _ _ (all-first (λ x. ltb x (numRegs (regInfoOf (c .before .before .before .args .t .now)))) (cells-step (c .before .before .before .args .t .now) (c .before .before .loop .i) (c .before .before .loop .left) (c .before .loop-test .taken)) (c .before .before .loop .inv .2)))
+bank-for-reg-requires c κs =
+    let start = c .before .before .before in
+    let turn = c .before .before .loop in
+    reg-known (regInfoOf (start .args .t .now)) (start .pre .0) (getD (start .args .t .now) (turn .i) 0) (ltb-true _ _ (all-first (λ x. ltb x (numRegs (regInfoOf (start .args .t .now)))) (cells-step (start .args .t .now) (turn .i) (turn .left) (c .before .loop-test .taken)) (turn .inv .2)))
 
 returns : tie.Need-returns Inv-loop μ-loop
-returns c = sym (c .before .before .before .before .before .before .loop .inv .0 ∙ any-here (foreignTo (regInfoOf (c .before .before .before .before .before .before .before .args .t .now)) (c .before .before .before .before .before .before .before .args .b .0)) (cells-step (c .before .before .before .before .before .before .before .args .t .now) (c .before .before .before .before .before .before .loop .i) (c .before .before .before .before .before .before .loop .left) (c .before .before .before .before .before .loop-test .taken)) (ap no (ne-eqb _ _ (λ e. c .if1 .taken (c .before .before .before .bank-for-reg .ensures ∙ e)))))
+returns c =
+    let start = c .before .before .before .before .before .before .before in
+    let turn = c .before .before .before .before .before .before .loop in
+    sym (turn .inv .0 ∙ any-here (foreignTo (regInfoOf (start .args .t .now)) (start .args .b .0)) (cells-step (start .args .t .now) (turn .i) (turn .left) (c .before .before .before .before .before .loop-test .taken)) (ap no (ne-eqb _ _ (λ e. c .if1 .taken (c .before .before .before .bank-for-reg .ensures ∙ e)))))
 
 add-i : tie.Need-add-i Inv-loop μ-loop
 add-i c = search needs
@@ -49,17 +55,20 @@ loop-less : tie.Need-loop-less Inv-loop μ-loop
 loop-less c = search needs
 
 loop-again : tie.Need-loop-again Inv-loop μ-loop
-loop-again c = (
-  c .before .before .before .before .before .before .loop .inv .0 ∙ any-on (foreignTo (regInfoOf (c .before .before .before .before .before .before .before .args .t .now)) (c .before .before .before .before .before .before .before .args .b .0)) (cells-step (c .before .before .before .before .before .before .before .args .t .now) (c .before .before .before .before .before .before .loop .i) (c .before .before .before .before .before .before .loop .left) (c .before .before .before .before .before .loop-test .taken)) (ap no (eq-eqb _ _ (sym (c .before .before .before .bank-for-reg .ensures) ∙ c .if1 .left))),
-  omega arith,
-  all-rest (λ x. ltb x (numRegs (regInfoOf (c .before .before .before .before .before .before .before .args .t .now)))) (cells-step (c .before .before .before .before .before .before .before .args .t .now) (c .before .before .before .before .before .before .loop .i) (c .before .before .before .before .before .before .loop .left) (c .before .before .before .before .before .loop-test .taken)) (c .before .before .before .before .before .before .loop .inv .2),
-)
+loop-again c =
+    let start = c .before .before .before .before .before .before .before in
+    let turn = c .before .before .before .before .before .before .loop in (
+      turn .inv .0 ∙ any-on (foreignTo (regInfoOf (start .args .t .now)) (start .args .b .0)) (cells-step (start .args .t .now) (turn .i) (turn .left) (c .before .before .before .before .before .loop-test .taken)) (ap no (eq-eqb _ _ (sym (c .before .before .before .bank-for-reg .ensures) ∙ c .if1 .left))),
+      omega arith,
+      all-rest (λ x. ltb x (numRegs (regInfoOf (start .args .t .now)))) (cells-step (start .args .t .now) (turn .i) (turn .left) (c .before .before .before .before .before .loop-test .taken)) (turn .inv .2),
+    )
 
 returns-2 : tie.Need-returns-2 Inv-loop μ-loop
 unfolding any cells
 returns-2 c =
-    let z : c .before .loop .left ≡ 0 = omega arith in
-    sym (c .before .loop .inv .0 ∙ rw z)
+    let turn = c .before .loop in
+    let z : turn .left ≡ 0 = omega arith in
+    sym (turn .inv .0 ∙ rw z)
 
 pub regs-foreign-spec : {M : Type 1} → statement M
 regs-foreign-spec =

@@ -12,7 +12,9 @@ returns : tie.Need-returns
 returns c = rw (sym (c .before .is-memory-reg .ensures) ∙ c .if1 .taken)
 
 regs-overlap-requires : tie.Need-regs-overlap-requires
-regs-overlap-requires c κs = (reg-known (regInfoOf (c .before .before .args .t .now)) (c .before .before .pre .0) (c .before .before .args .r .0) (c .before .before .pre .1), width-few (regInfoOf (c .before .before .args .t .now)) (c .before .before .pre .0) (c .before .before .args .r .0) (c .before .before .pre .1), reg-known (regInfoOf (c .before .before .args .t .now)) (c .before .before .pre .0) (c .before .before .args .q .0) (c .before .before .pre .2), width-few (regInfoOf (c .before .before .args .t .now)) (c .before .before .pre .0) (c .before .before .args .q .0) (c .before .before .pre .2))
+regs-overlap-requires c κs =
+    let start = c .before .before in
+    (reg-known (regInfoOf (start .args .t .now)) (start .pre .0) (start .args .r .0) (start .pre .1), width-few (regInfoOf (start .args .t .now)) (start .pre .0) (start .args .r .0) (start .pre .1), reg-known (regInfoOf (start .args .t .now)) (start .pre .0) (start .args .q .0) (start .pre .2), width-few (regInfoOf (start .args .t .now)) (start .pre .0) (start .args .q .0) (start .pre .2))
 
 returns-2 : tie.Need-returns-2
 returns-2 c = rw (sym (c .before .before .is-memory-reg .ensures) ∙ c .before .if1 .left) (c .regs-overlap .ensures)

@@ -16,10 +16,14 @@ returns : tie.Need-returns
 returns c = rw (ne-eqb _ _ (λ e. c .if1 .taken (c .before .before .before .before .bank-for-reg .ensures ∙ e ∙ sym (c .before .before .before .bank-for-reg2 .ensures))))
 
 num-reg-units-requires : tie.Need-num-reg-units-requires
-num-reg-units-requires c κs = reg-known (regInfoOf (c .before .before .before .before .before .args .t .now)) (c .before .before .before .before .before .pre .0) (c .before .before .before .before .before .args .r .0) (c .before .before .before .before .before .pre .1)
+num-reg-units-requires c κs =
+    let start = c .before .before .before .before .before in
+    reg-known (regInfoOf (start .args .t .now)) (start .pre .0) (start .args .r .0) (start .pre .1)
 
 num-reg-units-requires-2 : tie.Need-num-reg-units-requires-2
-num-reg-units-requires-2 c κs = reg-known (regInfoOf (c .before .before .before .before .before .before .args .t .now)) (c .before .before .before .before .before .before .pre .0) (c .before .before .before .before .before .before .args .q .0) (c .before .before .before .before .before .before .pre .2)
+num-reg-units-requires-2 c κs =
+    let start = c .before .before .before .before .before .before in
+    reg-known (regInfoOf (start .args .t .now)) (start .pre .0) (start .args .q .0) (start .pre .2)
 
 returns-2 : tie.Need-returns-2
 returns-2 c = rw (eq-eqb _ _ (sym (c .before .before .before .before .before .before .before .bank-for-reg .ensures) ∙ c .before .before .before .if1 .left ∙ c .before .before .before .before .before .before .bank-for-reg2 .ensures), eq-eqb _ _ (sym (c .before .before .num-reg-units .ensures) ∙ c .if2 .taken ∙ c .before .num-reg-units2 .ensures))
