@@ -1,7 +1,7 @@
 -- Demand 3: the edits of an accepted call number at most the bound.
 use Prim.Native.Nat.{ℕ, zero, suc, pred, _+_, _*_, _<_, _≤_}
 use mathlib.Core.Path.{_≡_, refl, sym, ap, subst, _∙_}
-use mathlib.Core.Bool.{Bool, true, false}
+use mathlib.Core.Bool.{Bool, true, false, false≢true}
 use mathlib.Core.List.{List, [], _∷_, reverse}
 use mathlib.Core.Option.{Option, none, some}
 use mathlib.Core.Logic.{_⊎_, inl, inr, ⊎-elim}
@@ -23,10 +23,10 @@ use Rattle.rules.specs.Scratch.{Cache, Evicted, ScratchAllocator, push, withEvi
 use Rattle.rules.specs.Order.{KeptMove, noMove, Remat, State, New, Pending, Done, isNew, isPending, Diverted, ParallelMoves, withState, carry, doRemat, remats, rematWithScratch, source, dest, value, bank, writers, cycleMoveSources, emit, noted, divert, carried, lead, lost, undivert, undivertAll, close, visit, visitUnlessMemory, start, moves}
 use Rattle.rules.specs.Patch.{Patch, Sorted, sorted, bound, run}
 use Rattle.rules.specs.Sorted.{MoveOk, RematOk, noRemat, SortedOk, Ran}
-use Rattle.rules.proofs.Steps.{All, all-then, all-after, all-map, branch, Every, every-getD, every-reverse, every-index, all-each, updated-same, updated-other}
 use Rattle.rules.proofs.Writers.{writers-low}
 use Rattle.rules.proofs.Sum.{sum, sum-change, sum-zero, sum-ones}
-use Rattle.machine.proofs.Diversions.{clash, occurs, Counted, Grown, carry-grown, was-live, lost-counted}
+use Rattle.rules.proofs.Steps.{All, all-then, all-after, all-map, branch, Every, every-getD, every-reverse, every-index, all-each, updated-same, updated-other}
+use Rattle.machine.proofs.Diversions.{occurs, Counted, Grown, carry-grown, was-live, lost-counted}
 
 -- the edits made, and those still owed: each evicted register will be saved
 abbrev owed : ScratchAllocator → ℕ
@@ -70,8 +70,8 @@ new Done = 0
 new-is : (s : State) → isNew s ≡ true → new s ≡ 1
 unfolding new
 new-is New e = refl
-new-is Pending e = absurd (clash e)
-new-is Done e = absurd (clash e)
+new-is Pending e = absurd (false≢true e)
+new-is Done e = absurd (false≢true e)
 
 module _ (t : RegInfo) (f : Function) where
   unevict-edits : (l : List Evicted) (k : ScratchAllocator) → length (unevict t f l k .edits) ≡ length l + length (k .edits)
@@ -126,7 +126,7 @@ module _ (t : RegInfo) (f : Function) where
     -- a class with slots evicts nothing
     slots-owed : includesSpillslots t c ≡ true → (barred : ℕ → Bool) (k : ScratchAllocator) → owed k ≤ m → All (λ x. owed (x .scratch) ≤ m) (getScratchReg t f b c barred k)
     slots-owed s barred k h =
-        all-map (Searched c m) (λ x. owed (x .scratch) ≤ m) (getScratchReg t f b c barred k) (λ x. ⊎-elim (λ q. q) (λ q. absurd (clash (sym (q .2) ∙ s))))
+        all-map (Searched c m) (λ x. owed (x .scratch) ≤ m) (getScratchReg t f b c barred k) (λ x. ⊎-elim (λ q. q) (λ q. absurd (false≢true (sym (q .2) ∙ s))))
         (search-owed barred k h)
 
   -- an emission: at most two moves, a reload and its save; one move unless both are memory
@@ -142,7 +142,7 @@ module _ (t : RegInfo) (f : Function) where
     edit-owed : (m : ℕ) (k : ScratchAllocator) → isMemory t from ≡ false → owed k ≤ m → All (λ k′. owed k′ ≤ m + 1) (moveEdits t f b to from v k)
     unfolding moveEdits
     edit-owed m k n h =
-        branch (All (λ k′. owed k′ ≤ m + 1)) (and (isMemory t to) (isMemory t from)) _ _ (λ e. absurd (clash (sym n ∙ and-true (isMemory t to) (isMemory t from) e .1))) (λ _. omega arith)
+        branch (All (λ k′. owed k′ ≤ m + 1)) (and (isMemory t to) (isMemory t from)) _ _ (λ e. absurd (false≢true (sym n ∙ and-true (isMemory t to) (isMemory t from) e .1))) (λ _. omega arith)
 
     move-owed : (m : ℕ) (k : ScratchAllocator) → owed k ≤ m → All (λ k′. owed k′ ≤ m + 4) (doMove t f b to from v k)
     unfolding doMove

@@ -1,3 +1,4 @@
+pub mod Tests
 pub mod Diversions
 pub mod Bound
 pub mod Premises

@@ -8,10 +8,10 @@ use Rattle.rules.specs.Edit.{updated, andThen, each, find, filter}
 use Rattle.rules.specs.Scratch.{acquireFrom, unevict, unevictForReg, slotScratch, evictLast, reuse, orScratch, getScratchReg, moveEdits, doMove}
 use Rattle.rules.specs.Order.{carryOne, carry, remats, rematWithScratch, writerFrom, writersOf, writers, cycleMoveSources, divert, lead, undivert, undivertAll, close, visit, visitUnlessMemory, start, moves}
 use Rattle.rules.specs.Patch.{destinations, add, entryConditions, patchConditions, run, resolveSorted, resolveFrom, resolve}
-use Rattle.rules.specs.Trials.{three, chained, five, six, halves, Trials, ToldApart}
+use Rattle.rules.specs.Trials.{three, chained, five, six, halves, between, Trials, ToldApart}
 
 both : Trials × ToldApart
-unfolding any all has meets lastOr indices spillslotSize topLevelClass stackToStackClass regMemory bankForReg regUnits bankForClass classSlots classMembers allocationOrder firstOf valueBank rematCost rematClass updated andThen each find filter acquireFrom unevict unevictForReg slotScratch evictLast reuse orScratch getScratchReg moveEdits doMove carryOne carry remats rematWithScratch writerFrom writersOf writers cycleMoveSources divert lead undivert undivertAll close visit visitUnlessMemory start moves destinations add entryConditions patchConditions run resolveSorted resolveFrom resolve three chained five six halves orderTotal countsFit bankFits regFits classFits outsideLimits listedTwice unequalWidths foreignMember sharedMemory unfitClass targetRefusal twice
+unfolding any all has meets lastOr indices spillslotSize topLevelClass stackToStackClass regMemory bankForReg regUnits bankForClass classSlots classMembers allocationOrder firstOf valueBank rematCost rematClass updated andThen each find filter acquireFrom unevict unevictForReg slotScratch evictLast reuse orScratch getScratchReg moveEdits doMove carryOne carry remats rematWithScratch writerFrom writersOf writers cycleMoveSources divert lead undivert undivertAll close visit visitUnlessMemory start moves destinations add entryConditions patchConditions run resolveSorted resolveFrom resolve three chained five six halves between orderTotal countsFit bankFits regFits classFits outsideLimits listedTwice unequalWidths foreignMember sharedMemory unfitClass targetRefusal twice
 both = (
   record {
     swap-full = (refl, refl, refl);
@@ -26,7 +26,7 @@ both = (
     no-slot-cache = refl;
   },
   record {
-    targets = (refl, refl, refl, refl, refl);
+    targets = (refl, refl, refl, refl, refl, refl);
     closed-first = (refl, refl, refl);
     sources-spared = (refl, refl, refl);
     scratch-on-evicted = (refl, refl, refl);
@@ -34,6 +34,9 @@ both = (
     join-counts = (refl, refl, refl);
     join-keeps-source = (refl, refl, refl);
     scratch-unavailable = (refl, refl, refl);
+    source-last = (refl, refl, refl);
+    source-brought-back = (refl, refl, refl);
+    stack-first = (refl, refl, refl);
   },
 )
 

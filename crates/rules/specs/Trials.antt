@@ -99,6 +99,21 @@ halves =
           ∷ [];
     }
 
+-- r0 and r1 of bank 0 share unit 1, which is r2 of bank 1
+unfoldable pub between : RegInfo
+between =
+    record {
+      units = 3;
+      banks = record { size = 3; top = 0; stack = 1 } ∷ record { size = 3; top = 2; stack = 3 } ∷ [];
+      regs = pair 0 1 ∷ pair 1 2 ∷ record { memory = 0; bank = 1; units = 1 ∷ [] } ∷ [];
+      classes =
+          record { bank = 0; slots = 1; members = []; order = [] }
+          ∷ record { bank = 0; slots = 0; members = 0 ∷ []; order = 0 ∷ [] }
+          ∷ record { bank = 1; slots = 1; members = []; order = [] }
+          ∷ record { bank = 1; slots = 0; members = 2 ∷ []; order = 2 ∷ [] }
+          ∷ [];
+    }
+
 abbrev pub fixed : ℕ → ValueData
 fixed b = record { bank = b; cost = 0; class = 0 }
 
@@ -109,7 +124,7 @@ over vs n l = record { values = vs; slots = n; limit = l }
 -- One patch for each of 01's temptations, and for other rules that are easily taken for these. The edits are those of the original.
 pub record ToldApart : Type 0 where
   -- no target of a trial is refused
-  pub targets : target.Accepted three × target.Accepted chained × target.Accepted five × target.Accepted six × target.Accepted halves
+  pub targets : target.Accepted three × target.Accepted chained × target.Accepted five × target.Accepted six × target.Accepted halves × target.Accepted between
   -- "testing for a cycle before closing the move itself, so that a source overlapping its own destination is diverted"
   pub closed-first : Gives (resolve chained (over (fixed 0 ∷ []) 0 1) (patch [] (move (reg 0) (reg 1) 0 ∷ [])) 8 emptyCache) (Move (reg 1) (reg 0) 0 ∷ []) 0 []
   -- "a diversion into a register that some kept move reads": unit 2 is free, and r2 is moved
@@ -136,3 +151,15 @@ pub record ToldApart : Type 0 where
   pub scratch-unavailable :
       Gives (resolve three (over (fixed 0 ∷ record { bank = 0; cost = 2; class = 1 } ∷ []) 2 2) (patch [] (move (reg 0) (reg 1) 0 ∷ move (reg 1) (reg 0) 1 ∷ move (slot 1) (slot 0) 1 ∷ [])) 21 emptyCache)
       (EmergencySpill 2 2 ∷ Move (slot 3) (reg 1) 1 ∷ Move (reg 1) (reg 0) 0 ∷ Move (reg 0) (slot 3) 1 ∷ Rematerialize (reg 2) 1 ∷ Move (slot 0) (reg 2) 1 ∷ EmergencyReload 2 2 ∷ []) 2 (2 ∷ 3 ∷ [])
+  -- the destination made available after the source is made unavailable: r2, where r0 and r1 overlap, is not to be had
+  pub source-last :
+      Gives (resolve between (over (fixed 0 ∷ fixed 1 ∷ []) 2 1) (patch [] (move (reg 0) (reg 1) 0 ∷ move (slot 0) (slot 1) 1 ∷ [])) 16 emptyCache)
+      (EmergencySpill 2 2 ∷ Move (reg 2) (slot 0) 1 ∷ Move (slot 1) (reg 2) 1 ∷ EmergencyReload 2 2 ∷ Move (reg 1) (reg 0) 0 ∷ []) 1 (2 ∷ [])
+  -- no bringing back for the source: r2 is evicted, then read
+  pub source-brought-back :
+      Gives (resolve three (plain 3 1) (patch [] (move (slot 0) (slot 1) 0 ∷ move (reg 2) (slot 2) 1 ∷ [])) 16 emptyCache)
+      (Move (slot 2) (reg 2) 1 ∷ EmergencySpill 3 2 ∷ Move (reg 2) (slot 0) 0 ∷ Move (slot 1) (reg 2) 0 ∷ EmergencyReload 2 3 ∷ []) 1 (3 ∷ [])
+  -- 17 given while the stack is not empty: swap-full twice, L = 1
+  pub stack-first :
+      Gives (resolve three (plain 0 1) (patch [] swap) 16 (cacheAfter emptyCache (resolve three (plain 0 1) (patch [] swap) 16 emptyCache)))
+      (Move (slot 0) (reg 1) 1 ∷ Move (reg 1) (reg 0) 0 ∷ Move (reg 0) (slot 0) 1 ∷ []) 1 (0 ∷ [])
