@@ -14,7 +14,7 @@ use Rattle.entity.specs.Logic.{pick}
 use Rattle.rules.specs.Edit.{updated}
 use Rattle.slots.specs.declared.Popped.the-variants.{At, Empty}
 use Rattle.slots.specs.Stacks.{topFirst, depthOf, leftOf, ownOf, cacheOf, stacksOf, CacheFits, SlotsFit}
-use Rattle.slots.specs.Steps.{withoutTop, Cleared, Begun, Taken, PutBack, Settled, Committed}
+use Rattle.slots.specs.Steps.{Cleared, Begun, Taken, PutBack, Settled, Committed}
 
 -- ---- cells, the last first
 pub top-step : (t : List ℕ) (at n : ℕ) → 0 < n → topFirst t at n ≡ getD t (at + (n - 1)) 0 ∷ topFirst t at (n - 1)
@@ -53,19 +53,19 @@ pub length-stacks : (slots cache : List ℕ) (z : ℕ) → z < 32 → length (st
 length-stacks slots cache z h =
     ap length (stacks-in slots cache z h) ∙ length-append (topFirst slots (64 + z * 1024) (ownOf slots z)) (topFirst cache (64 + z * 2048) (leftOf slots z)) ∙ rw (length-top slots (64 + z * 1024) (ownOf slots z), length-top cache (64 + z * 2048) (leftOf slots z))
 
--- both at once: equal stacks below 32 are equal stacks
-stacks-by : (slots cache slots′ cache′ : List ℕ) (y : ℕ) → (y < 32 → stacksOf slots cache y ≡ stacksOf slots′ cache′ y) → stacksOf slots cache y ≡ stacksOf slots′ cache′ y
-stacks-by slots cache slots′ cache′ y e = go (ltb y 32) refl
+-- only the stacks below 32 can differ
+stacks-by : (slots slots′ cache : List ℕ) (y : ℕ) → (y < 32 → stacksOf slots cache y ≡ stacksOf slots′ cache y) → stacksOf slots cache y ≡ stacksOf slots′ cache y
+stacks-by slots slots′ cache y e = go (ltb y 32) refl
   where
-    go : (b : Bool) → ltb y 32 ≡ b → stacksOf slots cache y ≡ stacksOf slots′ cache′ y
+    go : (b : Bool) → ltb y 32 ≡ b → stacksOf slots cache y ≡ stacksOf slots′ cache y
     go true l = e (ltb-true y 32 l)
-    go false l = let h : 32 ≤ y = ltb-false y 32 l in stacks-out slots cache y h ∙ sym (stacks-out slots′ cache′ y h)
+    go false l = let h : 32 ≤ y = ltb-false y 32 l in stacks-out slots cache y h ∙ sym (stacks-out slots′ cache y h)
 
 -- a store that is no part of stack y
 stacks-set : (slots cache : List ℕ) (i v y : ℕ) → (y < 32 → (y ≡ i → ⊥) × (32 + y ≡ i → ⊥) × ((j : ℕ) → j < ownOf slots y → 64 + y * 1024 + j ≡ i → ⊥)) → stacksOf (set slots i v) cache y ≡ stacksOf slots cache y
 unfolding stacksOf
 stacks-set slots cache i v y h =
-    stacks-by (set slots i v) cache slots cache y
+    stacks-by (set slots i v) slots cache y
     (λ l. let n = h l in rw (getD-set-other slots i (32 + y) v 0 (n .1), getD-set-other slots i y v 0 (n .0), top-set slots i v (64 + y * 1024) (ownOf slots y) (n .2)))
 
 updated-by : (f g : ℕ → List ℕ) (z : ℕ) (l : List ℕ) → f z ≡ l → ((y : ℕ) → (y ≡ z → ⊥) → f y ≡ g y) → f ≡ updated z l g

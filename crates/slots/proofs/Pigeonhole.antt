@@ -1,13 +1,13 @@
 -- Numbers of a range with nothing twice: there are no more of them than the range has.
 use Prim.Native.Nat.{ℕ, zero, suc, _+_, _<_, _≤_}
-use mathlib.Core.Path.{_≡_, refl, sym, ap, _∙_}
+use mathlib.Core.Path.{_≡_, refl, sym, _∙_}
 use mathlib.Core.Bool.{Bool, true, false, true≢false}
 use mathlib.Core.List.{List, [], _∷_}
 use native.Mathlib.Omega.{arith}
 use lib.ListN.{length}
 use lib.Dec.{eqb}
 use borrow.Author.Tests.{eq-eqb, ne-eqb, eqb-true, eqb-false}
-use Rattle.entity.specs.Logic.{pick, and, or, no, has, twice}
+use Rattle.entity.specs.Logic.{pick, and, no, has, twice}
 use Rattle.entity.proofs.Laws.{or-false}
 
 -- how many of the n numbers from a on pass the test

@@ -4,7 +4,7 @@ use mathlib.Core.Path.{_≡_}
 use mathlib.Core.List.{List, [], _∷_}
 use mathlib.Core.Option.{Option, none, some}
 use Rattle.rules.specs.Edit.{updated}
-use Rattle.rules.specs.Scratch.{Cache, emptyCache}
+use Rattle.rules.specs.Scratch.{emptyCache}
 use Rattle.slots.specs.declared.Popped.{Popped}
 use Rattle.slots.specs.declared.Popped.the-variants.{At, Empty}
 use Rattle.slots.specs.Stacks.{topFirst, depthOf, cacheOf, stacksOf, CacheFits, SlotsFit}
