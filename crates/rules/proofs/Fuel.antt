@@ -1,5 +1,5 @@
 -- The depth of a visit is bounded by the moves not visited yet, so that a higher bound changes nothing.
-use Prim.Native.Nat.{ℕ, zero, suc, _+_, _<_, _≤_}
+use Prim.Native.Nat.{ℕ, zero, suc, _<_, _≤_}
 use mathlib.Core.Path.{_≡_, refl, ap, _∙_}
 use mathlib.Core.Bool.{Bool, true, false}
 use mathlib.Core.List.{List, [], _∷_, reverse}
@@ -12,8 +12,8 @@ use Rattle.entity.specs.Place.{Place}
 use Rattle.reginfo.specs.RegInfo.{RegInfo, isMemory}
 use Rattle.function.specs.Function.{Function}
 use Rattle.rules.specs.Edit.{updated, andThen, each}
-use Rattle.rules.specs.Scratch.{ScratchAllocator, unevictAll}
-use Rattle.rules.specs.Order.{KeptMove, State, New, Pending, Done, isNew, isPending, ParallelMoves, withState, source, dest, value, writers, emit, noted, divert, carried, lead, lost, undivert, undivertAll, close, visit, visitUnlessMemory, start, moves}
+use Rattle.rules.specs.Scratch.{unevictAll}
+use Rattle.rules.specs.Order.{KeptMove, State, Pending, Done, isNew, isPending, ParallelMoves, withState, source, dest, value, writers, emit, noted, divert, carried, lead, lost, undivert, undivertAll, close, visit, visitUnlessMemory, start, moves}
 use Rattle.rules.specs.Depth.{visitUnlessMemoryWithin, movesWithin, NeverDecides}
 use Rattle.rules.proofs.Steps.{All, all-then, all-after, all-map, branch, Every, every-reverse, every-index, all-each, updated-at, updated-same, updated-other}
 use Rattle.rules.proofs.Sum.{bit, bit-yes, bit-le, sum, sum-change, sum-le, sum-ones}
