@@ -119,4 +119,3 @@ module _ (n : ℕ) where
             (λ e. rest .0 .more i v (subst (λ (z : ℕ). T (hasIn (carryOne v st k b .values z) v)) (sym e) (one .1 (subst (λ (z : ℕ). T (isPending (st z))) e op))))
             (λ y. rest .1 i y op) (has-cons ks k i h),
       )
-

@@ -1,7 +1,7 @@
 -- The ordering: kept moves in depth, diversions, and that the program stays sound.
 use mathlib.Core.Path.{_≡_, refl, sym, _∙_, ap, subst}
 use mathlib.Core.Bool.{Bool, true, false, not, _&&_, _||_, cond}
-use mathlib.Core.List.{List, [], _∷_, _++_, reverse}
+use mathlib.Core.List.{List, [], _∷_, reverse}
 use mathlib.Core.Option.{Option, some, none}
 use mathlib.Core.Logic.{_⊎_, inl, inr, ⊎-elim}
 use Prim.Native.Nat.{ℕ, zero, suc, pred, _+_, _≤_, _<_}
@@ -146,6 +146,24 @@ module _ (t : RegInfo) (F : Function) (tk : TargetOk t) (j : Job) (em : (s : ℕ
       pub inside : Within t F tk j (covers t F tk (w .scratch v))
       pub above : (s : ℕ) → w .scratch v ≡ slot s → F .slots ≤ s
 
+    -- it stays one where its places stay, its writers still carry it or are done, and no move is done less
+    live-map : (w w′ : ParallelMoves) (st st′ : ℕ → State) (v : ℕ) → w′ .alloc v ≡ w .alloc v → w′ .scratch v ≡ w .scratch v
+        → ((i : ℕ) → T (hasIn (w .diverted .values i) v) ⊎ T (isDone (st i)) → T (hasIn (w′ .diverted .values i) v) ⊎ T (isDone (st′ i)))
+        → ((k : ℕ) → T (not (isDone (w′ .state k))) → T (not (isDone (w .state k)))) → LiveDiv w st v → LiveDiv w′ st′ v
+    live-map w w′ st st′ v a s h n d =
+        record {
+          origin = d .origin;
+          origin-in = d .origin-in;
+          origin-at = a ∙ d .origin-at;
+          origin-val = d .origin-val;
+          held = λ i c. h i (d .held i c);
+          apartD = λ k kl y. rw s (d .apartD k kl (n k y));
+          apartR = λ m ml. rw s (d .apartR m ml);
+          len = rw s (d .len);
+          inside = rw s (d .inside);
+          above = λ x e. d .above x (sym s ∙ e);
+        }
+
     -- where a closed move's value is read: at the source of a kept move of its value that nothing still writes
     pub record Home (w : ParallelMoves) (pl : ℕ → Place) (k : ℕ) : Type 0 where
       pub of : ℕ
@@ -217,20 +235,7 @@ module _ (t : RegInfo) (F : Function) (tk : TargetOk t) (j : Job) (em : (s : ℕ
                 let d = not-done (w .state) i x n in
                 (updated-other i from pl x (d .0) ∙ inv .here x xl (d .1) .0, subst (λ (y : Bool). T (not y)) (sym (updated-other i b ride x (d .0))) (inv .here x xl (d .1) .1));
             gone = λ x xl h. ⊎-elim (λ e. subst G (sym e) own) (other x xl) (was-done (w .state) i x h);
-            lives = λ v l.
-                let d = inv .lives v l in
-                record {
-                  origin = d .origin;
-                  origin-in = d .origin-in;
-                  origin-at = d .origin-at;
-                  origin-val = d .origin-val;
-                  held = λ x h. ⊎-elim (λ c. inl c) (λ c. inr (dn x c)) (d .held x h);
-                  apartD = λ x xl n. d .apartD x xl (not-done (w .state) i x n .1);
-                  apartR = d .apartR;
-                  len = d .len;
-                  inside = d .inside;
-                  above = d .above;
-                };
+            lives = λ v l. live-map w (after k) st (updated i Done (w .state)) v refl refl (λ x. ⊎-elim (λ c. inl c) (λ c. inr (dn x c))) (λ x n. not-done (w .state) i x n .1) (inv .lives v l);
             riders = λ v r.
                 ⊎-elim
                 (λ q.
@@ -277,20 +282,7 @@ module _ (t : RegInfo) (F : Function) (tk : TargetOk t) (j : Job) (em : (s : ℕ
           kept = inv .kept;
           here = inv .here;
           gone = λ k kl h. ⊎-elim (λ y. inl y) (λ y. inr (y .0, record { of = y .1 .of; of-in = y .1 .of-in; at = y .1 .at; val = y .1 .val; over = y .1 .over })) (inv .gone k kl h);
-          lives = λ v l.
-              let d = inv .lives v l in
-              record {
-                origin = d .origin;
-                origin-in = d .origin-in;
-                origin-at = d .origin-at;
-                origin-val = d .origin-val;
-                held = λ x h. ⊎-elim (more x v) (λ c. inr (dn x c)) (d .held x h);
-                apartD = d .apartD;
-                apartR = d .apartR;
-                len = d .len;
-                inside = d .inside;
-                above = d .above;
-              };
+          lives = λ v l. live-map w (withDiverted b w) st st′ v refl refl (λ x. ⊎-elim (more x v) (λ c. inr (dn x c))) (λ k n. n) (inv .lives v l);
           riders = inv .riders;
           apartS = inv .apartS;
         }
@@ -389,20 +381,7 @@ module _ (t : RegInfo) (F : Function) (tk : TargetOk t) (j : Job) (em : (s : ℕ
           new = updated-same v (x .place) (w .scratch)
 
           old : (y : ℕ) → L y → LiveDiv (noted t F ms i x w) st y
-          old y l =
-              let d = inv .lives y l in
-              record {
-                origin = d .origin;
-                origin-in = d .origin-in;
-                origin-at = updated-other v (srcOf i) (w .alloc) y (off y l) ∙ d .origin-at;
-                origin-val = d .origin-val;
-                held = d .held;
-                apartD = λ k kl n. rw (scr y l) (d .apartD k kl n);
-                apartR = λ m ml. rw (scr y l) (d .apartR m ml);
-                len = rw (scr y l) (d .len);
-                inside = rw (scr y l) (d .inside);
-                above = λ s e. d .above s (sym (scr y l) ∙ e);
-              }
+          old y l = live-map w (noted t F ms i x w) st st y (updated-other v (srcOf i) (w .alloc) y (off y l)) (scr y l) (λ k h. h) (λ k n. n) (inv .lives y l)
 
           fresh : LiveDiv (noted t F ms i x w) st v
           fresh =
@@ -861,20 +840,7 @@ module _ (t : RegInfo) (F : Function) (tk : TargetOk t) (j : Job) (em : (s : ℕ
                   let y = rs .inv .here x xl n in
                   (cond-not (rs .ride x && eqb (valOf x) v) (w .alloc v) (rs .pl x) (no-l (rs .ride x) (eqb (valOf x) v) (y .1)) ∙ y .0, no-l (rs .ride x) (not (eqb (valOf x) v)) (y .1));
               gone = λ x xl hd. ⊎-elim (now-home x) (other x xl hd) (sorted x xl);
-              lives = λ y l.
-                  let d = rs .inv .lives y (was-lv y l) in
-                  record {
-                    origin = d .origin;
-                    origin-in = d .origin-in;
-                    origin-at = d .origin-at;
-                    origin-val = d .origin-val;
-                    held = λ x c. ⊎-elim (more x y) (λ q. inr q) (d .held x c);
-                    apartD = d .apartD;
-                    apartR = d .apartR;
-                    len = d .len;
-                    inside = d .inside;
-                    above = d .above;
-                  };
+              lives = λ y l. live-map w (withDiverted b₁ (withAllocator k w)) (w .state) (w .state) y refl refl (λ x. ⊎-elim (more x y) (λ q. inr q)) (λ k n. n) (rs .inv .lives y (was-lv y l));
               riders = λ y r.
                   let q = rs .inv .riders y (was-lv y r) in
                   (q .0, q .1, q .2, both (rs .ride (q .0)) (not (eqb (valOf (q .0)) v)) (q .3) (not-T (eqb (valOf (q .0)) v) (λ e. off-v y r (sym (q .4) ∙ eqb→eq (valOf (q .0)) v e))), q .4);
@@ -983,20 +949,7 @@ module _ (t : RegInfo) (F : Function) (tk : TargetOk t) (j : Job) (em : (s : ℕ
                 here = λ k kl n. inv .here k kl (down k n);
                 gone = λ k kl h.
                     ⊎-elim (λ y. inl y) (λ y. inr (y .0, record { of = y .1 .of; of-in = y .1 .of-in; at = y .1 .at; val = y .1 .val; over = λ x z. fwd x (y .1 .over x z) })) (inv .gone k kl (bwd k h));
-                lives = λ v l.
-                    let d = inv .lives v l in
-                    record {
-                      origin = d .origin;
-                      origin-in = d .origin-in;
-                      origin-at = d .origin-at;
-                      origin-val = d .origin-val;
-                      held = λ x h. ⊎-elim (λ c. inl c) (λ c. inr (fwd x c)) (d .held x h);
-                      apartD = λ k kl n. d .apartD k kl (down k n);
-                      apartR = d .apartR;
-                      len = d .len;
-                      inside = d .inside;
-                      above = d .above;
-                    };
+                lives = λ v l. live-map w (withState i Pending w) (w .state) (updated i Pending (w .state)) v refl refl (λ x. ⊎-elim (λ c. inl c) (λ c. inr (fwd x c))) (λ k n. down k n) (inv .lives v l);
                 riders = λ v r. let y = inv .riders v r in (y .0, y .1, fwd (y .0) (y .2), y .3, y .4);
                 apartS = inv .apartS;
               };

@@ -1,10 +1,10 @@
 -- The rebuilds, put behind the kept moves: without scratch, with one scratch place, with two.
-use mathlib.Core.Path.{_≡_, refl, sym, _∙_, subst}
-use mathlib.Core.Bool.{not, _&&_, _||_}
+use mathlib.Core.Path.{_≡_, refl, sym, subst}
+use mathlib.Core.Bool.{not}
 use mathlib.Core.List.{_∷_}
 use mathlib.Core.Option.{some}
 use mathlib.Core.Logic.{_⊎_, inr, ⊎-elim}
-use Prim.Native.Nat.{ℕ, _+_, _≤_, _<_}
+use Prim.Native.Nat.{ℕ, _+_, _≤_}
 use native.Mathlib.Nat.{add-left-cancel}
 use lib.Dec.{T, T-not, not-T, eqb-refl}
 use lib.ListN.{length}

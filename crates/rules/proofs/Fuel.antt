@@ -1,5 +1,5 @@
 -- The depth of a visit is bounded by the moves not visited yet, so that a higher bound changes nothing.
-use Prim.Native.Nat.{ℕ, zero, suc, _+_, _<_, _≤_}
+use Prim.Native.Nat.{ℕ, zero, suc, _<_, _≤_}
 use mathlib.Core.Path.{_≡_, refl, ap, _∙_}
 use mathlib.Core.Bool.{Bool, true, false}
 use mathlib.Core.List.{List, [], _∷_, reverse}
@@ -12,11 +12,11 @@ use Rattle.entity.specs.Place.{Place}
 use Rattle.reginfo.specs.RegInfo.{RegInfo, isMemory}
 use Rattle.function.specs.Function.{Function}
 use Rattle.rules.specs.Edit.{updated, andThen, each}
-use Rattle.rules.specs.Scratch.{ScratchAllocator, unevictAll}
-use Rattle.rules.specs.Order.{KeptMove, State, New, Pending, Done, isNew, isPending, ParallelMoves, withState, source, dest, value, writers, emit, noted, divert, carried, lead, lost, undivert, undivertAll, close, visit, visitUnlessMemory, start, moves}
+use Rattle.rules.specs.Scratch.{unevictAll}
+use Rattle.rules.specs.Order.{KeptMove, Pending, Done, isNew, isPending, ParallelMoves, withState, source, dest, value, writers, emit, noted, divert, carried, lead, lost, undivert, undivertAll, close, visit, visitUnlessMemory, start, moves}
 use Rattle.rules.specs.Depth.{visitUnlessMemoryWithin, movesWithin, NeverDecides}
-use Rattle.rules.proofs.Steps.{All, all-then, all-after, all-map, branch, Every, every-reverse, every-index, all-each, updated-at, updated-same, updated-other}
-use Rattle.rules.proofs.Sum.{bit, bit-yes, bit-le, sum, sum-change, sum-le, sum-ones}
+use Rattle.rules.proofs.Steps.{All, all-then, all-after, all-map, branch, Every, every-reverse, every-index, all-each}
+use Rattle.rules.proofs.News.{news, news-all, news-open, news-close}
 use Rattle.rules.proofs.Writers.{writers-low}
 
 -- the same step after the same result, and the same steps one after the other
@@ -40,10 +40,6 @@ pick-cong false x y z h = refl
 module _ (t : RegInfo) (f : Function) (ms : List KeptMove) where
   abbrev n : ℕ
   n = length ms
-
-  -- how many moves are not visited yet
-  pub news : ParallelMoves → ℕ
-  news w = sum (λ k. bit (isNew (w .state k))) n
 
   -- only a visit changes what is visited
   abbrev Same : ParallelMoves → ParallelMoves → Type 0
@@ -77,32 +73,11 @@ module _ (t : RegInfo) (f : Function) (ms : List KeptMove) where
       all-then (Same (withState i Done w)) (Same (withState i Done w)) (lead t f ms i (withState i Done w)) _ (lead-state i (withState i Done w))
       (λ w′ e. all-map (Same w′) (Same (withState i Done w)) (undivertAll t f ms i (w′ .diverted .values i) w′) (λ w″ e′. e′ ∙ e) (undivertAll-state i (w′ .diverted .values i) w′))
 
-  -- no move becomes new
-  fewer : (w w′ : ParallelMoves) → ((k : ℕ) → isNew (w′ .state k) ≡ true → isNew (w .state k) ≡ true) → news w′ ≤ news w
-  unfolding news
-  fewer w w′ h = sum-le _ _ n (λ k l. bit-le _ _ (h k))
-
-  closed : (i : ℕ) (w : ParallelMoves) → news (withState i Done w) ≤ news w
-  closed i w = fewer w (withState i Done w) (λ k. updated-at (λ s. isNew s ≡ true → isNew (w .state k) ≡ true) i Done (w .state) k (λ _ e. absurd (let z : _≡_ {A = ℕ} 0 1 = cc in omega arith)) (λ _ e. e))
-
-  opened : (i : ℕ) (w : ParallelMoves) → i < n → isNew (w .state i) ≡ true → news w ≡ suc (news (withState i Pending w))
-  unfolding news bit
-  opened i w il e =
-      omega (
-        arith,
-        sum-change (λ k. bit (isNew (updated i Pending (w .state) k))) (λ k. bit (isNew (w .state k))) n i il (λ k d. ap (λ s. bit (isNew s)) (updated-other i Pending (w .state) k d)),
-        ap (λ s. bit (isNew s)) (updated-same i Pending (w .state)),
-        bit-yes (isNew (w .state i)) e,
-      )
-
   abbrev Few : ℕ → ParallelMoves → Type 0
-  Few c w = news w ≤ c
+  Few c w = news n (w .state) ≤ c
 
   close-fewer : (i : ℕ) (w : ParallelMoves) (c : ℕ) → Few c w → All (Few c) (close t f ms i w)
-  unfolding news
-  close-fewer i w c h =
-      all-map (Same (withState i Done w)) (Few c) (close t f ms i w)
-      (λ w′ e. let s : news w′ ≡ news (withState i Done w) = ap (λ (s : ℕ → State). sum (λ k. bit (isNew (s k))) n) e in omega (arith, closed i w)) (close-state i w)
+  close-fewer i w c h = all-map (Same (withState i Done w)) (Few c) (close t f ms i w) (λ w′ e. omega (arith, ap (news n) e, news-close n i (w .state))) (close-state i w)
 
   visit-fewer : (d i : ℕ) (w : ParallelMoves) (c : ℕ) → i < n → Few c w → All (Few c) (visit t f ms d i w)
   unfolding visit
@@ -111,27 +86,23 @@ module _ (t : RegInfo) (f : Function) (ms : List KeptMove) where
       branch (All (Few c)) (isNew (w .state i)) _ _
       (λ e. all-then (Few c) (Few c) (each (visit t f ms d) (reverse (writers t f ms i)) (withState i Pending w)) _
       (all-each (Few c) (λ m. m < n) (visit t f ms d) (λ m w′ ml q. visit-fewer d m w′ c ml q) (reverse (writers t f ms i)) (every-reverse (λ m. m < n) (writers t f ms i) (writers-low t f ms i))
-      (withState i Pending w) (omega (arith, opened i w il e)))
+      (withState i Pending w) (omega (arith, news-open n i (w .state) il e)))
       (λ w′ q. close-fewer i w′ c q))
       (λ _. h)
 
   -- a visit is the same under every bound that the moves not visited yet keep to
-  pub fuel : (a b i : ℕ) (w : ParallelMoves) → i < n → news w ≤ a → news w ≤ b → visit t f ms a i w ≡ visit t f ms b i w
+  pub fuel : (a b i : ℕ) (w : ParallelMoves) → i < n → news n (w .state) ≤ a → news n (w .state) ≤ b → visit t f ms a i w ≡ visit t f ms b i w
   unfolding visit
   fuel zero zero i w il p q = refl
-  fuel zero (suc b) i w il p q = pick-cong (isNew (w .state i)) none _ (some w) (λ e. absurd (omega (arith, opened i w il e)))
-  fuel (suc a) zero i w il p q = pick-cong (isNew (w .state i)) _ none (some w) (λ e. absurd (omega (arith, opened i w il e)))
+  fuel zero (suc b) i w il p q = pick-cong (isNew (w .state i)) none _ (some w) (λ e. absurd (omega (arith, news-open n i (w .state) il e)))
+  fuel (suc a) zero i w il p q = pick-cong (isNew (w .state i)) _ none (some w) (λ e. absurd (omega (arith, news-open n i (w .state) il e)))
   fuel (suc a) (suc b) i w il p q =
       pick-cong (isNew (w .state i)) _ _ (some w)
-      (λ e. let o = opened i w il e in
+      (λ e. let o = news-open n i (w .state) il e in
       ap (λ o. andThen o (close t f ms i))
-      (each-cong (Few (news (withState i Pending w))) (λ m. m < n) (visit t f ms a) (visit t f ms b)
-      (λ m w′ ml h. (fuel a b m w′ ml (omega (arith, o)) (omega (arith, o)), visit-fewer b m w′ (news (withState i Pending w)) ml h)) (reverse (writers t f ms i))
+      (each-cong (Few (news n (updated i Pending (w .state)))) (λ m. m < n) (visit t f ms a) (visit t f ms b)
+      (λ m w′ ml h. (fuel a b m w′ ml (omega (arith, o)) (omega (arith, o)), visit-fewer b m w′ (news n (updated i Pending (w .state))) ml h)) (reverse (writers t f ms i))
       (every-reverse (λ m. m < n) (writers t f ms i) (writers-low t f ms i)) (withState i Pending w) (omega arith)))
-
-  all-few : (w : ParallelMoves) → news w ≤ n
-  unfolding news bit
-  all-few w = omega (arith, sum-le (λ k. bit (isNew (w .state k))) (λ k. 1) n (λ k l. bit-le (isNew (w .state k)) true (λ _. refl)), sum-ones n)
 
   pub never-decides : NeverDecides t f ms
   unfolding moves movesWithin visitUnlessMemory visitUnlessMemoryWithin
@@ -149,7 +120,7 @@ module _ (t : RegInfo) (f : Function) (ms : List KeptMove) where
       along g g′ s w = each-cong (λ w. Unit {0}) (λ i. i < n) g g′ (λ i w′ il _. (s i w′ il, any-result (g′ i w′))) (indices 0 n) (every-index n 0 n (omega arith)) w tt
 
       second : (i : ℕ) (w : ParallelMoves) → i < n → visit t f ms d i w ≡ visit t f ms n i w
-      second i w il = fuel d n i w il (omega (arith, all-few w)) (all-few w)
+      second i w il = fuel d n i w il (omega (arith, news-all n (w .state))) (news-all n (w .state))
 
       first : (i : ℕ) (w : ParallelMoves) → i < n → visitUnlessMemoryWithin t f ms d i w ≡ visitUnlessMemory t f ms i w
       first i w il = ap (pick (or (isMemory t (source t f ms i)) (isMemory t (dest t f ms i))) (some w)) (second i w il)

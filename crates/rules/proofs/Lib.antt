@@ -1,5 +1,6 @@
 pub mod Steps
 pub mod Sum
+pub mod News
 pub mod Writers
 pub mod Fuel
 pub mod Trials

@@ -6,10 +6,10 @@ use mathlib.Core.Option.{Option, none, some}
 use lib.Dec.{eqb}
 use lib.ListN.{length, getD}
 use Rattle.entity.specs.Logic.{pick, and, or, no, any, has, indices}
-use Rattle.entity.specs.Place.{Place, reg, slot}
+use Rattle.entity.specs.Place.{Place, slot}
 use Rattle.reginfo.specs.RegInfo.{RegInfo, bankForClass, spillslotSize, topLevelClass, placeUnits, isMemory}
 use Rattle.function.specs.Function.{Function, valueBank, rematClass}
-use Rattle.rules.specs.Edit.{Edit, Rematerialize, updated, andThen, each}
+use Rattle.rules.specs.Edit.{Rematerialize, updated, andThen, each}
 use Rattle.rules.specs.Scratch.{ScratchAllocator, push, Found, unitsOfReg, makeAvailable, makeUnavailable, releasePlace, unevictAll, unevictForReg, getScratchReg, nothingBarred, moveEdits, doMove}
 
 pub record KeptMove : Type 0 where

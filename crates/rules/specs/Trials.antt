@@ -2,12 +2,12 @@
 use Prim.Native.Nat.{ℕ}
 use mathlib.Core.Path.{_≡_}
 use mathlib.Core.List.{List, [], _∷_}
-use Rattle.entity.specs.Place.{Place, reg, slot}
-use Rattle.reginfo.specs.RegInfo.{Bank, Reg, Class, RegInfo}
+use Rattle.entity.specs.Place.{reg, slot}
+use Rattle.reginfo.specs.RegInfo.{Reg, RegInfo}
 use Rattle.reginfo.specs.Refused as target
 use Rattle.function.specs.Function.{ValueData, Function}
 use Rattle.rules.specs.Edit.{Edit, Move, Rematerialize, EmergencySpill, EmergencyReload}
-use Rattle.rules.specs.Scratch.{Cache, emptyCache}
+use Rattle.rules.specs.Scratch.{emptyCache}
 use Rattle.rules.specs.Patch.{Entry, move, remat, Patch, Answer, refused, resolved, resolve, cacheAfter}
 
 -- "3 1 3 0 1 3 0 0 1 0 0 0 1 1 0 0 1 2 2 0 1 3 0 1 2 3 0 1 2 0 0 3 0 1 2 3 0 1 2": three registers of one unit, one bank
