@@ -1,0 +1,5 @@
+pub mod Lists
+pub mod Table
+pub mod Writers
+pub mod Fates
+pub mod Adding
