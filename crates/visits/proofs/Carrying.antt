@@ -56,7 +56,7 @@ module _ (s : ℕ → State) (v : ℕ) (c : List ℕ) where
           few = omega arith;
           diverted = λ d a. let same : d .values m ≡ carriedBy c m = a m (open-not-done (s m) e) in rw (e, same, h) record {
             rows = λ x o. rw (a x o) (sym (r x));
-            more = ap (λ (k : ℕ). k) (updated-same v (suc (d .refCount v)) (d .refCount)) ∙ omega arith;
+            more = updated-same v (suc (d .refCount v)) (d .refCount) ∙ omega arith;
             others = λ x q. updated-other v (suc (d .refCount v)) (d .refCount) x q;
           };
         }

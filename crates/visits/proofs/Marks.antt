@@ -7,11 +7,11 @@ use native.Mathlib.Omega.{arith}
 use lib.Dec.{eqb, ltb}
 use lib.ListN.{getD, length, set, replicate, getD-replicate}
 use lib.Seq.{getD-set-same, getD-set-other}
-use borrow.Author.Tests.{eq-eqb, eqb-true, eqb-false, lt-ltb, ltb-true}
-use Rattle.entity.specs.Logic.{pick, indices}
+use borrow.Author.Tests.{eqb-true, eqb-false, lt-ltb, ltb-true}
+use Rattle.entity.specs.Logic.{pick}
 use Rattle.entity.proofs.Laws.{getD-built, length-built}
 use Rattle.rules.specs.Edit.{updated}
-use Rattle.rules.specs.Order.{Remat, State, New, Pending, Done, isNew, isPending}
+use Rattle.rules.specs.Order.{New, Pending, Done, isNew, isPending}
 use Rattle.entries.specs.Table.{rematAt, sortedOf}
 use Rattle.visits.specs.Marks.{rematsOf, noRebuild, stateAt, statesOf, allNew, isNoted}
 

@@ -1,5 +1,5 @@
 -- Laws of the writers: the map of writers has the rules' writers, and a test of each.
-use Prim.Native.Nat.{ℕ, zero, suc, _+_, _<_, _≤_}
+use Prim.Native.Nat.{ℕ, _+_, _<_, _≤_}
 use mathlib.Core.Path.{_≡_, refl, sym, ap, _∙_}
 use mathlib.Core.Bool.{Bool, true, false}
 use mathlib.Core.List.{List, [], _∷_}
@@ -19,13 +19,12 @@ use Rattle.rules.specs.Patch.{Sorted}
 use Rattle.rules.specs.Scratch.{unitsOfReg}
 use Rattle.rules.specs.Order.{KeptMove, noMove, State, isPending, writerFrom, writersOf, writers, cycleMoveSources}
 use Rattle.search.specs.Search.{unitsOf, withUnits}
-use Rattle.sparse.specs.Map.{mapOf}
 use Rattle.entries.specs.Table.{sortedOf}
 use Rattle.entries.specs.Known.{Checked, Writable, orRebuilt, writerOf, Tracked, EntriesOk}
 use Rattle.entries.proofs.Fates.{writable}
 use Rattle.entries.proofs.Lists.{any-same, any-step}
 use Rattle.visits.specs.declared.Writer.{Writer}
-use Rattle.visits.specs.Marks.{movesOf}
+use Rattle.visits.specs.Marks.{movesOf, rematsOf, rematsWithScratchOf}
 use Rattle.visits.specs.Writers.{writerIs, keptOnly, keptWriter, isOpen, Ready}
 
 -- what was found is what the map has
@@ -110,6 +109,9 @@ ready t f e w known ok =
       writer = λ g u. kept-writer (regInfoOf t) (functionOf f) (sortedOf e) w ok u ∙ writer-same (regInfoOf t) (functionOf f) (sortedOf e .moves) g 0 (sortedOf e .moves) u;
     }
 
+pub few-remats : (t f e w : List ℕ) → EntriesOk t f e w → (length (rematsOf e) ≤ 128) × (length (rematsWithScratchOf e) ≤ 128)
+few-remats t f e w ok = (omega (arith, ok .few, ok .most), omega (arith, ok .few, ok .most))
+
 module _ (t : RegInfo) (e w : List ℕ) (m : ℕ) {p : Place} (ok : Ready t e w) (q : p ≡ getD (movesOf e) m noMove .source) where
   pub source-writable : m < length (movesOf e) → Writable t p
   source-writable h = rw q (ok .kept .sources m h)
@@ -117,6 +119,18 @@ module _ (t : RegInfo) (e w : List ℕ) (m : ℕ) {p : Place} (ok : Ready t e w)
   pub open-writers : (s : ℕ → State) (f : Function) → any (λ u. isOpen s (keptWriter w u)) (placeUnits t p) ≡ any (λ x. isPending (s x)) (writers t f (movesOf e) m)
   unfolding writers
   open-writers s f = any-open t f (movesOf e) w s (placeUnits t p) (ok .writer f) ∙ rw q
+
+-- a step over the units
+module _ (w : List ℕ) (s : ℕ → State) where
+  abbrev pub openUnit : ℕ → Bool
+  openUnit u = isOpen s (keptWriter w u)
+
+  pub open-step : (us : List ℕ) (j u : ℕ) (b : Bool) → j < length us → u ≡ getD us j 0 → b ≡ openUnit u → any openUnit (drop j us) ≡ or b (any openUnit (drop (j + 1) us))
+  open-step us j u b h e q = any-step openUnit us j 0 h ∙ rw (q, e)
+
+  pub open-end : (us : List ℕ) (j : ℕ) → length us ≤ j → any openUnit (drop j us) ≡ false
+  unfolding any
+  open-end us j h = ap (any openUnit) (drop-of-length-le us {i = j} h)
 
 -- a step over the sources: what is noted with the sources left
 module _ (t : RegInfo) (ms : List KeptMove) where

@@ -2,7 +2,6 @@
 use Prim.Native.Nat.{_-_}
 use native.Mathlib.Omega.{arith}
 use lib.ListN.{length}
-use mathlib.Core.Path.{sym}
 use Rattle.entity.specs.Place.{placeAt}
 use Rattle.reginfo.specs.RegInfo.{placeUnits}
 use Rattle.reginfo.specs.Table.{regInfoOf}
