@@ -7,14 +7,14 @@ use mathlib.Core.Option.{Option, none, some}
 use native.Mathlib.Omega.{arith}
 use lib.Dec.{eqb, ltb, leb}
 use lib.ListN.{getD, length, length-append, length-map, List·getD-append, List·getD-map}
-use borrow.Author.Tests.{eqb-true, eqb-false, eq-eqb, lt-ltb, lt-leb}
+use borrow.Author.Tests.{eqb-true, eqb-false, eq-eqb, lt-ltb, lt-leb, le-leb}
 use Rattle.entity.specs.Logic.{pick, and, or, no, any, has, meets}
 use Rattle.entity.specs.Place.{Place, reg, slot, samePlace, placeAt, codeOf}
 use Rattle.entity.proofs.Laws.{and-true, any-has, has-getD, code-there}
-use Rattle.reginfo.specs.RegInfo.{RegInfo, placeUnits, overlap, ofBank}
+use Rattle.reginfo.specs.RegInfo.{RegInfo, placeUnits, overlap, inClass, ofBank}
 use Rattle.reginfo.specs.Refused.{orElse, firstOf}
 use Rattle.reginfo.specs.Table.{regInfoOf}
-use Rattle.function.specs.Function.{Function, numValues, valueBank, canRematerialize}
+use Rattle.function.specs.Function.{Function, numValues, valueBank, rematClass, canRematerialize}
 use Rattle.function.specs.Table.{functionOf}
 use Rattle.rules.specs.Order.{KeptMove, Remat, noMove, writerFrom}
 use Rattle.rules.specs.Patch.{Entry, move, remat, Sorted, destinations, needsScratch, becomesRemat, sameMove, dropped, addRemat, add, namesPlace, overlapsEarlier, entryConditions}
@@ -22,7 +22,7 @@ use Rattle.rules.specs.Sorted.{SortedOk}
 use Rattle.rules.proofs.Accepted.{sorted-add}
 use Rattle.sparse.specs.Map.{mapOf, keysOf, known}
 use Rattle.entries.specs.Table.{moveAt, sortedOf, countedOne, isMove, isMoveOf, keptMove, rebuiltAs, withMove, withRemat, withDropped}
-use Rattle.entries.specs.Known.{Checked, Writable, isWritten, Noted, Roomy, orRebuilt, rebuilds, writerOf, Tracked, PassedMove, EntriesOk}
+use Rattle.entries.specs.Known.{Checked, Writable, NamedRemat, NamedMove, isWritten, Noted, Roomy, orRebuilt, rebuilds, writerOf, Tracked, PassedMove, EntriesOk}
 use Rattle.entries.specs.Answers.{AddedAs, RebuiltAs}
 use Rattle.entries.proofs.Lists.{both-ways, pick-none, any-true, any-where, any-only, meets-any}
 use Rattle.entries.proofs.Table.{kept-count, remats-count, scratch-count, entries-count, kept-is}
@@ -45,6 +45,11 @@ same-code a b =
     both-ways (samePlace (placeAt a) (placeAt b)) (eqb a b)
     (λ e. eq-eqb a b (sym (code-there a) ∙ ap codeOf (same-is (placeAt a) (placeAt b) e) ∙ code-there b))
     (λ e. rw (eqb-true a b e) (same-self (placeAt b)))
+
+either : (a b : Bool) → and a b ≡ false → or (no a) (no b) ≡ true
+either true true e = absurd (true≢false e)
+either true false e = refl
+either false b e = refl
 
 and-end : (b : Bool) → and b true ≡ b
 and-end true = refl
@@ -129,6 +134,11 @@ module _ (t : RegInfo) (f : Function) where
         let h : has u (placeUnits t (getD (a .moves) m noMove .dest)) ≡ true = rw z at (w .3) in
         (l, any-only (sameMove t f s d v) (a .moves) m noMove l (λ i b q. one-writer a ok u i m b l (same-writes (getD (a .moves) i noMove) q) h))
 
+  full : (a : Sorted) (x : Entry) → 128 ≤ a .count → firstOf (entryConditions t f a x) ≡ some 15
+  unfolding entryConditions firstOf
+  full a (move s d v) h = rw (le-leb 128 (a .count) h)
+  full a (remat d v) h = rw (le-leb 128 (a .count) h)
+
   -- the numbers an entry can still be refused by
   pub move-conditions : (a : Sorted) (s d : Place) (v : ℕ) → PassedMove t f a s d v → firstOf (entryConditions t f a (move s d v)) ≡ orElse (and (overlapsEarlier t f a d) (no (dropped t f a s d v))) 12 none
   unfolding entryConditions firstOf
@@ -176,6 +186,45 @@ module _ (t f e w : List ℕ) (ok : Checked t f) (kept : EntriesOk t f e w) wher
   pub refused-by : (x : Entry) (n : ℕ) → firstOf (entryConditions T F a x) ≡ some n → AddedAs t f e w e w x (some n)
   refused-by x n h = record { is = sym h; yes = λ q. (let z : _≡_ {A = ℕ} 0 1 = cc in absurd (omega arith)); no = λ m q. (refl, refl) }
 
+  -- 15 and 2
+  pub refused-15 : (x : Entry) → 128 ≤ a .count → AddedAs t f e w e w x (some 15)
+  refused-15 x h = refused-by x 15 (full T F a x h)
+
+  pub unnamed-source : (s d : Place) (v : ℕ) → a .count < 128 → namesPlace T F s ≡ false → AddedAs t f e w e w (move s d v) (some 2)
+  unfolding entryConditions firstOf
+  unnamed-source s d v less h = refused-by (move s d v) 2 (rw (lt-leb 128 (a .count) less, h))
+
+  pub unnamed-move : (s d : Place) (v : ℕ) → a .count < 128 → namesPlace T F s ≡ true → and (namesPlace T F d) (ltb v (numValues F)) ≡ false → AddedAs t f e w e w (move s d v) (some 2)
+  unfolding entryConditions firstOf
+  unnamed-move s d v less n h = refused-by (move s d v) 2 (rw (lt-leb 128 (a .count) less, n, either (namesPlace T F d) (ltb v (numValues F)) h))
+
+  pub unnamed-remat : (d : Place) (v : ℕ) → a .count < 128 → and (namesPlace T F d) (ltb v (numValues F)) ≡ false → AddedAs t f e w e w (remat d v) (some 2)
+  unfolding entryConditions firstOf
+  unnamed-remat d v less h = refused-by (remat d v) 2 (rw (lt-leb 128 (a .count) less, either (namesPlace T F d) (ltb v (numValues F)) h))
+
+  -- 9, 10 and 11
+  module _ (s d : Place) (v : ℕ) (n : NamedMove T F a s d v) where
+    pub foreign-source : ofBank T (valueBank F v) s ≡ false → AddedAs t f e w e w (move s d v) (some 9)
+    unfolding entryConditions firstOf
+    foreign-source h = refused-by (move s d v) 9 (rw (lt-leb 128 (a .count) (n .rest .less), n .source-named, n .rest .dest-named, lt-ltb v (numValues F) (n .rest .value-named), h))
+
+    pub foreign-dest : ofBank T (valueBank F v) s ≡ true → ofBank T (valueBank F v) d ≡ false → AddedAs t f e w e w (move s d v) (some 9)
+    unfolding entryConditions firstOf
+    foreign-dest g h = refused-by (move s d v) 9 (rw (lt-leb 128 (a .count) (n .rest .less), n .source-named, n .rest .dest-named, lt-ltb v (numValues F) (n .rest .value-named), g, h))
+
+    pub self-move : ofBank T (valueBank F v) s ≡ true → ofBank T (valueBank F v) d ≡ true → samePlace s d ≡ true → AddedAs t f e w e w (move s d v) (some 10)
+    unfolding entryConditions firstOf
+    self-move g h q = refused-by (move s d v) 10 (rw (lt-leb 128 (a .count) (n .rest .less), n .source-named, n .rest .dest-named, lt-ltb v (numValues F) (n .rest .value-named), g, h, q))
+
+  module _ (d : Place) (v : ℕ) (n : NamedRemat T F a d v) where
+    pub foreign-remat : ofBank T (valueBank F v) d ≡ false → AddedAs t f e w e w (remat d v) (some 9)
+    unfolding entryConditions firstOf
+    foreign-remat h = refused-by (remat d v) 9 (rw (lt-leb 128 (a .count) (n .less), n .dest-named, lt-ltb v (numValues F) (n .value-named), h))
+
+    pub not-rebuilt : ofBank T (valueBank F v) d ≡ true → canRematerialize F v ≡ false → AddedAs t f e w e w (remat d v) (some 11)
+    unfolding entryConditions firstOf
+    not-rebuilt g h = refused-by (remat d v) 11 (rw (lt-leb 128 (a .count) (n .less), n .dest-named, lt-ltb v (numValues F) (n .value-named), g, h))
+
   taken : (x : Entry) (e′ w′ : List ℕ) → firstOf (entryConditions T F a x) ≡ none → sortedOf e′ ≡ add T F x a → (SortedOk T F (add T F x a) → Tracked T F (add T F x a) w′) → AddedAs t f e w e′ w′ x none
   taken x e′ w′ h q g = record { is = sym h; yes = λ z. (q, rw q (g (sorted-add T F x a (kept .sorted) h))); no = λ n z. (let y : _≡_ {A = ℕ} 0 1 = cc in absurd (omega arith)) }
 
@@ -196,6 +245,14 @@ module _ (t f e w : List ℕ) (ok : Checked t f) (kept : EntriesOk t f e w) wher
         (m .0 ∙ sym q, rw (m .0) (tracked-remat T F a (placeAt d) apart w w′ kept less (writes .few) b v (m .1) ok)));
         no = done .no;
       }
+
+  -- an entry that asks for a rebuild
+  pub added-remat : (c d v : ℕ) → NamedRemat T F a (placeAt d) v → ofBank T (valueBank F v) (placeAt d) ≡ true → canRematerialize F v ≡ true → rematClass F v ≡ c
+      → (e′ w′ : List ℕ) (r : Option ℕ) → RebuiltAs e w e′ w′ (placeUnits T (placeAt d)) (no (inClass T c (placeAt d))) (rebuiltAs d v) r → AddedAs t f e w e′ w′ (remat (placeAt d) v) r
+  unfolding add
+  added-remat c d v n b can is e′ w′ r done =
+      added-rebuilt (remat (placeAt d) v) (no (inClass T c (placeAt d))) d v (remat-conditions T F a (placeAt d) v (n .less) (n .dest-named) (n .value-named) b can)
+      (rw is (rebuilt-added T F (no (inClass T c (placeAt d))) (placeAt d) v a)) (writable t f ok (placeAt d) (n .dest-named)) (n .less) e′ w′ r done
 
   -- a move
   module _ (s d v : ℕ) (p : PassedMove T F a (placeAt s) (placeAt d) v) where

@@ -10,15 +10,16 @@ use lib.ListN.{getD, length}
 use borrow.Author.Tests.{ltb-true}
 use Rattle.entity.specs.Logic.{pick, and, or, no, has}
 use Rattle.entity.specs.Place.{Place, reg, slot, names, placeAt, readPlace, codeOf}
-use Rattle.entity.proofs.Laws.{has-where, code-there}
-use Rattle.reginfo.specs.RegInfo.{RegInfo, numRegs, placeUnits, isMemory, inClass}
+use Rattle.entity.proofs.Laws.{and-true, has-where, code-there}
+use Rattle.reginfo.specs.RegInfo.{RegInfo, numRegs, numClasses, placeUnits, isMemory, inClass}
 use Rattle.reginfo.specs.Known.{KnownMembers}
 use Rattle.reginfo.specs.Table.{regInfoOf}
 use Rattle.reginfo.proofs.Accepted.{regs-fit, width-fits, unit-low, known-place, known-members}
 use Rattle.function.specs.Function.{Function, numValues, rematCost, rematClass, canRematerialize}
+use Rattle.function.specs.Known.{KnownValue}
 use Rattle.function.specs.Table.{functionOf}
 use Rattle.function.specs.Answers.{Rebuild, rematerialize}
-use Rattle.function.proofs.Laws.{few-slots, class-there, never-rebuilt, rebuilt}
+use Rattle.function.proofs.Laws.{few-values, few-slots, known-value, cost-there, class-there, never-rebuilt, rebuilt}
 use Rattle.rules.specs.Patch.{namesPlace, needsScratch, becomesRemat}
 use Rattle.entries.specs.Known.{Checked, Writable}
 use Rattle.entries.proofs.Lists.{pick-none, pick-some, or-right}
@@ -68,6 +69,9 @@ module _ (t f : List ℕ) (ok : Checked t f) where
       only : (k : ℕ) → k < 1 → (u : ℕ) → getD ((512 + s) ∷ []) k 0 ≡ u → s < 4096 → u < 4608
       only k h u e l = let z : k ≡ 0 = omega arith in let q : 512 + s ≡ u = ap (λ (i : ℕ). getD ((512 + s) ∷ []) i 0) (sym z) ∙ e in omega arith
 
+  pub both-named : (d : Place) (v : ℕ) → and (namesPlace T F d) (ltb v (numValues F)) ≡ true → (namesPlace T F d ≡ true) × (v < numValues F)
+  both-named d v e = let p = and-true (namesPlace T F d) (ltb v (numValues F)) e in (p .0, ltb-true v (numValues F) (p .1))
+
   -- its code is a small number
   pub code-fits : (c : ℕ) → namesPlace T F (placeAt c) ≡ true → c < 65536
   code-fits c h = let e : codeOf (placeAt c) ≡ c = code-there c in low (placeAt c) h e
@@ -77,10 +81,18 @@ module _ (t f : List ℕ) (ok : Checked t f) where
       low (slot s) h e = omega (arith, ltb-true s (F .slots) h, slots-fit)
 
   module _ (v : ℕ) (h : v < numValues F) where
+    pub value-fits : v < 65536
+    value-fits = omega (arith, few-values T F (ok .function))
+
+    -- a value that is looked up, and the class that it is rebuilt in
+    pub value-known : KnownValue F v × (rematCost F v ≤ 2)
+    value-known = (known-value T F (ok .function) v h, cost-there T F (ok .function) v h)
+
+    pub class-low : (x : Rebuild) → some x ≡ rematerialize F v → x .class < numClasses T
+    class-low x e = let q = rebuilt F v x e in rw (← q .2) (class-there T F (ok .function) v h (q .0))
+
     pub class-known : (x : Rebuild) → some x ≡ rematerialize F v → KnownMembers t (x .class)
-    class-known x e =
-        let q = rebuilt F v x e in
-        rw (← q .2) (known-members t (ok .target) (ok .indexed) (rematClass F v) (class-there T F (ok .function) v h (q .0)))
+    class-known x e = known-members t (ok .target) (ok .indexed) (x .class) (class-low x e)
 
     abbrev fate : Place → Place → Option Bool
     fate s d = pick (becomesRemat T F s d v) (some (needsScratch T F d v)) none

@@ -3,3 +3,4 @@ pub mod Table
 pub mod Writers
 pub mod Fates
 pub mod Adding
+pub mod Free

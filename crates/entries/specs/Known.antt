@@ -4,10 +4,11 @@ use mathlib.Core.Path.{_≡_}
 use mathlib.Core.Bool.{Bool, true, false}
 use mathlib.Core.List.{List, [], _∷_}
 use mathlib.Core.Option.{Option, none, some}
+use lib.Dec.{ltb}
 use lib.ListN.{length, getD}
-use Rattle.entity.specs.Logic.{pick, or, any, has}
-use Rattle.entity.specs.Place.{Place, samePlace}
-use Rattle.reginfo.specs.RegInfo.{RegInfo, placeUnits, ofBank}
+use Rattle.entity.specs.Logic.{pick, and, or, no, any, has}
+use Rattle.entity.specs.Place.{Place, reg, samePlace}
+use Rattle.reginfo.specs.RegInfo.{RegInfo, includesSpillslots, lastInOrder, placeUnits, overlap, ofBank}
 use Rattle.reginfo.specs.Refused as target
 use Rattle.reginfo.specs.Known.{KnownPlace}
 use Rattle.reginfo.specs.Table.{regInfoOf, Indexed}
@@ -17,6 +18,7 @@ use Rattle.function.specs.Table.{functionOf}
 use Rattle.rules.specs.Order.{Remat, writerFrom}
 use Rattle.rules.specs.Patch.{Sorted, namesPlace}
 use Rattle.rules.specs.Sorted.{SortedOk}
+use Rattle.small_set.specs.Set.{setOf}
 use Rattle.sparse.specs.Map.{mapOf, keysOf, known, updated, Linked}
 use Rattle.entries.specs.Table.{sortedOf}
 
@@ -54,6 +56,14 @@ pub record Roomy (e w : List ℕ) : Type 0 where
   pub keys : length (keysOf w) ≤ 1016
   pub linked : Linked w
 
+-- a register unit of the set
+abbrev pub isFree : List Bool → ℕ → Bool
+isFree free u = and (ltb u 512) (setOf free u)
+
+-- 14: the last of a class without slots overlaps the place
+abbrev pub lastClashes : RegInfo → ℕ → Place → Bool
+lastClashes t c d = and (no (includesSpillslots t c)) (overlap t (reg (lastInOrder t c)) d)
+
 -- a kept move, else 128 where a rebuild writes the unit
 abbrev pub orRebuilt : Option ℕ → Bool → Option ℕ
 orRebuilt (some m) b = some m
@@ -78,6 +88,16 @@ module _ (t : RegInfo) (f : Function) where
     pub map : mapOf w ≡ writerOf a
     pub linked : Linked w
     pub room : length (keysOf w) ≤ 8 * places a
+
+  -- an entry that is not refused by 15 or 2
+  pub record NamedRemat (a : Sorted) (d : Place) (v : ℕ) : Type 0 where
+    pub less : a .count < 128
+    pub dest-named : namesPlace t f d ≡ true
+    pub value-named : v < numValues f
+
+  pub record NamedMove (a : Sorted) (s d : Place) (v : ℕ) : Type 0 where
+    pub source-named : namesPlace t f s ≡ true
+    pub rest : NamedRemat a d v
 
   -- a move that is not refused before 12
   pub record PassedMove (a : Sorted) (s d : Place) (v : ℕ) : Type 0 where

@@ -14,6 +14,7 @@ use entity::wide;
 use function::Function;
 use function::Remat;
 use reginfo::RegInfo;
+use small_set::RegUnitSet;
 use sparse::Found;
 use sparse::SparseMap;
 ghost use mathlib.Core.Path.{_≡_};
@@ -23,16 +24,20 @@ ghost use mathlib.Core.Option.{none, some};
 ghost use Prim.Native.Nat.{ℕ, _+_, _*_, _<_, _≤_};
 ghost use lib.Dec.{ltb};
 ghost use lib.ListN.{length, getD};
-ghost use Rattle.entity.specs.Logic.{pick, any, has};
+ghost use Rattle.entity.specs.Logic.{pick, and, no, any, has};
 ghost use Rattle.entity.specs.Place.{placeAt};
-ghost use Rattle.reginfo.specs.RegInfo.{placeUnits};
+ghost use Rattle.reginfo.specs.RegInfo.{numClasses, inClass, placeUnits};
+ghost use Rattle.reginfo.specs.Refused.{Accepted, firstOf};
+ghost use Rattle.reginfo.specs.Known.{KnownPlace, KnownMembers};
 ghost use Rattle.reginfo.specs.Table.{regInfoOf};
-ghost use Rattle.function.specs.Function.{numValues};
+ghost use Rattle.function.specs.Function.{numValues, rematClass};
 ghost use Rattle.function.specs.Table.{functionOf};
-ghost use Rattle.rules.specs.Patch.{move, remat, namesPlace, becomesRemat, needsScratch, nothingSorted};
+ghost use Rattle.rules.specs.Patch.{move, remat, namesPlace, becomesRemat, needsScratch, nothingSorted, bound, lastOverlaps, patchConditions, Patch};
+ghost use Rattle.rules.specs.Sorted.{RematOk, SortedOk};
+ghost use Rattle.small_set.specs.Set.{setOf};
 ghost use Rattle.sparse.specs.Map.{mapOf, keysOf, known, Linked};
 ghost use Rattle.entries.specs.Table.{sortedOf, countedOne, storedMove, storedRemat, isMove, isMoveOf, keptMove, rebuiltAs, withMove, withRemat};
-ghost use Rattle.entries.specs.Known.{Checked, Writable, isWritten, Noted, Roomy, PassedMove, EntriesOk};
+ghost use Rattle.entries.specs.Known.{Checked, Writable, isWritten, Noted, Roomy, isFree, lastClashes, NamedRemat, NamedMove, PassedMove, EntriesOk};
 ghost use Rattle.entries.specs.Answers.{addedOf, rebuiltOf, AddedAs, RebuiltAs};
 
 pub type Entries = [u16; 1028];
@@ -266,4 +271,182 @@ fn names_place(t: &RegInfo, f: &Function, code: u32) -> bool
         Named::SpillSlot(_) => true,
         Named::Nothing => false,
     }
+}
+
+// Whether a place and a value are the function's.
+fn names_remat(t: &RegInfo, f: &Function, dest: u32, value: u32) -> bool
+    requires { ⌜ Checked (now t) (now f) ⌝ }
+    ensures { λ r. ⌜ r ≡ and (namesPlace (regInfoOf (now (t .entry))) (functionOf (now (f .entry))) (placeAt dest)) (ltb value (numValues (functionOf (now (f .entry))))) ⌝ }
+{
+    if !names_place(t, f, dest) {
+        return false;
+    }
+    (value as usize) < function::num_values(f)
+}
+
+// Tests a move from 9 on, and adds it.
+fn add_named_move(t: &RegInfo, f: &Function, e: &mut Entries, w: &mut SparseMap, source: Allocation, dest: Allocation, v: Value) -> Added
+    requires { ⌜ Checked (now t) (now f) × EntriesOk (now t) (now f) (now e) (now w) × NamedMove (regInfoOf (now t)) (functionOf (now f)) (sortedOf (now e)) (placeAt (source .0)) (placeAt (dest .0)) (v .0) ⌝ }
+    ensures { λ r. ⌜ AddedAs (now (t .entry)) (now (f .entry)) (now (e .entry)) (now (w .entry)) (now (e .exit)) (now (w .exit)) (move (placeAt (source .0)) (placeAt (dest .0)) (v .0)) (addedOf r) ⌝ }
+{
+    let bank = function::value_bank(f, v);
+    if !reginfo::of_bank(t, source, bank) {
+        return Added::Refused(9);
+    }
+    if !reginfo::of_bank(t, dest, bank) {
+        return Added::Refused(9);
+    }
+    if source.0 == dest.0 {
+        return Added::Refused(10);
+    }
+    place_move(t, f, e, w, source, dest, v)
+}
+
+// Adds a move, or answers the number by which it is refused and leaves the tables as they were.
+pub fn add_move(t: &RegInfo, f: &Function, e: &mut Entries, w: &mut SparseMap, source: u32, dest: u32, value: u32) -> Added
+    requires { ⌜ Checked (now t) (now f) × EntriesOk (now t) (now f) (now e) (now w) ⌝ }
+    ensures { λ r. ⌜ AddedAs (now (t .entry)) (now (f .entry)) (now (e .entry)) (now (w .entry)) (now (e .exit)) (now (w .exit)) (move (placeAt source) (placeAt dest) value) (addedOf r) ⌝ }
+{
+    if 128 <= wide(e[1027]) {
+        return Added::Refused(15);
+    }
+    if !names_place(t, f, source) {
+        return Added::Refused(2);
+    }
+    if !names_remat(t, f, dest, value) {
+        return Added::Refused(2);
+    }
+    add_named_move(t, f, e, w, Allocation(source as u16), Allocation(dest as u16), Value(value as u16))
+}
+
+// Rebuilds a value of the class.
+fn rebuild_in(t: &RegInfo, e: &mut Entries, w: &mut SparseMap, c: RegClass, dest: Allocation, v: Value) -> Added
+    requires { ⌜ Roomy (now e) (now w) × Writable (regInfoOf (now t)) (placeAt (dest .0)) × KnownMembers (now t) (c .0) ⌝ }
+    ensures { λ r. ⌜ RebuiltAs (now (e .entry)) (now (w .entry)) (now (e .exit)) (now (w .exit)) (placeUnits (regInfoOf (now (t .entry))) (placeAt (dest .0))) (no (inClass (regInfoOf (now (t .entry))) (c .0) (placeAt (dest .0)))) (rebuiltAs (dest .0) (v .0)) (addedOf r) ⌝ }
+{
+    let direct = reginfo::class_has(t, c, dest);
+    rebuild(t, e, w, !direct, dest, v)
+}
+
+// Tests a rebuild from 9 on, and adds it.
+fn add_named_remat(t: &RegInfo, f: &Function, e: &mut Entries, w: &mut SparseMap, dest: Allocation, v: Value) -> Added
+    requires { ⌜ Checked (now t) (now f) × EntriesOk (now t) (now f) (now e) (now w) × NamedRemat (regInfoOf (now t)) (functionOf (now f)) (sortedOf (now e)) (placeAt (dest .0)) (v .0) ⌝ }
+    ensures { λ r. ⌜ AddedAs (now (t .entry)) (now (f .entry)) (now (e .entry)) (now (w .entry)) (now (e .exit)) (now (w .exit)) (remat (placeAt (dest .0)) (v .0)) (addedOf r) ⌝ }
+{
+    let bank = function::value_bank(f, v);
+    if !reginfo::of_bank(t, dest, bank) {
+        return Added::Refused(9);
+    }
+    match function::can_rematerialize(f, v) {
+        Remat::Never => Added::Refused(11),
+        Remat::CheaperThanMove(c) => rebuild_in(t, e, w, c, dest, v),
+        Remat::CheaperThanLoad(c) => rebuild_in(t, e, w, c, dest, v),
+    }
+}
+
+// Adds a rebuild, or answers the number by which it is refused and leaves the tables as they were.
+pub fn add_remat(t: &RegInfo, f: &Function, e: &mut Entries, w: &mut SparseMap, dest: u32, value: u32) -> Added
+    requires { ⌜ Checked (now t) (now f) × EntriesOk (now t) (now f) (now e) (now w) ⌝ }
+    ensures { λ r. ⌜ AddedAs (now (t .entry)) (now (f .entry)) (now (e .entry)) (now (w .entry)) (now (e .exit)) (now (w .exit)) (remat (placeAt dest) value) (addedOf r) ⌝ }
+{
+    if 128 <= wide(e[1027]) {
+        return Added::Refused(15);
+    }
+    if !names_remat(t, f, dest, value) {
+        return Added::Refused(2);
+    }
+    add_named_remat(t, f, e, w, Allocation(dest as u16), Value(value as u16))
+}
+
+fn is_free(free: &RegUnitSet, u: AllocationUnit) -> bool
+    ensures { λ r. ⌜ r ≡ isFree (now (free .entry)) (u .0) ⌝ }
+{
+    match u.kind() {
+        AllocationUnitKind::Reg(r) => small_set::contains(free, r),
+        AllocationUnitKind::SpillSlot(_) => false,
+    }
+}
+
+// 13: whether a unit with a writer is a free register unit.
+fn free_destination(w: &SparseMap, free: &RegUnitSet) -> bool
+    requires { ⌜ Linked (now w) ⌝ }
+    ensures { λ r. ⌜ r ≡ any (isFree (now (free .entry))) (keysOf (now (w .entry))) ⌝ }
+{
+    let n = sparse::len(w);
+    let mut j: usize = 0;
+    while j < n {
+        if is_free(free, sparse::key_at(w, j)) {
+            return true;
+        }
+        j += 1;
+    }
+    false
+}
+
+// Whether the class has no slots and the last of its order overlaps the place.
+fn last_clashes(t: &RegInfo, c: RegClass, dest: Allocation) -> bool
+    requires { ⌜ Accepted (regInfoOf (now t)) × (c .0 < numClasses (regInfoOf (now t))) × KnownPlace (regInfoOf (now t)) (placeAt (dest .0)) ⌝ }
+    ensures { λ r. ⌜ r ≡ lastClashes (regInfoOf (now (t .entry))) (c .0) (placeAt (dest .0)) ⌝ }
+{
+    if reginfo::class_includes_spillslots(t, c) {
+        return false;
+    }
+    let last = reginfo::order_last(t, c);
+    reginfo::overlaps_reg(t, dest, last)
+}
+
+fn remat_clashes(t: &RegInfo, f: &Function, dest: Allocation, v: Value) -> bool
+    requires { ⌜ Checked (now t) (now f) × RematOk (regInfoOf (now t)) (functionOf (now f)) false (rebuiltAs (dest .0) (v .0)) ⌝ }
+    ensures { λ r. ⌜ r ≡ lastClashes (regInfoOf (now (t .entry))) (rematClass (functionOf (now (f .entry))) (v .0)) (placeAt (dest .0)) ⌝ }
+{
+    match function::can_rematerialize(f, v) {
+        Remat::Never => false,
+        Remat::CheaperThanMove(c) => last_clashes(t, c, dest),
+        Remat::CheaperThanLoad(c) => last_clashes(t, c, dest),
+    }
+}
+
+// 14: whether a rebuild with scratch has a destination that the last of its class's order overlaps.
+fn last_overlaps(t: &RegInfo, f: &Function, e: &Entries) -> bool
+    requires { ⌜ Checked (now t) (now f) × SortedOk (regInfoOf (now t)) (functionOf (now f)) (sortedOf (now e)) × (length (sortedOf (now e) .rematsWithScratch) ≤ 128) ⌝ }
+    ensures { λ r. ⌜ r ≡ lastOverlaps (regInfoOf (now (t .entry))) (functionOf (now (f .entry))) (sortedOf (now (e .entry))) ⌝ }
+{
+    let n = wide(e[1026]);
+    let mut i: usize = 0;
+    while i < n {
+        let dest = Allocation(e[768 + i * 2]);
+        let v = Value(e[769 + i * 2]);
+        if remat_clashes(t, f, dest, v) {
+            return true;
+        }
+        i += 1;
+    }
+    false
+}
+
+// How many edits the patch can need.
+pub fn edit_bound(e: &Entries) -> usize
+    ensures { λ r. ⌜ r ≡ bound (sortedOf (now (e .entry))) ⌝ }
+{
+    let kept = wide(e[1024]);
+    let remats = wide(e[1025]);
+    let scratch = wide(e[1026]);
+    8 * kept + (5 * scratch + remats)
+}
+
+// 13, 14, 16: the number by which the patch is refused, of which `free` are the free units, where the lent list has `room`.
+pub fn refusal(t: &RegInfo, f: &Function, e: &Entries, w: &SparseMap, free: &RegUnitSet, room: usize) -> Added
+    requires { ⌜ Checked (now t) (now f) × EntriesOk (now t) (now f) (now e) (now w) ⌝ }
+    ensures { λ r. ⌜ ((p : Patch) → ((u : ℕ) → has u (p .free) ≡ setOf (now (free .entry)) u) → addedOf r ≡ firstOf (patchConditions (regInfoOf (now (t .entry))) (functionOf (now (f .entry))) p room (sortedOf (now (e .entry))))) ⌝ }
+{
+    if free_destination(w, free) {
+        return Added::Refused(13);
+    }
+    if last_overlaps(t, f, e) {
+        return Added::Refused(14);
+    }
+    if room < edit_bound(e) {
+        return Added::Refused(16);
+    }
+    Added::Yes
 }
