@@ -13,8 +13,9 @@ ghost use mathlib.Core.Path.{_≡_};
 ghost use mathlib.Core.Bool.{true, false};
 ghost use Prim.Native.Nat.{ℕ, _+_, _<_, _≤_};
 ghost use lib.ListN.{length, getD};
-ghost use Rattle.entity.specs.Logic.{any};
+ghost use Rattle.entity.specs.Logic.{or, any};
 ghost use Rattle.entity.specs.Place.{placeAt};
+ghost use Rattle.reginfo.specs.RegInfo.{isMemory};
 ghost use Rattle.reginfo.specs.Table.{regInfoOf};
 ghost use Rattle.function.specs.Function.{Function};
 ghost use Rattle.rules.specs.Edit.{updated};
@@ -117,6 +118,17 @@ pub fn remat_with_scratch_value(e: &Entries, i: usize) -> Value
     ensures { λ v. ⌜ v .0 ≡ getD (rematsWithScratchOf (now (e .entry))) i noRebuild .value ⌝ }
 {
     Value(e[769 + i * 2])
+}
+
+// Whether a move has memory at either end.
+pub fn has_memory(t: &RegInfo, e: &Entries, m: usize) -> bool
+    requires { ⌜ KeptOk (regInfoOf (now t)) (movesOf (now e)) × (m < length (movesOf (now e))) ⌝ }
+    ensures { λ b. ⌜ b ≡ or (isMemory (regInfoOf (now (t .entry))) (getD (movesOf (now (e .entry))) m noMove .source)) (isMemory (regInfoOf (now (t .entry))) (getD (movesOf (now (e .entry))) m noMove .dest)) ⌝ }
+{
+    if reginfo::is_memory(t, kept_source(e, m)) {
+        return true;
+    }
+    reginfo::is_memory(t, kept_dest(e, m))
 }
 
 // Whether a move is not visited yet, or open.
