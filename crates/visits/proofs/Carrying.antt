@@ -7,7 +7,7 @@ use mathlib.Core.Option.{Option, none, some}
 use native.Mathlib.Omega.{arith}
 use lib.Dec.{eqb}
 use lib.ListN.{getD, length, drop, drop-of-length-le}
-use Rattle.entity.specs.Logic.{pick, and, no, has}
+use Rattle.entity.specs.Logic.{pick, no, has}
 use Rattle.entity.proofs.Laws.{drop-step}
 use Rattle.entity.specs.Place.{Place}
 use Rattle.reginfo.specs.RegInfo.{RegInfo, placeUnits}
