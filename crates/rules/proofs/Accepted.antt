@@ -194,6 +194,21 @@ module _ (t : RegInfo) (f : Function) where
             differ = first-none _ h 3 (omega arith);
           }
 
+  -- the same of `SortedOk`
+  none-at : (q : Place → Bool) (l : List Place) → ((i : ℕ) → i < length l → q (getD l i (slot 0)) ≡ false) → any q l ≡ false
+  unfolding any
+  none-at q [] h = refl
+  none-at q (p ∷ l) h = rw (h 0 (omega arith)) (none-at q l (λ i b. h (suc i) (omega arith)))
+
+  at-apart : (l : List Place) → ((i k : ℕ) → i < length l → k < length l → (i ≡ k → ⊥) → overlap t (getD l i (slot 0)) (getD l k (slot 0)) ≡ false) → Apart l
+  at-apart [] h = tt
+  at-apart (p ∷ l) h =
+      (none-at (overlap t p) l (λ k b. h 0 (suc k) (omega arith) (omega arith) (λ e. omega arith)), at-apart l (λ i k a b d. h (suc i) (suc k) (omega arith) (omega arith) (λ e. d (omega arith))))
+
+  pub sorted-add : (e : Entry) (a : Sorted) → SortedOk t f a → firstOf (entryConditions t f a e) ≡ none → SortedOk t f (add t f e a)
+  sorted-add e a ok h =
+      good-ok (add t f e a) (good-add e a record { moves = ok .moves; remats = ok .remats; rematsWithScratch = ok .rematsWithScratch; apart = at-apart (destinations a) (ok .apart) } h)
+
   good-from : (p : Patch) (room : ℕ) (c c′ : Cache) (es : List Edit) (l : List Entry) (a : Sorted) → Good a → resolveFrom t f p room c l a ≡ resolved es c′
       → Good (sortedFrom t f l a) × (resolveSorted t f p room c (sortedFrom t f l a) ≡ resolved es c′)
   unfolding sortedFrom resolveFrom

@@ -1,0 +1,57 @@
+-- `names_place` meets its contract: what the code is read as.
+use mathlib.Core.Path.{sym, ap, _∙_}
+use native.Mathlib.Omega.{arith}
+use Rattle.entity.specs.Place.{namedOf}
+use Rattle.entries.proofs.Fates.{some-named, none-named, few-regs, slots-fit}
+use borrow.Author.Needs.{needs}
+use Rattle.entries.proofs.names_place.Statement.{statement}
+use Rattle.entries.proofs.names_place.Tie as tie
+
+num-regs-requires : tie.Need-num-regs-requires
+num-regs-requires c κs = search needs
+
+narrow-requires : tie.Need-narrow-requires
+narrow-requires c κs = let s = c .before in omega (arith, few-regs (s .args .t .now) (s .args .f .now) (s .pre))
+
+num-slots-requires : tie.Need-num-slots-requires
+num-slots-requires c κs = search needs
+
+narrow-requires-2 : tie.Need-narrow-requires-2
+narrow-requires-2 c κs = let s = c .before .before .before in omega (arith, slots-fit (s .args .t .now) (s .args .f .now) (s .pre))
+
+read-requires : tie.Need-read-requires
+read-requires c κs = search needs
+
+enum-told : tie.Need-enum-told
+enum-told c = search needs
+
+enum-told-2 : tie.Need-enum-told-2
+enum-told-2 c = search needs
+
+enum-told-3 : tie.Need-enum-told-3
+enum-told-3 c = search needs
+
+returns : tie.Need-returns
+returns c = let s = c .before .before .before .before .before .before .before in rw (← c .before .before .before .before .before .before .num-regs .ensures, ← c .before .before .before .before .before .narrow .ensures, ← c .before .before .before .before .num-slots .ensures, ← c .before .before .before .narrow2 .ensures) (some-named _ _ (s .args .code) _ (sym (ap namedOf (c .enum-told .given .1)) ∙ c .before .before .read .ensures))
+
+returns-2 : tie.Need-returns-2
+returns-2 c = let s = c .before .before .before .before .before .before .before in rw (← c .before .before .before .before .before .before .num-regs .ensures, ← c .before .before .before .before .before .narrow .ensures, ← c .before .before .before .before .num-slots .ensures, ← c .before .before .before .narrow2 .ensures) (some-named _ _ (s .args .code) _ (sym (ap namedOf (c .enum-told2 .given .1)) ∙ c .before .before .read .ensures))
+
+returns-3 : tie.Need-returns-3
+returns-3 c = let s = c .before .before .before .before .before .before .before in rw (← c .before .before .before .before .before .before .num-regs .ensures, ← c .before .before .before .before .before .narrow .ensures, ← c .before .before .before .before .num-slots .ensures, ← c .before .before .before .narrow2 .ensures) (none-named _ _ (s .args .code) (sym (ap namedOf (c .enum-told3 .given .1)) ∙ c .before .before .read .ensures))
+
+pub names-place-spec : {M : Type 1} → statement M
+names-place-spec =
+    tie.close
+    (tie.spec
+    num-regs-requires
+    narrow-requires
+    num-slots-requires
+    narrow-requires-2
+    read-requires
+    enum-told
+    enum-told-2
+    enum-told-3
+    returns
+    returns-2
+    returns-3)

@@ -1,0 +1,113 @@
+-- What is known of checked tables and of a patch under construction.
+use Prim.Native.Nat.{ℕ, _+_, _*_, _<_, _≤_}
+use mathlib.Core.Path.{_≡_}
+use mathlib.Core.Bool.{Bool, true, false}
+use mathlib.Core.List.{List, [], _∷_}
+use mathlib.Core.Option.{Option, none, some}
+use lib.Dec.{ltb}
+use lib.ListN.{length, getD}
+use Rattle.entity.specs.Logic.{pick, and, or, no, any, has}
+use Rattle.entity.specs.Place.{Place, reg, samePlace}
+use Rattle.reginfo.specs.RegInfo.{RegInfo, includesSpillslots, lastInOrder, placeUnits, overlap, ofBank}
+use Rattle.reginfo.specs.Refused as target
+use Rattle.reginfo.specs.Known.{KnownPlace}
+use Rattle.reginfo.specs.Table.{regInfoOf, Indexed}
+use Rattle.function.specs.Function.{Function, numValues, valueBank}
+use Rattle.function.specs.Refused as function
+use Rattle.function.specs.Table.{functionOf}
+use Rattle.rules.specs.Order.{Remat, writerFrom}
+use Rattle.rules.specs.Patch.{Sorted, namesPlace}
+use Rattle.rules.specs.Sorted.{SortedOk}
+use Rattle.small_set.specs.Set.{setOf}
+use Rattle.sparse.specs.Map.{mapOf, keysOf, known, updated, Linked}
+use Rattle.entries.specs.Table.{sortedOf}
+
+-- the tables of an accepted target and function
+pub record Checked (t f : List ℕ) : Type 0 where
+  pub target : target.Accepted (regInfoOf t)
+  pub indexed : Indexed t
+  pub function : function.Accepted (regInfoOf t) (functionOf f)
+
+-- a place whose units can be looked up
+pub record Writable (t : RegInfo) (p : Place) : Type 0 where
+  pub known : KnownPlace t p
+  pub some : 0 < length (placeUnits t p)
+  pub few : length (placeUnits t p) ≤ 8
+  pub low : (u : ℕ) → has u (placeUnits t p) ≡ true → u < 4608
+
+-- the unit has a writer
+abbrev pub isWritten : List ℕ → ℕ → Bool
+isWritten w u = known (mapOf w u)
+
+-- the map with each of the units at x
+unfoldable pub noted : (ℕ → Option ℕ) → List ℕ → ℕ → ℕ → Option ℕ
+noted g [] x = g
+noted g (u ∷ us) x = noted (updated g u x) us x
+
+pub record Noted (w w′ us : List ℕ) (x : ℕ) : Type 0 where
+  pub map : mapOf w′ ≡ noted (mapOf w) us x
+  pub few : length (keysOf w′) ≤ length (keysOf w) + length us
+  pub linked : Linked w′
+
+-- room for one entry more
+pub record Roomy (e w : List ℕ) : Type 0 where
+  pub few : getD e 1024 0 + (getD e 1025 0 + getD e 1026 0) < 128
+  pub count : getD e 1027 0 < 128
+  pub keys : length (keysOf w) ≤ 1016
+  pub linked : Linked w
+
+-- a register unit of the set
+abbrev pub isFree : List Bool → ℕ → Bool
+isFree free u = and (ltb u 512) (setOf free u)
+
+-- 14: the last of a class without slots overlaps the place
+abbrev pub lastClashes : RegInfo → ℕ → Place → Bool
+lastClashes t c d = and (no (includesSpillslots t c)) (overlap t (reg (lastInOrder t c)) d)
+
+-- a kept move, else 128 where a rebuild writes the unit
+abbrev pub orRebuilt : Option ℕ → Bool → Option ℕ
+orRebuilt (some m) b = some m
+orRebuilt none b = pick b (some 128) none
+
+module _ (t : RegInfo) (f : Function) where
+  abbrev pub rebuilds : ℕ → List Remat → Bool
+  rebuilds u l = any (λ (r : Remat). has u (placeUnits t (r .dest))) l
+
+  -- the writer of a unit
+  unfoldable pub writerOf : Sorted → ℕ → Option ℕ
+  writerOf a u = orRebuilt (writerFrom t f (a .moves) 0 (a .moves) u) (or (rebuilds u (a .remats)) (rebuilds u (a .rematsWithScratch)))
+
+  abbrev pub places : Sorted → ℕ
+  places a = length (a .moves) + (length (a .remats) + length (a .rematsWithScratch))
+
+  -- the map holds the writer of each unit
+  pub record Tracked (a : Sorted) (w : List ℕ) : Type 0 where
+    pub sorted : SortedOk t f a
+    pub few : places a ≤ a .count
+    pub most : a .count ≤ 128
+    pub map : mapOf w ≡ writerOf a
+    pub linked : Linked w
+    pub room : length (keysOf w) ≤ 8 * places a
+
+  -- an entry that is not refused by 15 or 2
+  pub record NamedRemat (a : Sorted) (d : Place) (v : ℕ) : Type 0 where
+    pub less : a .count < 128
+    pub dest-named : namesPlace t f d ≡ true
+    pub value-named : v < numValues f
+
+  pub record NamedMove (a : Sorted) (s d : Place) (v : ℕ) : Type 0 where
+    pub source-named : namesPlace t f s ≡ true
+    pub rest : NamedRemat a d v
+
+  -- a move that is not refused before 12
+  pub record PassedMove (a : Sorted) (s d : Place) (v : ℕ) : Type 0 where
+    pub less : a .count < 128
+    pub source-named : namesPlace t f s ≡ true
+    pub dest-named : namesPlace t f d ≡ true
+    pub value-named : v < numValues f
+    pub source-bank : ofBank t (valueBank f v) s ≡ true
+    pub dest-bank : ofBank t (valueBank f v) d ≡ true
+    pub differ : samePlace s d ≡ false
+
+abbrev pub EntriesOk : (t f e w : List ℕ) → Type 0
+EntriesOk t f e w = Tracked (regInfoOf t) (functionOf f) (sortedOf e) w

@@ -1,0 +1,4 @@
+pub mod Marks
+pub mod Writers
+pub mod Carrying
+pub mod Walk

@@ -1,0 +1,16 @@
+-- `is_noted` meets its contract.
+use borrow.Author.Needs.{needs}
+use mathlib.Core.Path.{refl}
+use Rattle.visits.specs.Marks.{isNoted}
+use Rattle.visits.proofs.is_noted.Statement.{statement}
+use Rattle.visits.proofs.is_noted.Tie as tie
+
+element-copy-out-result : tie.Need-element-copy-out-result
+element-copy-out-result c = search needs
+
+returns : tie.Need-returns
+unfolding isNoted
+returns c = refl
+
+pub is-noted-spec : {M : Type 1} → statement M
+is-noted-spec = tie.close (tie.spec element-copy-out-result returns)

@@ -1,0 +1,3 @@
+pub mod Marks
+pub mod Writers
+pub mod Carry

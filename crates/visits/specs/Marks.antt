@@ -1,0 +1,47 @@
+-- The kept moves of a patch and the state of each. The marks: cell m below 128 is the state of move m (0 new, 1 open, else closed), and
+-- cell 128 is 1 once the sources of the kept moves are noted.
+use Prim.Native.Nat.{ℕ, _<_, _≤_}
+use mathlib.Core.Bool.{Bool, true, false}
+use mathlib.Core.List.{List}
+use lib.Dec.{eqb, ltb}
+use lib.ListN.{length, getD}
+use Rattle.entity.specs.Logic.{pick}
+use Rattle.entity.specs.Place.{slot}
+use Rattle.rules.specs.Order.{KeptMove, Remat, noMove, State, New, Pending, Done}
+use Rattle.entries.specs.Table.{sortedOf}
+
+abbrev pub movesOf : List ℕ → List KeptMove
+movesOf e = sortedOf e .moves
+
+abbrev pub rematsOf : List ℕ → List Remat
+rematsOf e = sortedOf e .remats
+
+abbrev pub rematsWithScratchOf : List ℕ → List Remat
+rematsWithScratchOf e = sortedOf e .rematsWithScratch
+
+abbrev pub noRebuild : Remat
+noRebuild = record { dest = slot 0; value = 0 }
+
+-- few moves, of values below the limit
+pub record Small (ms : List KeptMove) : Type 0 where
+  pub few : length ms ≤ 128
+  pub values : (i : ℕ) → i < length ms → getD ms i noMove .value < 4096
+
+unfoldable pub stateAt : ℕ → State
+stateAt b = pick (eqb b 0) New (pick (eqb b 1) Pending Done)
+
+-- no other move is visited
+unfoldable pub statesOf : List ℕ → ℕ → State
+statesOf marks m = pick (ltb m 128) (stateAt (getD marks m 0)) New
+
+unfoldable pub allNew : ℕ → State
+allNew m = New
+
+abbrev pub isDone : State → Bool
+isDone New = false
+isDone Pending = false
+isDone Done = true
+
+-- the sources of the kept moves are noted
+unfoldable pub isNoted : List ℕ → Bool
+isNoted marks = eqb (getD marks 128 0) 1
