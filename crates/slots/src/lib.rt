@@ -1,1 +1,97 @@
-// 01: the emergency slots.
+// 01: the emergency slots, in 32 stacks by size. A function keeps a cache; a patch takes from it and puts back beside it, and the
+// cache changes only where the patch is committed. Both are lent tables that may hold anything before they are cleared or begun.
+use entity::SpillSlot;
+use entity::narrow;
+use entity::wide;
+ghost use mathlib.Core.Path.{_≡_};
+ghost use Prim.Native.Nat.{_<_, _≤_};
+ghost use lib.ListN.{length};
+ghost use Rattle.slots.specs.Stacks.{cacheOf, leftOf, ownOf, CacheFits, SlotsFit};
+ghost use Rattle.slots.specs.Steps.{Cleared, Begun, Taken, PutBack};
+
+pub type SlotCache = [u16; 65600];
+pub type Slots = [u16; 32832];
+
+// What a stack gives.
+pub enum Popped {
+    At(u16),
+    Empty,
+}
+
+// These do nothing: a call tells the length of the table that is passed.
+fn told_cache(t: [u16; 65600]) -> bool
+    ensures { λ _. ⌜ length t ≡ 65600 ⌝ }
+{
+    true
+}
+
+fn told_slots(t: [u16; 32832]) -> bool
+    ensures { λ _. ⌜ length t ≡ 32832 ⌝ }
+{
+    true
+}
+
+// A new function starts with no slots.
+pub fn clear(cache: &mut SlotCache)
+    ensures { λ _. ⌜ Cleared (now (cache .exit)) ⌝ }
+{
+    told_cache(*cache);
+    let mut z: usize = 0;
+    while z < 33 {
+        cache[z] = 0;
+        z += 1;
+    }
+}
+
+// How many slots the function has.
+pub fn made(cache: &SlotCache) -> u16
+    ensures { λ n. ⌜ n ≡ cacheOf (now (cache .entry)) .made ⌝ }
+{
+    cache[32]
+}
+
+// A patch starts with the cache's stacks, of which it has changed nothing.
+pub fn begin(slots: &mut Slots, cache: &SlotCache)
+    requires { ⌜ CacheFits (now cache) ⌝ }
+    ensures { λ _. ⌜ Begun (now (cache .entry)) (now (slots .exit)) ⌝ }
+{
+    told_slots(*slots);
+    let mut z: usize = 0;
+    while z < 32 {
+        slots[z] = cache[z];
+        slots[32 + z] = 0;
+        z += 1;
+    }
+}
+
+// Takes the slot last put back: by this patch, else what is left of the cache's.
+pub fn acquire(slots: &mut Slots, cache: &SlotCache, z: usize) -> Popped
+    requires { ⌜ (z < 32) × (ownOf (now slots) z ≤ 1024) × (leftOf (now slots) z ≤ 2048) ⌝ }
+    ensures { λ r. ⌜ Taken (now (slots .entry)) (now (cache .entry)) (now (slots .exit)) z r ⌝ }
+{
+    told_slots(*slots);
+    let own = wide(slots[32 + z]);
+    if 0 < own {
+        let i = own - 1;
+        slots[32 + z] = narrow(i);
+        return Popped::At(slots[64 + z * 1024 + i]);
+    }
+    let left = wide(slots[z]);
+    if 0 < left {
+        let i = left - 1;
+        slots[z] = narrow(i);
+        return Popped::At(cache[64 + z * 2048 + i]);
+    }
+    Popped::Empty
+}
+
+// Puts a slot back on a stack.
+pub fn put_back(slots: &mut Slots, z: usize, s: SpillSlot)
+    requires { ⌜ (z < 32) × SlotsFit 1024 (now slots) × (ownOf (now slots) z < 1024) ⌝ }
+    ensures { λ _. ⌜ PutBack (now (slots .entry)) (now (slots .exit)) z (s .0) ⌝ }
+{
+    told_slots(*slots);
+    let own = wide(slots[32 + z]);
+    slots[64 + z * 1024 + own] = s.0;
+    slots[32 + z] = narrow(own + 1);
+}

@@ -1,0 +1,234 @@
+-- The stacks that two tables hold, after each store.
+use Prim.Native.Nat.{ℕ, zero, suc, _+_, _-_, _*_, _<_, _≤_}
+use mathlib.Core.Path.{_≡_, refl, sym, ap, _∙_, fun-ext}
+use mathlib.Core.Bool.{Bool, true, false}
+use mathlib.Core.List.{List, [], _∷_, _++_}
+use native.Mathlib.Omega.{arith}
+use native.Mathlib.Nat.{lt-suc-self}
+use native.Mathlib.Numerals.{add-one}
+use lib.ListN.{set, getD, length, length-set, length-append}
+use lib.Seq.{getD-set-same, getD-set-other}
+use lib.Dec.{eqb, ltb}
+use borrow.Author.Tests.{eqb-true, eqb-false, lt-ltb, le-ltb, ltb-true, ltb-false}
+use Rattle.entity.specs.Logic.{pick}
+use Rattle.rules.specs.Edit.{updated}
+use Rattle.slots.specs.declared.Popped.the-variants.{At, Empty}
+use Rattle.slots.specs.Stacks.{topFirst, depthOf, leftOf, ownOf, cacheOf, stacksOf, CacheFits, SlotsFit}
+use Rattle.slots.specs.Steps.{withoutTop, Cleared, Begun, Taken, PutBack, Committed}
+
+-- ---- cells, the last first
+pub top-step : (t : List ℕ) (at n : ℕ) → 0 < n → topFirst t at n ≡ getD t (at + (n - 1)) 0 ∷ topFirst t at (n - 1)
+unfolding topFirst
+top-step t at n h = let l : n ≡ suc (n - 1) = omega arith in ap (topFirst t at) l
+
+pub top-more : (t : List ℕ) (at n : ℕ) → topFirst t at (n + 1) ≡ getD t (at + n) 0 ∷ topFirst t at n
+unfolding topFirst
+top-more t at n = rw (add-one n)
+
+pub length-top : (t : List ℕ) (at n : ℕ) → length (topFirst t at n) ≡ n
+unfolding topFirst
+length-top t at zero = refl
+length-top t at (suc n) = ap suc (length-top t at n)
+
+-- tables with the same cells there
+pub top-same : (t u : List ℕ) (at n : ℕ) → ((j : ℕ) → j < n → getD t (at + j) 0 ≡ getD u (at + j) 0) → topFirst t at n ≡ topFirst u at n
+unfolding topFirst
+top-same t u at zero e = refl
+top-same t u at (suc n) e = rw (e n (lt-suc-self n), top-same t u at n (λ j h. e j (omega arith)))
+
+-- a store elsewhere
+pub top-set : (t : List ℕ) (i v at n : ℕ) → ((j : ℕ) → j < n → at + j ≡ i → ⊥) → topFirst (set t i v) at n ≡ topFirst t at n
+top-set t i v at n h = top-same (set t i v) t at n (λ j l. getD-set-other t i (at + j) v 0 (h j l))
+
+-- ---- the stacks
+pub stacks-in : (slots cache : List ℕ) (z : ℕ) → z < 32 → stacksOf slots cache z ≡ topFirst slots (64 + z * 1024) (ownOf slots z) ++ topFirst cache (64 + z * 2048) (leftOf slots z)
+unfolding stacksOf
+stacks-in slots cache z h = rw (lt-ltb z 32 h)
+
+pub stacks-out : (slots cache : List ℕ) (z : ℕ) → 32 ≤ z → stacksOf slots cache z ≡ []
+unfolding stacksOf
+stacks-out slots cache z h = rw (le-ltb z 32 h)
+
+pub length-stacks : (slots cache : List ℕ) (z : ℕ) → z < 32 → length (stacksOf slots cache z) ≡ ownOf slots z + leftOf slots z
+length-stacks slots cache z h =
+    ap length (stacks-in slots cache z h) ∙ length-append (topFirst slots (64 + z * 1024) (ownOf slots z)) (topFirst cache (64 + z * 2048) (leftOf slots z)) ∙ rw (length-top slots (64 + z * 1024) (ownOf slots z), length-top cache (64 + z * 2048) (leftOf slots z))
+
+-- both at once: equal stacks below 32 are equal stacks
+stacks-by : (slots cache slots′ cache′ : List ℕ) (y : ℕ) → (y < 32 → stacksOf slots cache y ≡ stacksOf slots′ cache′ y) → stacksOf slots cache y ≡ stacksOf slots′ cache′ y
+stacks-by slots cache slots′ cache′ y e = go (ltb y 32) refl
+  where
+    go : (b : Bool) → ltb y 32 ≡ b → stacksOf slots cache y ≡ stacksOf slots′ cache′ y
+    go true l = e (ltb-true y 32 l)
+    go false l = let h : 32 ≤ y = ltb-false y 32 l in stacks-out slots cache y h ∙ sym (stacks-out slots′ cache′ y h)
+
+-- a store that is no part of stack y
+stacks-set : (slots cache : List ℕ) (i v y : ℕ) → (y < 32 → (y ≡ i → ⊥) × (32 + y ≡ i → ⊥) × ((j : ℕ) → j < ownOf slots y → 64 + y * 1024 + j ≡ i → ⊥)) → stacksOf (set slots i v) cache y ≡ stacksOf slots cache y
+unfolding stacksOf
+stacks-set slots cache i v y h =
+    stacks-by (set slots i v) cache slots cache y
+    (λ l. let n = h l in rw (getD-set-other slots i (32 + y) v 0 (n .1), getD-set-other slots i y v 0 (n .0), top-set slots i v (64 + y * 1024) (ownOf slots y) (n .2)))
+
+updated-by : (f g : ℕ → List ℕ) (z : ℕ) (l : List ℕ) → f z ≡ l → ((y : ℕ) → (y ≡ z → ⊥) → f y ≡ g y) → f ≡ updated z l g
+unfolding updated
+updated-by f g z l e n = fun-ext (λ y. go y (eqb y z) refl)
+  where
+    go : (y : ℕ) (b : Bool) → eqb y z ≡ b → f y ≡ pick b l (g y)
+    go y true q = rw (eqb-true y z q) e
+    go y false q = n y (eqb-false y z q)
+
+-- ---- what fits
+pub fits-more : (n m : ℕ) (slots : List ℕ) → n ≤ m → SlotsFit n slots → SlotsFit m slots
+fits-more n m slots h f = record { left = f .left; own = λ y l. omega (arith, f .own y l) }
+
+module _ (slots : List ℕ) (long : length slots ≡ 32832) (z : ℕ) (low : z < 32) (n : ℕ) (f : SlotsFit n slots) where
+  fits-own : (v m : ℕ) → v ≤ m → n ≤ m → SlotsFit m (set slots (32 + z) v)
+  fits-own v m a b =
+      record {
+        left = λ y l. rw (getD-set-other slots (32 + z) y v 0 (λ e. omega arith)) (f .left y l);
+        own = λ y l. go y l (eqb y z) refl;
+      }
+    where
+      go : (y : ℕ) → y < 32 → (b : Bool) → eqb y z ≡ b → getD (set slots (32 + z) v) (32 + y) 0 ≤ m
+      go y l true e = rw (eqb-true y z e, getD-set-same slots (32 + z) v 0 (omega arith)) a
+      go y l false e =
+          let q : y ≡ z → ⊥ = eqb-false y z e in
+          rw (getD-set-other slots (32 + z) (32 + y) v 0 (λ e. q (omega arith))) (omega (arith, f .own y l))
+
+  fits-left : (v : ℕ) → v ≤ 2048 → SlotsFit n (set slots z v)
+  fits-left v a =
+      record {
+        left = λ y l. go y l (eqb y z) refl;
+        own = λ y l. rw (getD-set-other slots z (32 + y) v 0 (λ e. omega arith)) (f .own y l);
+      }
+    where
+      go : (y : ℕ) → y < 32 → (b : Bool) → eqb y z ≡ b → getD (set slots z v) y 0 ≤ 2048
+      go y l true e = rw (eqb-true y z e, getD-set-same slots z v 0 (omega arith)) a
+      go y l false e = rw (getD-set-other slots z y v 0 (eqb-false y z e)) (f .left y l)
+
+fits-word : (slots : List ℕ) (i v n : ℕ) → 64 ≤ i → SlotsFit n slots → SlotsFit n (set slots i v)
+fits-word slots i v n h f =
+    record {
+      left = λ y l. rw (getD-set-other slots i y v 0 (λ e. omega arith)) (f .left y l);
+      own = λ y l. rw (getD-set-other slots i (32 + y) v 0 (λ e. omega arith)) (f .own y l);
+    }
+
+-- ---- a slot is taken
+module _ (slots cache : List ℕ) (long : length slots ≡ 32832) (z : ℕ) (low : z < 32) where
+  module _ (own : ℕ) (is : own ≡ ownOf slots z) (some : 0 < own) where
+    own-top : stacksOf slots cache z ≡ getD slots (64 + z * 1024 + (own - 1)) 0 ∷ (topFirst slots (64 + z * 1024) (own - 1) ++ topFirst cache (64 + z * 2048) (leftOf slots z))
+    own-top = rw (stacks-in slots cache z low, ← is, top-step slots (64 + z * 1024) own some)
+
+    own-here : stacksOf (set slots (32 + z) (own - 1)) cache z ≡ topFirst slots (64 + z * 1024) (own - 1) ++ topFirst cache (64 + z * 2048) (leftOf slots z)
+    own-here =
+        rw (stacks-in (set slots (32 + z) (own - 1)) cache z low, getD-set-same slots (32 + z) (own - 1) 0 (omega arith), getD-set-other slots (32 + z) z (own - 1) 0 (λ e. omega arith))
+        (ap (λ (l : List ℕ). l ++ topFirst cache (64 + z * 2048) (leftOf slots z)) (top-set slots (32 + z) (own - 1) (64 + z * 1024) (own - 1) (λ j h e. omega arith)))
+
+    pub took-own : Taken slots cache (set slots (32 + z) (own - 1)) z (At (getD (set slots (32 + z) (own - 1)) (64 + z * 1024 + (own - 1)) 0))
+    took-own =
+        record {
+          got = rw (own-top, getD-set-other slots (32 + z) (64 + z * 1024 + (own - 1)) (own - 1) 0 (λ e. omega arith));
+          stacks =
+              rw own-top
+              (updated-by (stacksOf (set slots (32 + z) (own - 1)) cache) (stacksOf slots cache) z (topFirst slots (64 + z * 1024) (own - 1) ++ topFirst cache (64 + z * 2048) (leftOf slots z)) own-here
+              (λ y q. stacks-set slots cache (32 + z) (own - 1) y (λ l. ((λ e. omega arith), (λ e. q (omega arith)), (λ j h e. omega arith)))));
+          fits = λ n f. fits-own slots long z low n f (own - 1) n (omega (arith, f .own z low)) (omega arith);
+        }
+
+  module _ (none : ownOf slots z ≡ 0) (left : ℕ) (is : left ≡ leftOf slots z) where
+    left-stack : stacksOf slots cache z ≡ topFirst cache (64 + z * 2048) left
+    unfolding topFirst
+    left-stack = rw (stacks-in slots cache z low, none, is)
+
+    left-here : stacksOf (set slots z (left - 1)) cache z ≡ topFirst cache (64 + z * 2048) (left - 1)
+    unfolding topFirst
+    left-here =
+        rw (stacks-in (set slots z (left - 1)) cache z low, getD-set-same slots z (left - 1) 0 (omega arith), getD-set-other slots z (32 + z) (left - 1) 0 (λ e. omega arith), none)
+
+    pub took-left : 0 < left → Taken slots cache (set slots z (left - 1)) z (At (getD cache (64 + z * 2048 + (left - 1)) 0))
+    took-left some =
+        let top : stacksOf slots cache z ≡ getD cache (64 + z * 2048 + (left - 1)) 0 ∷ topFirst cache (64 + z * 2048) (left - 1) = left-stack ∙ top-step cache (64 + z * 2048) left some in
+        record {
+          got = rw top;
+          stacks =
+              rw top
+              (updated-by (stacksOf (set slots z (left - 1)) cache) (stacksOf slots cache) z (topFirst cache (64 + z * 2048) (left - 1)) left-here
+              (λ y q. stacks-set slots cache z (left - 1) y (λ l. (q, (λ e. omega arith), (λ j h e. omega arith)))));
+          fits = λ n f. fits-left slots long z low n f (left - 1) (omega (arith, f .left z low));
+        }
+
+    pub took-none : left ≡ 0 → Taken slots cache slots z Empty
+    unfolding topFirst
+    took-none e =
+        let top : stacksOf slots cache z ≡ [] = left-stack ∙ ap (topFirst cache (64 + z * 2048)) e in
+        record { got = rw top; stacks = rw top; fits = λ n f. f }
+
+-- ---- a slot is put back
+module _ (slots : List ℕ) (long : length slots ≡ 32832) (z : ℕ) (low : z < 32) (f : SlotsFit 1024 slots) (own s : ℕ) (is : own ≡ ownOf slots z) (room : own < 1024) where
+  put-here : (cache : List ℕ) → stacksOf (set (set slots (64 + z * 1024 + own) s) (32 + z) (own + 1)) cache z ≡ s ∷ stacksOf slots cache z
+  put-here cache =
+      let base = 64 + z * 1024 in
+      let u = set slots (base + own) s in
+      rw (stacks-in (set u (32 + z) (own + 1)) cache z low, getD-set-same u (32 + z) (own + 1) 0 (omega (arith, length-set slots (base + own) s)), getD-set-other u (32 + z) z (own + 1) 0 (λ e. omega arith), getD-set-other slots (base + own) z s 0 (λ e. omega arith), top-more (set u (32 + z) (own + 1)) base own, getD-set-other u (32 + z) (base + own) (own + 1) 0 (λ e. omega arith), getD-set-same slots (base + own) s 0 (omega arith), top-set u (32 + z) (own + 1) base own (λ j h e. omega arith), top-set slots (base + own) s base own (λ j h e. omega arith), stacks-in slots cache z low, ← is)
+
+  put-other : (cache : List ℕ) (y : ℕ) → (y ≡ z → ⊥) → stacksOf (set (set slots (64 + z * 1024 + own) s) (32 + z) (own + 1)) cache y ≡ stacksOf slots cache y
+  put-other cache y q =
+      stacks-set (set slots (64 + z * 1024 + own) s) cache (32 + z) (own + 1) y (λ l. ((λ e. omega arith), (λ e. q (omega arith)), (λ j h e. omega arith)))
+      ∙ stacks-set slots cache (64 + z * 1024 + own) s y (λ l. ((λ e. omega arith), (λ e. omega arith), (λ j h e. let m : ownOf slots y ≤ 1024 = f .own y l in q (omega arith))))
+
+  pub put : PutBack slots (set (set slots (64 + z * 1024 + own) s) (32 + z) (own + 1)) z s
+  put =
+      record {
+        stacks = λ cache. updated-by (stacksOf (set (set slots (64 + z * 1024 + own) s) (32 + z) (own + 1)) cache) (stacksOf slots cache) z (s ∷ stacksOf slots cache z) (put-here cache) (put-other cache);
+        fits = λ n g. fits-own (set slots (64 + z * 1024 + own) s) (length-set slots (64 + z * 1024 + own) s ∙ long) z low n (fits-word slots (64 + z * 1024 + own) s n (omega arith) g) (own + 1) (n + 1) (omega (arith, g .own z low)) (omega arith);
+      }
+
+-- ---- a patch begins: the stacks below z are the cache's
+abbrev pub Copied : List ℕ → List ℕ → ℕ → Type 0
+Copied slots cache z = (y : ℕ) → y < z → (leftOf slots y ≡ depthOf cache y) × (ownOf slots y ≡ 0)
+
+pub copied-more : (slots cache : List ℕ) (z : ℕ) → length slots ≡ 32832 → z < 32 → Copied slots cache z → Copied (set (set slots z (getD cache z 0)) (32 + z) 0) cache (z + 1)
+copied-more slots cache z long low k y h = go (eqb y z) refl
+  where
+    u : List ℕ
+    u = set slots z (getD cache z 0)
+    go : (b : Bool) → eqb y z ≡ b → (getD (set u (32 + z) 0) y 0 ≡ getD cache y 0) × (getD (set u (32 + z) 0) (32 + y) 0 ≡ 0)
+    go true e =
+        rw (eqb-true y z e)
+        (getD-set-other u (32 + z) z 0 0 (λ e. omega arith) ∙ getD-set-same slots z (getD cache z 0) 0 (omega arith), getD-set-same u (32 + z) 0 0 (omega (arith, length-set slots z (getD cache z 0))))
+    go false e =
+        let q : y ≡ z → ⊥ = eqb-false y z e in
+        let l : y < z = omega arith in
+        rw (getD-set-other u (32 + z) y 0 0 (λ e. omega arith), getD-set-other slots z y (getD cache z 0) 0 q, getD-set-other u (32 + z) (32 + y) 0 0 (λ e. q (omega arith)), getD-set-other slots z (32 + y) (getD cache z 0) 0 (λ e. omega arith))
+        (k y l)
+
+pub began : (slots cache : List ℕ) → CacheFits cache → Copied slots cache 32 → Begun cache slots
+unfolding stacksOf cacheOf topFirst
+began slots cache f k =
+    record {
+      stacks = fun-ext (λ y. go y (ltb y 32) refl);
+      fits = record { left = λ y h. rw (k y h .0) (f .deep y h); own = λ y h. rw (k y h .1) (omega arith) };
+    }
+  where
+    go : (y : ℕ) (b : Bool) → ltb y 32 ≡ b → pick b (topFirst slots (64 + y * 1024) (ownOf slots y) ++ topFirst cache (64 + y * 2048) (leftOf slots y)) [] ≡ pick b (topFirst cache (64 + y * 2048) (depthOf cache y)) []
+    go y true e = let n = k y (ltb-true y 32 e) in rw (n .0, n .1)
+    go y false e = refl
+
+-- ---- a cache with no depths
+pub zero-more : (cache : List ℕ) (z : ℕ) → z < length cache → ((y : ℕ) → y < z → getD cache y 0 ≡ 0) → (y : ℕ) → y < z + 1 → getD (set cache z 0) y 0 ≡ 0
+zero-more cache z low k y h = go (eqb y z) refl
+  where
+    go : (b : Bool) → eqb y z ≡ b → getD (set cache z 0) y 0 ≡ 0
+    go true e = rw (eqb-true y z e) (getD-set-same cache z 0 0 low)
+    go false e = let q : y ≡ z → ⊥ = eqb-false y z e in let l : y < z = omega arith in getD-set-other cache z y 0 0 q ∙ k y l
+
+pub cleared : (cache : List ℕ) → ((y : ℕ) → y < 33 → getD cache y 0 ≡ 0) → Cleared cache
+unfolding cacheOf topFirst
+cleared cache k =
+    record {
+      empty = rw (k 32 (omega arith)) (ap (λ (f : ℕ → List ℕ). record { stacks = f; made = 0 }) (fun-ext (λ y. go y (ltb y 32) refl)));
+      fits = record { deep = λ y h. rw (k y (omega arith)) (omega arith) };
+    }
+  where
+    go : (y : ℕ) (b : Bool) → ltb y 32 ≡ b → pick b (topFirst cache (64 + y * 2048) (depthOf cache y)) [] ≡ []
+    go y true e = let h : y < 32 = ltb-true y 32 e in rw (k y (omega arith))
+    go y false e = refl

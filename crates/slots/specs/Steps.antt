@@ -1,0 +1,46 @@
+-- What each step promises, of the tables before and after.
+use Prim.Native.Nat.{ℕ, _+_}
+use mathlib.Core.Path.{_≡_}
+use mathlib.Core.List.{List, [], _∷_}
+use mathlib.Core.Option.{Option, none, some}
+use Rattle.rules.specs.Edit.{updated}
+use Rattle.rules.specs.Scratch.{Cache, emptyCache}
+use Rattle.slots.specs.declared.Popped.{Popped}
+use Rattle.slots.specs.declared.Popped.the-variants.{At, Empty}
+use Rattle.slots.specs.Stacks.{cacheOf, stacksOf, CacheFits, SlotsFit}
+
+abbrev pub poppedOf : Popped → Option ℕ
+poppedOf (At s) = some s
+poppedOf Empty = none
+
+-- the slot last put back on a stack
+abbrev pub topOf : List ℕ → Option ℕ
+topOf [] = none
+topOf (s ∷ l) = some s
+
+-- the stacks without the top of stack z, which is the list in front
+abbrev pub withoutTop : List ℕ → ℕ → (ℕ → List ℕ) → ℕ → List ℕ
+withoutTop [] z f = f
+withoutTop (s ∷ l) z f = updated z l f
+
+pub record Cleared (exit : List ℕ) : Type 0 where
+  pub empty : cacheOf exit ≡ emptyCache
+  pub fits : CacheFits exit
+
+pub record Begun (cache exit : List ℕ) : Type 0 where
+  pub stacks : stacksOf exit cache ≡ cacheOf cache .stacks
+  pub fits : SlotsFit 0 exit
+
+pub record Taken (slots cache exit : List ℕ) (z : ℕ) (r : Popped) : Type 0 where
+  pub got : poppedOf r ≡ topOf (stacksOf slots cache z)
+  pub stacks : stacksOf exit cache ≡ withoutTop (stacksOf slots cache z) z (stacksOf slots cache)
+  pub fits : (n : ℕ) → SlotsFit n slots → SlotsFit n exit
+
+pub record PutBack (slots exit : List ℕ) (z s : ℕ) : Type 0 where
+  pub stacks : (cache : List ℕ) → stacksOf exit cache ≡ updated z (s ∷ stacksOf slots cache z) (stacksOf slots cache)
+  pub fits : (n : ℕ) → SlotsFit n slots → SlotsFit (n + 1) exit
+
+-- the cache is what the patch left
+pub record Committed (slots cache exit : List ℕ) (made : ℕ) : Type 0 where
+  pub is : cacheOf exit ≡ record { stacks = stacksOf slots cache; made = made }
+  pub fits : CacheFits exit
