@@ -1,9 +1,8 @@
 -- 01, Scratch keeper: "the first register of its order whose units are all available (none of them a source unit of a kept move, if asked
 -- for a cycle)", on lent sets of units.
 use Prim.Native.Nat.{ℕ}
-use mathlib.Core.Path.{_≡_}
-use mathlib.Core.Bool.{Bool, true, false}
-use mathlib.Core.List.{List, [], _∷_}
+use mathlib.Core.Bool.{Bool}
+use mathlib.Core.List.{List, []}
 use mathlib.Core.Option.{Option, none, some}
 use Rattle.entity.specs.Logic.{and, or, no, all, has}
 use Rattle.entity.specs.Place.{Place, reg, slot}

@@ -1,11 +1,13 @@
 // The search for a scratch register, and the marks on a register's units.
-use entity::{Allocation, AllocationKind, PhysReg, RegClass};
+use entity::Allocation;
+use entity::AllocationKind;
+use entity::PhysReg;
+use entity::RegClass;
+use entity::RegUnit;
 use reginfo::RegInfo;
 use small_set::RegUnitSet;
-
 ghost use mathlib.Core.Path.{_≡_};
-ghost use Prim.Native.Nat.{_<_, _≤_};
-ghost use lib.ListN.{length};
+ghost use Prim.Native.Nat.{_<_};
 ghost use Rattle.entity.specs.Place.{placeAt};
 ghost use Rattle.reginfo.specs.RegInfo.{numClasses, allocationOrder};
 ghost use Rattle.reginfo.specs.Refused.{Accepted};
@@ -13,7 +15,7 @@ ghost use Rattle.reginfo.specs.Known.{KnownUnits, KnownPlace};
 ghost use Rattle.reginfo.specs.Table.{regInfoOf};
 ghost use Rattle.small_set.specs.Set.{setOf};
 ghost use Rattle.rules.specs.Edit.{find};
-ghost use Rattle.search.specs.Search.{searchOf, usableIn, withUnits, withoutUnits};
+ghost use Rattle.search.specs.Search.{searchOf, barredBy, usableIn, withUnits, withoutUnits};
 
 // A register of a class's order, or none that would do.
 pub enum Search {
@@ -21,45 +23,62 @@ pub enum Search {
     Nothing,
 }
 
-// Whether every unit of a register is available, and none is a source unit of a kept move if asked for a cycle.
-pub fn usable(t: &RegInfo, available: &RegUnitSet, sources: &RegUnitSet, cycle: bool, r: PhysReg) -> bool
+// Whether a unit is a source unit of a kept move, if asked for a cycle.
+fn barred(sources: &RegUnitSet, cycle: bool, u: RegUnit) -> bool
+    requires { ⌜ u .0 < 512 ⌝ }
+    ensures { λ b. ⌜ b ≡ barredBy cycle (now (sources .entry)) (u .0) ⌝ }
+{
+    if cycle {
+        return small_set::contains(sources, u);
+    }
+    false
+}
+
+// Whether every unit of a register is available, and none is barred.
+pub fn usable(
+    t: &RegInfo,
+    available: &RegUnitSet,
+    sources: &RegUnitSet,
+    cycle: bool,
+    r: PhysReg,
+) -> bool
     requires { ⌜ KnownUnits (regInfoOf (now t)) (r .0) ⌝ }
     ensures { λ b. ⌜ b ≡ usableIn (regInfoOf (now (t .entry))) (now (available .entry)) (now (sources .entry)) cycle (r .0) ⌝ }
 {
     let n = reginfo::num_reg_units(t, r);
     let mut j: usize = 0;
-    let mut left = n;
-    while 0 < left {
+    while j < n {
         let u = reginfo::reg_unit(t, r, j);
         if !small_set::contains(available, u) {
             return false;
         }
-        if cycle {
-            if small_set::contains(sources, u) {
-                return false;
-            }
+        if barred(sources, cycle, u) {
+            return false;
         }
         j += 1;
-        left -= 1;
     }
     true
 }
 
 // The first register of a class's order that is usable.
-pub fn first_usable(t: &RegInfo, available: &RegUnitSet, sources: &RegUnitSet, cycle: bool, c: RegClass) -> Search
+pub fn first_usable(
+    t: &RegInfo,
+    available: &RegUnitSet,
+    sources: &RegUnitSet,
+    cycle: bool,
+    c: RegClass,
+) -> Search
     requires { ⌜ Accepted (regInfoOf (now t)) × (c .0 < numClasses (regInfoOf (now t))) ⌝ }
     ensures { λ s. ⌜ searchOf s ≡ find (usableIn (regInfoOf (now (t .entry))) (now (available .entry)) (now (sources .entry)) cycle) (allocationOrder (regInfoOf (now (t .entry))) (c .0)) ⌝ }
 {
     let n = reginfo::order_len(t, c);
     let mut i: usize = 0;
-    let mut left = n;
-    while 0 < left {
+    while i < n {
         let r = reginfo::order_at(t, c, i);
         if usable(t, available, sources, cycle, r) {
             return Search::At(r);
         }
         i += 1;
-        left -= 1;
     }
     Search::Nothing
 }
