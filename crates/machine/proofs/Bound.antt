@@ -1,7 +1,7 @@
 -- Demand 3: the edits of an accepted call number at most the bound.
 use Prim.Native.Nat.{ℕ, zero, suc, pred, _+_, _*_, _<_, _≤_}
 use mathlib.Core.Path.{_≡_, refl, sym, ap, subst, _∙_}
-use mathlib.Core.Bool.{Bool, true, false}
+use mathlib.Core.Bool.{Bool, true, false, false≢true}
 use mathlib.Core.List.{List, [], _∷_, reverse}
 use mathlib.Core.Option.{Option, none, some}
 use mathlib.Core.Logic.{_⊎_, inl, inr, ⊎-elim}
@@ -18,14 +18,16 @@ use Rattle.reginfo.proofs.Accepted.{top-slots, last-memory}
 use Rattle.function.specs.Function.{Function, numValues, rematClass}
 use Rattle.function.specs.Refused as function
 use Rattle.function.proofs.Laws.{bank-there, class-there}
-use Rattle.rules.specs.Edit.{Edit, Rematerialize, updated, andThen, each, find, filter}
+use Rattle.rules.specs.Edit.{Edit, Rematerialize, andThen, each, find, filter}
 use Rattle.rules.specs.Scratch.{Cache, Evicted, ScratchAllocator, push, withEvicted, Found, unevict, unevictAll, overlapsEvicted, unevictForReg, acquire, releasePlace, usable, slotScratch, evictLast, reuse, orScratch, getScratchReg, nothingBarred, moveEdits, doMove}
 use Rattle.rules.specs.Order.{KeptMove, noMove, Remat, State, New, Pending, Done, isNew, isPending, Diverted, ParallelMoves, withState, carry, doRemat, remats, rematWithScratch, source, dest, value, bank, writers, cycleMoveSources, emit, noted, divert, carried, lead, lost, undivert, undivertAll, close, visit, visitUnlessMemory, start, moves}
 use Rattle.rules.specs.Patch.{Patch, Sorted, sorted, bound, run}
 use Rattle.rules.specs.Sorted.{MoveOk, RematOk, noRemat, SortedOk, Ran}
-use Rattle.machine.proofs.Steps.{All, all-then, all-after, all-map, branch, Every, every-getD, every-reverse, every-index, all-each, updated-same, updated-other}
-use Rattle.machine.proofs.Sum.{sum, sum-change, sum-zero, sum-ones}
-use Rattle.machine.proofs.Diversions.{clash, occurs, writers-low, Counted, Grown, carry-grown, was-live, lost-counted}
+use Rattle.rules.proofs.News.{news, news-all, news-open, news-close}
+use Rattle.rules.proofs.Writers.{writers-low}
+use Rattle.rules.proofs.Sum.{sum, sum-change, sum-zero}
+use Rattle.rules.proofs.Steps.{All, all-then, all-after, all-map, branch, Every, every-getD, every-reverse, every-index, all-each, updated-same, updated-other}
+use Rattle.machine.proofs.Diversions.{occurs, Counted, Grown, carry-grown, was-live, lost-counted}
 
 -- the edits made, and those still owed: each evicted register will be saved
 abbrev owed : ScratchAllocator → ℕ
@@ -60,17 +62,6 @@ sign-zero : (n : ℕ) → n ≡ 0 → sign n ≡ 0
 unfolding sign
 sign-zero zero h = refl
 sign-zero (suc n) h = absurd (omega arith)
-
-new : State → ℕ
-new New = 1
-new Pending = 0
-new Done = 0
-
-new-is : (s : State) → isNew s ≡ true → new s ≡ 1
-unfolding new
-new-is New e = refl
-new-is Pending e = absurd (clash e)
-new-is Done e = absurd (clash e)
 
 module _ (t : RegInfo) (f : Function) where
   unevict-edits : (l : List Evicted) (k : ScratchAllocator) → length (unevict t f l k .edits) ≡ length l + length (k .edits)
@@ -125,7 +116,7 @@ module _ (t : RegInfo) (f : Function) where
     -- a class with slots evicts nothing
     slots-owed : includesSpillslots t c ≡ true → (barred : ℕ → Bool) (k : ScratchAllocator) → owed k ≤ m → All (λ x. owed (x .scratch) ≤ m) (getScratchReg t f b c barred k)
     slots-owed s barred k h =
-        all-map (Searched c m) (λ x. owed (x .scratch) ≤ m) (getScratchReg t f b c barred k) (λ x. ⊎-elim (λ q. q) (λ q. absurd (clash (sym (q .2) ∙ s))))
+        all-map (Searched c m) (λ x. owed (x .scratch) ≤ m) (getScratchReg t f b c barred k) (λ x. ⊎-elim (λ q. q) (λ q. absurd (false≢true (sym (q .2) ∙ s))))
         (search-owed barred k h)
 
   -- an emission: at most two moves, a reload and its save; one move unless both are memory
@@ -141,7 +132,7 @@ module _ (t : RegInfo) (f : Function) where
     edit-owed : (m : ℕ) (k : ScratchAllocator) → isMemory t from ≡ false → owed k ≤ m → All (λ k′. owed k′ ≤ m + 1) (moveEdits t f b to from v k)
     unfolding moveEdits
     edit-owed m k n h =
-        branch (All (λ k′. owed k′ ≤ m + 1)) (and (isMemory t to) (isMemory t from)) _ _ (λ e. absurd (clash (sym n ∙ and-true (isMemory t to) (isMemory t from) e .1))) (λ _. omega arith)
+        branch (All (λ k′. owed k′ ≤ m + 1)) (and (isMemory t to) (isMemory t from)) _ _ (λ e. absurd (false≢true (sym n ∙ and-true (isMemory t to) (isMemory t from) e .1))) (λ _. omega arith)
 
     move-owed : (m : ℕ) (k : ScratchAllocator) → owed k ≤ m → All (λ k′. owed k′ ≤ m + 4) (doMove t f b to from v k)
     unfolding doMove
@@ -226,13 +217,9 @@ module _ (t : RegInfo) (f : Function) where
         live-less : lost t f ms i v rest d .refCount v ≡ 0 → live (lost t f ms i v rest d) < live d
         live-less z = omega (arith, live-change, sign-zero (pred (d .refCount v)) (sym (updated-same v (pred (d .refCount v)) (d .refCount)) ∙ z))
 
-      -- the moves not visited
-      news : (ℕ → State) → ℕ
-      news s = sum (λ i. new (s i)) n
-
       -- edits made and owed, 4 for each diversion that lives and 8 for each move not visited
       abbrev spent : ParallelMoves → ℕ
-      spent w = owed (w .allocator) + (4 * live (w .diverted) + 8 * news (w .state))
+      spent w = owed (w .allocator) + (4 * live (w .diverted) + 8 * news n (w .state))
 
       record Paid (a : ℕ) (w : ParallelMoves) : Type 0 where
         paid : spent w ≤ a
@@ -301,11 +288,7 @@ module _ (t : RegInfo) (f : Function) where
             all-then (Left a v l w e p) (Paid a) (undivert t f ms i v l w) _ (undivert-paid a v l w e p) (λ w′ q. undivertAll-paid a l w′ (q .1) (q .0))
 
         done-paid : (a : ℕ) (w : ParallelMoves) → Paid a w → Paid a (withState i Done w)
-        unfolding news new
-        done-paid a w p = record { paid = omega (arith, p .paid, fewer, ap new (updated-same i Done (w .state))); counted = p .counted }
-          where
-            fewer : sum (λ k. new (updated i Done (w .state) k)) n + new (w .state i) ≡ sum (λ k. new (w .state k)) n + new (updated i Done (w .state) i)
-            fewer = sum-change (λ k. new (updated i Done (w .state) k)) (λ k. new (w .state k)) n i il (λ k d. ap new (updated-other i Done (w .state) k d))
+        done-paid a w p = record { paid = omega (arith, p .paid, news-close n i (w .state)); counted = p .counted }
 
         close-paid : (a b : ℕ) (w : ParallelMoves) → Paid a w → a + 8 ≤ b → All (Paid b) (close t f ms i w)
         unfolding close
@@ -315,14 +298,7 @@ module _ (t : RegInfo) (f : Function) where
 
         -- to open a move frees its 8
         opened : (w : ParallelMoves) → isNew (w .state i) ≡ true → spent (withState i Pending w) + 8 ≤ spent w
-        unfolding news new
-        opened w e =
-            omega (
-              arith,
-              sum-change (λ k. new (updated i Pending (w .state) k)) (λ k. new (w .state k)) n i il (λ k d. ap new (updated-other i Pending (w .state) k d)),
-              ap new (updated-same i Pending (w .state)),
-              new-is (w .state i) e,
-            )
+        opened w e = omega (arith, news-open n i (w .state) il e)
 
       visit-paid : (fuel a i : ℕ) (w : ParallelMoves) → i < n → Paid a w → All (Paid a) (visit t f ms fuel i w)
       unfolding visit
@@ -340,8 +316,8 @@ module _ (t : RegInfo) (f : Function) where
       first-paid a i w il p = branch (All (Paid a)) (or (isMemory t (source t f ms i)) (isMemory t (dest t f ms i))) _ _ (λ _. p) (λ _. visit-paid n a i w il p)
 
       start-paid : (k : ScratchAllocator) → Paid (owed k + 8 * n) (start t f ms k)
-      unfolding start live news new sign occurs
-      start-paid k = record { paid = omega (arith, sum-zero (λ v. 0) (numValues f) (λ v h. refl), sum-ones n); counted = record { counts = λ v. sym (sum-zero (λ m. 0) n (λ m h. refl)); small = λ v h. absurd (omega arith) } }
+      unfolding start live sign occurs
+      start-paid k = record { paid = omega (arith, sum-zero (λ v. 0) (numValues f) (λ v h. refl), news-all n (λ i. New)); counted = record { counts = λ v. sym (sum-zero (λ m. 0) n (λ m h. refl)); small = λ v h. absurd (omega arith) } }
 
       moves-few : (k : ScratchAllocator) → All (λ k′. length (k′ .edits) ≤ owed k + 8 * n) (moves t f ms k)
       unfolding moves

@@ -1,86 +1,20 @@
--- Answers that may be a refusal, tests over lists, and the slot cache.
+-- The slot cache: a slot taken, and one put back.
 use mathlib.Core.Path.{_≡_, refl, sym, _∙_, ap, subst}
-use mathlib.Core.Bool.{Bool, true, false, not, _&&_, _||_, cond}
+use mathlib.Core.Bool.{not}
 use mathlib.Core.List.{List, [], _∷_}
-use mathlib.Core.Option.{Option, some, none}
+use mathlib.Core.Option.{some, none}
 use mathlib.Core.Logic.{_⊎_, inl, inr, ⊎-elim}
-use Prim.Native.Nat.{ℕ, zero, suc, _+_, _≤_, _<_}
+use Prim.Native.Nat.{ℕ, _+_, _≤_, _<_}
 use native.Mathlib.Omega.{arith}
-use lib.Dec.{T, T-not, not-T, eqb, eqb→eq, eqb-refl, ltb, ltb→lt}
-use Rattle.entity.specs.Logic.{has, any, all}
+use lib.Dec.{T, T-not, not-T, eqb, eqb-refl, ltb}
+use Rattle.entity.specs.Logic.{has}
 use Rattle.reginfo.specs.RegInfo.{RegInfo}
 use Rattle.function.specs.Function.{Function}
-use Rattle.rules.specs.Edit.{updated, andThen, find}
+use Rattle.rules.specs.Edit.{updated}
 use Rattle.rules.specs.Scratch.{Cache, Acquired, acquireFrom, acquire, release}
-use Rattle.machine.proofs.Memory.{hasIn, distinct}
-use Rattle.machine.proofs.Tally.{updated-same, updated-at}
-
--- a result that may be a refusal: what holds of it if it is none
-abbrev pub All : {A : Type 0} → (A → Type 0) → Option A → Type 0
-All P none = Unit {0}
-All P (some a) = P a
-
-pub all-andThen : {A B : Type 0} (P : A → Type 0) (Q : B → Type 0) (o : Option A) (f : A → Option B) → All P o → ((a : A) → P a → All Q (f a)) → All Q (andThen o f)
-unfolding andThen
-all-andThen P Q none f h k = tt
-all-andThen P Q (some a) f h k = k a h
-
--- a branch keeps a fact that both its arms have
-pub if : {A : Type 0} (P : A → Type 0) (b : Bool) (x y : A) → (T b → P x) → (T (not b) → P y) → P (cond b x y)
-if P true x y f g = f tt
-if P false x y f g = g tt
-
-pub or-split : (a b : Bool) → T (not (a || b)) → T (not a) × T (not b)
-or-split true b h = absurd h
-or-split false b h = (tt, h)
-
-pub or-l : (a b : Bool) → T a → T (a || b)
-or-l true b h = tt
-or-l false b h = absurd h
-
-pub or-r : (a b : Bool) → T b → T (a || b)
-or-r true b h = tt
-or-r false b h = h
-
-pub and-split : (a b : Bool) → T (a && b) → T a × T b
-and-split true b h = (tt, h)
-and-split false b h = absurd h
-
-pub has-cons : (us : List ℕ) (v u : ℕ) → T (hasIn (v ∷ us) u) → (u ≡ v) ⊎ T (hasIn us u)
-unfolding has
-has-cons us v u h = go (eqb u v) (eqb→eq u v) h
-  where
-    go : (b : Bool) → (T b → u ≡ v) → T (b || hasIn us u) → (u ≡ v) ⊎ T (hasIn us u)
-    go true e i = inl (e tt)
-    go false e i = inr i
-
-pub any-not : (f : ℕ → Bool) (us : List ℕ) → T (not (any f us)) → (u : ℕ) → T (hasIn us u) → T (f u) → ⊥
-unfolding any has
-any-not f [] h u k x = k
-any-not f (v ∷ us) h u k x =
-    ⊎-elim (λ e. T-not (f v) (or-split (f v) (any f us) h .0) (subst (λ (y : ℕ). T (f y)) e x))
-    (λ i. any-not f us (or-split (f v) (any f us) h .1) u i x) (has-cons us v u k)
-
-pub all-has : (f : ℕ → Bool) (us : List ℕ) → T (all f us) → (u : ℕ) → T (hasIn us u) → T (f u)
-unfolding all has
-all-has f [] h u k = absurd k
-all-has f (v ∷ us) h u k =
-    ⊎-elim (λ e. subst (λ (y : ℕ). T (f y)) (sym e) (and-split (f v) (all f us) h .0))
-    (λ i. all-has f us (and-split (f v) (all f us) h .1) u i) (has-cons us v u k)
-
-pub find-all : (p : ℕ → Bool) (rs : List ℕ) → All (λ r. T (p r) × T (hasIn rs r)) (find p rs)
-unfolding find has
-find-all p [] = tt
-find-all p (r ∷ rs) =
-    if (All (λ x. T (p x) × T (hasIn (r ∷ rs) x))) (p r) (some r) (find p rs) (λ h. (h, or-l (eqb r r) (hasIn rs r) (eqb-refl r))) (λ h. wider (find p rs) (find-all p rs))
-  where
-    wider : (o : Option ℕ) → All (λ x. T (p x) × T (hasIn rs x)) o → All (λ x. T (p x) × T (hasIn (r ∷ rs) x)) o
-    wider none h = tt
-    wider (some x) h = (h .0, or-r (eqb x r) (hasIn rs x) (h .1))
-
-pub both : (a b : Bool) → T a → T b → T (a && b)
-both true b x y = y
-both false b x y = absurd x
+use Rattle.rules.proofs.Steps.{All, updated-at, updated-same}
+use Rattle.machine.proofs.Tests.{hasIn, has-cons, or-l, or-r, and-split, both, if}
+use Rattle.machine.proofs.Memory.{distinct}
 
 module _ (t : RegInfo) (F : Function) where
   -- in a stack, or not made yet

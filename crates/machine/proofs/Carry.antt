@@ -1,17 +1,18 @@
 -- Who carries which value: the count of a value is the number of its carriers, and no move carries a value twice.
 use mathlib.Core.Path.{_≡_, refl, sym, _∙_, ap, subst}
-use mathlib.Core.Bool.{Bool, true, false, not, _&&_, _||_, cond}
+use mathlib.Core.Bool.{Bool, true, false, not, _&&_, _||_}
 use mathlib.Core.List.{List, [], _∷_, _++_}
 use mathlib.Core.Logic.{_⊎_, inl, inr, ⊎-elim}
-use Prim.Native.Nat.{ℕ, zero, suc, pred, _+_, _≤_, _<_}
+use Prim.Native.Nat.{ℕ, suc, _+_, _≤_, _<_}
 use native.Mathlib.Omega.{arith}
-use lib.Dec.{T, T-not, not-T, eqb, eqb→eq, eqb-refl}
+use lib.Dec.{T, T-not, eqb, eqb-refl}
 use Rattle.entity.specs.Logic.{has}
 use Rattle.rules.specs.Edit.{updated}
-use Rattle.rules.specs.Order.{State, New, Pending, Done, isPending, Diverted, carryOne, carry}
-use Rattle.machine.proofs.Memory.{hasIn, distinct}
-use Rattle.machine.proofs.Cache.{if, has-cons, or-l, or-r, or-split, and-split, both}
-use Rattle.machine.proofs.Tally.{updated-same, updated-other, updated-at, tally, tally-cong, tally-up}
+use Rattle.rules.specs.Order.{State, isPending, Diverted, carryOne, carry}
+use Rattle.rules.proofs.Steps.{updated-at, updated-same, updated-other}
+use Rattle.machine.proofs.Tests.{hasIn, has-cons, has-head, has-tail, has-other, or-split, or-r, and-split, both, if}
+use Rattle.machine.proofs.Memory.{distinct}
+use Rattle.machine.proofs.Tally.{tally, tally-cong, tally-up}
 
 module _ (n : ℕ) where
   pub record TabOk (b : Diverted) : Type 0 where
@@ -24,22 +25,6 @@ module _ (n : ℕ) where
     pub more : (i x : ℕ) → T (hasIn (b .values i) x) → T (hasIn (b′ .values i) x)
     pub others : (x : ℕ) → (x ≡ v → ⊥) → b′ .refCount x ≡ b .refCount x
     pub up : b .refCount v ≤ b′ .refCount v
-
-  pub has-other : (l : List ℕ) (v x : ℕ) → (x ≡ v → ⊥) → hasIn (v ∷ l) x ≡ hasIn l x
-  unfolding has
-  has-other l v x d = go (eqb x v) (eqb→eq x v)
-    where
-      go : (b : Bool) → (T b → x ≡ v) → (b || hasIn l x) ≡ hasIn l x
-      go true e = absurd (d (e tt))
-      go false e = refl
-
-  pub has-head : (l : List ℕ) (v : ℕ) → T (hasIn (v ∷ l) v)
-  unfolding has
-  has-head l v = or-l (eqb v v) (hasIn l v) (eqb-refl v)
-
-  pub has-tail : (l : List ℕ) (v x : ℕ) → T (hasIn l x) → T (hasIn (v ∷ l) x)
-  unfolding has
-  has-tail l v x h = or-r (eqb x v) (hasIn l x) h
 
   snoc-self : (l : List ℕ) (v : ℕ) → T (hasIn (l ++ (v ∷ [])) v)
   unfolding has
@@ -134,4 +119,3 @@ module _ (n : ℕ) where
             (λ e. rest .0 .more i v (subst (λ (z : ℕ). T (hasIn (carryOne v st k b .values z) v)) (sym e) (one .1 (subst (λ (z : ℕ). T (isPending (st z))) e op))))
             (λ y. rest .1 i y op) (has-cons ks k i h),
       )
-

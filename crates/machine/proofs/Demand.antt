@@ -1,63 +1,42 @@
 -- Demand 3, with every premise from acceptance.
 use mathlib.Core.Path.{_≡_, refl, sym, _∙_, ap, subst}
 use mathlib.Core.Bool.{Bool, true, false, not, _&&_, _||_}
-use mathlib.Core.List.{List, [], _∷_, _++_, List·Memᴰ}
-use mathlib.Core.Option.{Option, some, none}
+use mathlib.Core.List.{List, [], _∷_, _++_}
 use mathlib.Core.Logic.{_⊎_, inl, inr, ⊎-elim}
 use Prim.Native.Nat.{ℕ, zero, suc, _+_, _≤_, _<_}
 use native.Mathlib.Omega.{arith}
 use native.Mathlib.Nat.{add-left-cancel}
 use native.Mathlib.Decide.{decLt}
-use lib.Dec.{T, T-not, not-T, eqb, eqb→eq, eqb-refl}
-use lib.ListN.{length, getD, replicate, length-replicate}
+use lib.Dec.{T, T-not, eqb→eq, eqb-refl}
+use lib.ListN.{length, replicate, length-replicate}
 use Rattle.entity.specs.Logic.{has, any, twice}
 use Rattle.entity.specs.Place.{Place, reg, slot, samePlace}
-use Rattle.reginfo.specs.RegInfo.{RegInfo, numRegs, numClasses, numBanks, regUnits, bankForReg, bankForClass, includesSpillslots, lastInOrder, topLevelClass, stackToStackClass, placeUnits, isMemoryReg, isMemory, inClass, overlap}
+use Rattle.reginfo.specs.RegInfo.{RegInfo, numRegs, numClasses, numBanks, regUnits, bankForClass, includesSpillslots, lastInOrder, topLevelClass, stackToStackClass, isMemoryReg, overlap}
 use Rattle.reginfo.specs.Refused as target
 use Rattle.reginfo.proofs.Accepted.{top-fits, stack-fits, same-width, order-member, top-bank, stack-bank, memory-apart, top-slots, stack-slots, stack-memory, last-memory, last-ordered, member-fits, member-bank}
 use Rattle.function.specs.Function.{Function, numValues, valueBank, canRematerialize, rematClass}
 use Rattle.function.specs.Refused as function
 use Rattle.function.proofs.Laws.{bank-there}
 use Rattle.rules.specs.Edit.{Edit}
-use Rattle.rules.specs.Scratch.{Cache, emptyCache, unitsOfReg, ScratchAllocator}
+use Rattle.rules.specs.Scratch.{Cache, emptyCache, unitsOfReg}
 use Rattle.rules.specs.Order.{KeptMove, Remat, noMove, source, dest, value}
 use Rattle.rules.specs.Patch.{Patch, Sorted, sorted, destinations, run, Answer, refused, resolved, resolve, Call, cacheAfter}
-use Rattle.rules.specs.Sorted.{SortedOk, MoveOk, RematOk, Ran, noRemat}
+use Rattle.rules.specs.Sorted.{SortedOk, RematOk, Ran, noRemat}
 use Rattle.rules.proofs.Accepted.{accepted}
-use Rattle.machine.specs.Machine.{Memory, Machine, read, fits}
-use Rattle.machine.specs.Claim.{Contents, kept, numKept, Holding, OfValue, IsScratch, Stopped, Finished, Right, Accepted, Answered, Claim, Demand3}
-use Rattle.machine.proofs.Memory.{hasIn, distinct, TargetOk, covers, Apart}
+use Rattle.machine.specs.Machine.{Memory, Machine, fits}
+use Rattle.machine.specs.Claim.{Contents, OfValue, Stopped, Finished, Right, Accepted, Answered, Claim, Demand3}
+use Rattle.rules.proofs.Steps.{All}
+use Rattle.machine.proofs.Tests.{hasIn, both, yes-of, no-of, of-yes, of-no, never}
+use Rattle.machine.proofs.Memory.{distinct, TargetOk, covers, Apart}
 use Rattle.machine.proofs.Run.{Job, Stop, Final, stops, ends}
 use Rattle.machine.proofs.Sound.{Within, can}
-use Rattle.machine.proofs.Cache.{All, both, CacheOk}
+use Rattle.machine.proofs.Cache.{CacheOk}
 use Rattle.machine.proofs.Search.{ClassOk, place-covers}
 use Rattle.machine.proofs.Emit.{MemoryRule, StackOk}
 use Rattle.machine.proofs.Order.{PatchOk}
-use Rattle.machine.proofs.Rebuild.{RebuildOk}
 use Rattle.machine.proofs.Whole.{In, EntryOk, PlainsOk, ScratchesOk, NeedR, PatchStart, Done, whole-ok}
 use Rattle.machine.proofs.Premises.{mem-at, has-reverse, Disjoint, disjoint, disjoint-comm, rematAt, kept-passes, remat-passes, scratch-passes, last-apart, dest-disjoint, dest-remat, dest-scratch, remat-remat, remat-scratch, scratch-scratch, writes, free-kept, free-remat, free-scratch, written, barred, remat-class, remat-bank, dest-fits, remat-fits, scratch-fits, member-holds, no-units, reg-low, reg-once, reg-slot, beyond}
 use Rattle.machine.proofs.Bound.{bound-ok}
-
--- tests as types
-yes-of : (b : Bool) → b ≡ true → T b
-yes-of true e = tt
-yes-of false e = absurd (let z : _≡_ {A = ℕ} 0 1 = cc in omega arith)
-
-no-of : (b : Bool) → b ≡ false → T (not b)
-no-of true e = absurd (let z : _≡_ {A = ℕ} 0 1 = cc in omega arith)
-no-of false e = tt
-
-of-yes : (b : Bool) → T b → b ≡ true
-of-yes true h = refl
-of-yes false h = absurd h
-
-of-no : (b : Bool) → T (not b) → b ≡ false
-of-no true h = absurd h
-of-no false h = refl
-
-never : (b : Bool) → b ≡ false → T b → ⊥
-never true e h = let z : _≡_ {A = ℕ} 0 1 = cc in omega arith
-never false e h = h
 
 once-distinct : (l : List ℕ) → twice l ≡ false → T (distinct l)
 unfolding twice distinct

@@ -1,29 +1,21 @@
 -- The counts of diverted values: each value's count is how often it is carried.
 use Prim.Native.Nat.{ℕ, suc, pred, _+_, _<_, _≤_}
 use mathlib.Core.Path.{_≡_, refl, sym, ap, _∙_}
-use mathlib.Core.Bool.{Bool, true, false}
+use mathlib.Core.Bool.{Bool, true, false, false≢true}
 use mathlib.Core.List.{List, [], _∷_, _++_}
-use mathlib.Core.Option.{Option, none, some}
 use native.Mathlib.Omega.{arith}
 use lib.Dec.{eqb}
 use lib.ListN.{length}
 use borrow.Author.Tests.{eq-eqb, ne-eqb}
 use Rattle.entity.specs.Logic.{pick, and, or, no, any, has}
-use Rattle.reginfo.specs.RegInfo.{RegInfo, placeUnits}
+use Rattle.reginfo.specs.RegInfo.{RegInfo}
 use Rattle.function.specs.Function.{Function, numValues}
 use Rattle.rules.specs.Edit.{updated}
-use Rattle.rules.specs.Order.{KeptMove, State, isPending, Diverted, carryOne, carry, source, writerFrom, writersOf, writers, lost}
-use Rattle.machine.proofs.Steps.{All, all-map, branch, Every, updated-at, updated-same, updated-other}
-use Rattle.machine.proofs.Sum.{sum, sum-change, sum-part}
-
-pub clash : false ≡ true → ⊥
-clash e = let z : _≡_ {A = ℕ} 0 1 = cc in omega arith
+use Rattle.rules.specs.Order.{KeptMove, State, isPending, Diverted, carryOne, carry, lost}
+use Rattle.rules.proofs.Sum.{bit, sum, sum-change, sum-part}
+use Rattle.rules.proofs.Steps.{Every, updated-at, updated-same, updated-other}
 
 -- how often x is listed
-unfoldable pub bit : Bool → ℕ
-bit true = 1
-bit false = 0
-
 unfoldable pub occurs : ℕ → List ℕ → ℕ
 occurs x [] = 0
 occurs x (y ∷ l) = bit (eqb x y) + occurs x l
@@ -43,7 +35,7 @@ occurs-end x (z ∷ l) y = omega (arith, occurs-end x l y)
 
 pub has-occurs : (x : ℕ) (l : List ℕ) → has x l ≡ true → 0 < occurs x l
 unfolding occurs has bit
-has-occurs x [] h = absurd (clash h)
+has-occurs x [] h = absurd (false≢true h)
 has-occurs x (y ∷ l) h = go (eqb x y) h (has-occurs x l)
   where
     go : (b : Bool) → or b (has x l) ≡ true → (has x l ≡ true → 0 < occurs x l) → 0 < bit b + occurs x l
@@ -53,27 +45,6 @@ has-occurs x (y ∷ l) h = go (eqb x y) h (has-occurs x l)
 module _ (t : RegInfo) (f : Function) (ms : List KeptMove) where
   abbrev n : ℕ
   n = length ms
-
-  -- a writer is a kept move
-  writer-low : (i : ℕ) (l : List KeptMove) (u : ℕ) → All (λ m. m < i + length l) (writerFrom t f ms i l u)
-  unfolding writerFrom
-  writer-low i [] u = tt
-  writer-low i (m ∷ l) u =
-      branch (All (λ m. m < i + suc (length l))) (has u (placeUnits t (m .dest))) _ _ (λ _. omega arith)
-      (λ _. all-map (λ m. m < i + 1 + length l) (λ m. m < i + suc (length l)) (writerFrom t f ms (i + 1) l u) (λ m h. omega arith) (writer-low (i + 1) l u))
-
-  writersOf-low : (us : List ℕ) → Every (λ m. m < n) (writersOf t f ms us)
-  unfolding writersOf
-  writersOf-low [] = tt
-  writersOf-low (u ∷ us) = go (writerFrom t f ms 0 ms u) refl (writer-low 0 ms u) (writersOf-low us)
-    where
-      go : (o : Option ℕ) → writerFrom t f ms 0 ms u ≡ o → All (λ m. m < 0 + n) o → Every (λ m. m < n) (writersOf t f ms us) → Every (λ m. m < n) (writersOf t f ms (u ∷ us))
-      go none e h r = rw e r
-      go (some m) e h r = rw e (omega arith, r)
-
-  pub writers-low : (i : ℕ) → Every (λ m. m < n) (writers t f ms i)
-  unfolding writers
-  writers-low i = writersOf-low (placeUnits t (source t f ms i))
 
   -- each value's count is how often it is carried, and only values there are
   pub record Counted (d : Diverted) : Type 0 where
@@ -112,7 +83,7 @@ module _ (t : RegInfo) (f : Function) (ms : List KeptMove) where
               };
           others = λ x q. updated-other v (suc (d .refCount v)) (d .refCount) x q;
           more = omega (arith, updated-same v (suc (d .refCount v)) (d .refCount));
-          only = λ k h. updated-other m (d .values m ++ (v ∷ [])) (d .values) k (λ e. clash (sym h ∙ ap (λ j. isPending (state j)) e ∙ p));
+          only = λ k h. updated-other m (d .values m ++ (v ∷ [])) (d .values) k (λ e. false≢true (sym h ∙ ap (λ j. isPending (state j)) e ∙ p));
         }
 
     same-grown : Grown v state d d
@@ -128,13 +99,13 @@ module _ (t : RegInfo) (f : Function) (ms : List KeptMove) where
         go true p true h =
             (same-grown, λ _. omega (arith, o .counts v, sum-part (λ k. occurs v (d .values k)) n m ml, has-occurs v (d .values m) h))
         go true p false h = (one-grown p, λ _. omega (arith, updated-same v (suc (d .refCount v)) (d .refCount)))
-        go false p b h = (same-grown, λ e. absurd (clash e))
+        go false p b h = (same-grown, λ e. absurd (false≢true e))
 
   pub carry-grown :
       (v : ℕ) → v < numValues f → (state : ℕ → State) (l : List ℕ) → Every (λ m. m < n) l → (d : Diverted) → Counted d
       → Grown v state d (carry v state l d) × (any (λ m. isPending (state m)) l ≡ true → 0 < carry v state l d .refCount v)
   unfolding carry any
-  carry-grown v vl state [] q d o = (record { counted = o; others = λ x q. refl; more = omega arith; only = λ k h. refl }, λ e. absurd (clash e))
+  carry-grown v vl state [] q d o = (record { counted = o; others = λ x q. refl; more = omega arith; only = λ k h. refl }, λ e. absurd (false≢true e))
   carry-grown v vl state (m ∷ l) q d o =
       let one = carryOne-grown v vl m (q .0) d o state in
       let rest = carry-grown v vl state l (q .1) (carryOne v state m d) (one .0 .counted) in (

@@ -1,25 +1,25 @@
 -- Emitting a move, and that it keeps the program sound.
-use mathlib.Core.Path.{_≡_, refl, sym, _∙_, ap, subst}
-use mathlib.Core.Bool.{Bool, true, false, not, _&&_, _||_, cond}
-use mathlib.Core.List.{List, [], _∷_}
-use mathlib.Core.Option.{Option, some, none}
-use mathlib.Core.Logic.{_⊎_, inl, inr, ⊎-elim}
-use Prim.Native.Nat.{ℕ, zero, suc, _+_, _≤_, _<_}
-use lib.Dec.{T, T-not, not-T, eqb, eqb→eq, eqb-refl}
+use mathlib.Core.Path.{_≡_, refl, sym, subst}
+use mathlib.Core.Bool.{Bool, true, false, not, _&&_, _||_}
+use mathlib.Core.List.{List, _∷_}
+use mathlib.Core.Option.{some}
+use mathlib.Core.Logic.{_⊎_, inr, ⊎-elim}
+use Prim.Native.Nat.{ℕ, _+_, _≤_}
+use lib.Dec.{T, T-not}
 use lib.ListN.{length}
-use Rattle.entity.specs.Logic.{has}
 use Rattle.entity.specs.Place.{Place, reg, slot}
-use Rattle.reginfo.specs.RegInfo.{RegInfo, regUnits, allocationOrder, includesSpillslots, lastInOrder, stackToStackClass, isMemoryReg, isMemory}
+use Rattle.reginfo.specs.RegInfo.{RegInfo, allocationOrder, includesSpillslots, lastInOrder, stackToStackClass, isMemoryReg, isMemory}
 use Rattle.function.specs.Function.{Function}
 use Rattle.rules.specs.Edit.{Edit, Move, andThen}
 use Rattle.rules.specs.Scratch.{ScratchAllocator, Found, push, unitsOfReg, makeAvailable, makeUnavailable, unevictForReg, getScratchReg, nothingBarred, moveEdits, doMove}
-use Rattle.machine.specs.Machine.{Memory, read, fits}
-use Rattle.machine.proofs.Memory.{hasIn, TargetOk, covers, Apart}
-use Rattle.machine.proofs.Run.{Wait, idle, saved, Log, Job}
+use Rattle.machine.specs.Machine.{fits}
+use Rattle.rules.proofs.Steps.{All, all-then}
+use Rattle.machine.proofs.Tests.{hasIn, and-split, if}
+use Rattle.machine.proofs.Memory.{TargetOk, covers, Apart}
+use Rattle.machine.proofs.Run.{Wait, idle, Job}
 use Rattle.machine.proofs.Sound.{Needs, under, shown, Within, Live, Ok, Pre, Sound, Turns, met-raw}
 use Rattle.machine.proofs.Macro.{Goal, Scratch, Standing, move, through}
-use Rattle.machine.proofs.Cache.{All, all-andThen, if, and-split}
-use Rattle.machine.proofs.Search.{wait, WaitsIn, or-case, Empty, ApartW, reg-covers, Room, Kept, BackFor, bringFor-ok, ClassOk, Free, Lone, FoundOk, search-ok, clear-of, lone-memory, free-covers, kept-free}
+use Rattle.machine.proofs.Search.{wait, or-case, Empty, ApartW, reg-covers, Room, Kept, BackFor, bringFor-ok, ClassOk, Free, FoundOk, search-ok, clear-of, lone-memory, free-covers, kept-free}
 
 pub no-right : (a b : Bool) → T (not b) → T (not (a && b))
 no-right true b h = h
@@ -102,7 +102,7 @@ module _ (t : RegInfo) (F : Function) (tk : TargetOk t) where
             mem-mem : T (isMemory t to && isMemory t from)
                 → All (Moved P k) (andThen (getScratchReg t F b c (nothingBarred t F) k) (λ x. some (push (Move (x .place) from v) (push (Move to (x .place) v) (x .scratch)))))
             mem-mem mm =
-                all-andThen (Through k) (Moved P k) (getScratchReg t F b c (nothingBarred t F) k) _
+                all-then (Through k) (Moved P k) (getScratchReg t F b c (nothingBarred t F) k) _
                 (search-ok t F tk j em needs b c (length (j .content v)) (nothingBarred t F) (sk .ok) k h) next
               where
                 tm : T (isMemory t to)
@@ -181,7 +181,7 @@ module _ (t : RegInfo) (F : Function) (tk : TargetOk t) where
         pub doMove-ok : (k₀ : ScratchAllocator) → needs′ from v → ((s : ℕ) → Empty t F tk k₀ s → Apart t F tk from (slot s)) → K needs k₀ → All (Emitted k₀) (doMove t F b to from v k₀)
         unfolding doMove
         doMove-ok k₀ take real h₀ =
-            all-andThen (Moved (λ w. Ok t F tk j needs′ w) k) (Emitted k₀) (moveEdits t F b to from v k) _
+            all-then (Moved (λ w. Ok t F tk j needs′ w) k) (Emitted k₀) (moveEdits t F b to from v k) _
             (moveEdits-ok (λ w. Ok t F tk j needs′ w) k h (b₂ .off) (standing k (b₂ .back .still from (b₁ .off)) (λ s e. e))
             (λ fm x f. standing (x .scratch) (f .still from (b₂ .back .still from (b₁ .off)) (λ _. rule from (lastInOrder t c) fm (sk .ok .last-plain (sk .no-slots)))) (f .fewer)))
             (λ k′ m. (turned-ok k₀ k′ real (λ s e. fewer s (m .fewer s e)) (m .room) (m .sound), λ s e. fewer s (m .fewer s e)))

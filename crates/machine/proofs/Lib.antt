@@ -1,5 +1,4 @@
-pub mod Steps
-pub mod Sum
+pub mod Tests
 pub mod Diversions
 pub mod Bound
 pub mod Premises
@@ -18,3 +17,4 @@ pub mod Passes
 pub mod Whole
 pub mod Slots
 pub mod Demand
+pub mod Instance

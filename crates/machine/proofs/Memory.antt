@@ -2,7 +2,7 @@
 use mathlib.Core.Path.{_≡_, refl, sym, _∙_, ap, ap₂, subst}
 use mathlib.Core.Bool.{Bool, true, false, not, _&&_, _||_, cond}
 use mathlib.Core.List.{List, [], _∷_, map}
-use Prim.Native.Nat.{ℕ, zero, suc, _+_}
+use Prim.Native.Nat.{ℕ, _+_}
 use lib.Dec.{T, T-not, not-T, eqb, eqb→eq, eqb-refl}
 use native.Mathlib.Nat.{suc-ne-zero, suc-inj}
 use lib.ListN.{length}
@@ -10,34 +10,15 @@ use Rattle.entity.specs.Logic.{has}
 use Rattle.entity.specs.Place.{Place, reg, slot}
 use Rattle.reginfo.specs.RegInfo.{RegInfo, regUnits}
 use Rattle.function.specs.Function.{Function}
-use Rattle.rules.specs.Edit.{updated}
 use Rattle.machine.specs.Machine.{Memory, put, read, write, fits}
-
--- membership, the list first
-abbrev pub hasIn : List ℕ → ℕ → Bool
-hasIn l x = has x l
-
-or-left : (a b : Bool) → T (not (a || b)) → T (not a)
-or-left true b h = h
-or-left false b h = tt
-
-or-right : (a b : Bool) → T (not (a || b)) → T (not b)
-or-right true b h = absurd h
-or-right false b h = h
-
-cond-not : (b : Bool) (x y : ℕ) → T (not b) → cond b x y ≡ y
-cond-not true x y h = absurd h
-cond-not false x y h = refl
-
-cond-yes : (b : Bool) (x y : ℕ) → T b → cond b x y ≡ x
-cond-yes true x y h = refl
-cond-yes false x y h = absurd h
+use Rattle.rules.proofs.Steps.{updated-same, updated-other}
+use Rattle.machine.proofs.Tests.{hasIn, or-split, or-l, or-r, and-split, cond-yes, cond-not}
 
 pub put-other : (us ws : List ℕ) (f : ℕ → ℕ) (x : ℕ) → T (not (hasIn us x)) → put us ws f x ≡ f x
 unfolding has put
 put-other [] ws f x h = refl
 put-other (u ∷ us) [] f x h = refl
-put-other (u ∷ us) (w ∷ ws) f x h = cond-not (eqb x u) w (put us ws f x) (or-left (eqb x u) (hasIn us x) h) ∙ put-other us ws f x (or-right (eqb x u) (hasIn us x) h)
+put-other (u ∷ us) (w ∷ ws) f x h = cond-not (eqb x u) w (put us ws f x) (or-split (eqb x u) (hasIn us x) h .0) ∙ put-other us ws f x (or-split (eqb x u) (hasIn us x) h .1)
 
 pub put-cong : (us ws : List ℕ) (f g : ℕ → ℕ) (x : ℕ) → f x ≡ g x → put us ws f x ≡ put us ws g x
 unfolding put
@@ -50,29 +31,13 @@ unfoldable pub distinct : List ℕ → Bool
 distinct [] = true
 distinct (u ∷ us) = not (hasIn us u) && distinct us
 
-and-left : (a b : Bool) → T (a && b) → T a
-and-left true b h = tt
-and-left false b h = h
-
-and-right : (a b : Bool) → T (a && b) → T b
-and-right true b h = h
-and-right false b h = absurd h
-
-or-yes-left : (a b : Bool) → T a → T (a || b)
-or-yes-left true b h = tt
-or-yes-left false b h = absurd h
-
-or-yes-right : (a b : Bool) → T b → T (a || b)
-or-yes-right true b h = tt
-or-yes-right false b h = h
-
 -- the two maps agree where the list hasIn it
 pub map-cong : (us : List ℕ) (f g : ℕ → ℕ) → ((x : ℕ) → T (hasIn us x) → f x ≡ g x) → map f us ≡ map g us
 unfolding has
 map-cong [] f g h = refl
 map-cong (u ∷ us) f g h =
-    ap₂ _∷_ (h u (or-yes-left (eqb u u) (hasIn us u) (eqb-refl u)))
-    (map-cong us f g (λ x k. h x (or-yes-right (eqb x u) (hasIn us x) k)))
+    ap₂ _∷_ (h u (or-l (eqb u u) (hasIn us u) (eqb-refl u)))
+    (map-cong us f g (λ x k. h x (or-r (eqb x u) (hasIn us x) k)))
 
 pub put-same : (us ws : List ℕ) (f : ℕ → ℕ) → T (distinct us) → length ws ≡ length us → map (put us ws f) us ≡ ws
 unfolding has put distinct
@@ -81,12 +46,12 @@ put-same [] (w ∷ ws) f d e = absurd (suc-ne-zero (length ws) e)
 put-same (u ∷ us) [] f d e = absurd (suc-ne-zero (length us) (sym e))
 put-same (u ∷ us) (w ∷ ws) f d e =
     ap₂ _∷_ (cond-yes (eqb u u) w (put us ws f u) (eqb-refl u))
-    (map-cong us (put (u ∷ us) (w ∷ ws) f) (put us ws f) apart ∙ put-same us ws f (and-right (not (hasIn us u)) (distinct us) d) (suc-inj e))
+    (map-cong us (put (u ∷ us) (w ∷ ws) f) (put us ws f) apart ∙ put-same us ws f (and-split (not (hasIn us u)) (distinct us) d .1) (suc-inj e))
   where
     apart : (x : ℕ) → T (hasIn us x) → put (u ∷ us) (w ∷ ws) f x ≡ put us ws f x
     apart x h =
         cond-not (eqb x u) w (put us ws f x)
-        (not-T (eqb x u) (λ k. T-not (hasIn us u) (and-left (not (hasIn us u)) (distinct us) d) (subst (λ (y : ℕ). T (hasIn us y)) (eqb→eq x u k) h)))
+        (not-T (eqb x u) (λ k. T-not (hasIn us u) (and-split (not (hasIn us u)) (distinct us) d .0) (subst (λ (y : ℕ). T (hasIn us y)) (eqb→eq x u k) h)))
 
 -- where us hasIn it, what was there does not matter
 pub put-hit : (us ws : List ℕ) (f g : ℕ → ℕ) (x : ℕ) → T (hasIn us x) → length ws ≡ length us → put us ws f x ≡ put us ws g x
@@ -108,22 +73,6 @@ put-self (u ∷ us) f x = go (eqb x u) (eqb→eq x u) (put-self us f x)
     go true e ih = ap f (sym (e tt))
     go false e ih = ih
 
-pub upd-same : (s : ℕ) (ws : List ℕ) (f : ℕ → List ℕ) → updated s ws f s ≡ ws
-unfolding updated
-upd-same s ws f = go (eqb s s) (eqb-refl s)
-  where
-    go : (b : Bool) → T b → cond b ws (f s) ≡ ws
-    go true h = refl
-    go false h = absurd h
-
-pub upd-other : (s : ℕ) (ws : List ℕ) (f : ℕ → List ℕ) (x : ℕ) → T (not (eqb x s)) → updated s ws f x ≡ f x
-unfolding updated
-upd-other s ws f x h = go (eqb x s) h
-  where
-    go : (b : Bool) → T (not b) → cond b ws (f x) ≡ f x
-    go true h = absurd h
-    go false h = refl
-
 -- what the machine asks of a target: no register lists a unit twice, none hasIn a slot's number
 pub record TargetOk (t : RegInfo) : Type 0 where
   pub twice : (r : ℕ) → T (distinct (regUnits t r))
@@ -143,13 +92,13 @@ module _ (t : RegInfo) (f : Function) (tk : TargetOk t) where
   abbrev pub Apart : Place → Place → Type 0
   Apart p q = (u : ℕ) → T (covers p u) → T (covers q u) → ⊥
 
-  slot-apart : (s x : ℕ) → T (not (eqb (512 + x) (512 + s))) → T (not (eqb x s))
-  slot-apart s x h = not-T (eqb x s) (λ k. T-not (eqb (512 + x) (512 + s)) h (subst (λ (y : ℕ). T (eqb (512 + x) (512 + y))) (eqb→eq x s k) (eqb-refl (512 + x))))
+  slot-apart : (s x : ℕ) → T (not (eqb (512 + x) (512 + s))) → x ≡ s → ⊥
+  slot-apart s x h e = T-not (eqb (512 + x) (512 + s)) h (subst (λ (y : ℕ). T (eqb (512 + x) (512 + y))) e (eqb-refl (512 + x)))
 
   pub write-off : (p : Place) (ws : List ℕ) (m : Memory) → Off (covers p) (write t f p ws m) m
   unfolding write covers
   write-off (reg r) ws m = record { words = put-other (regUnits t r) ws (m .word); lists = λ s h. refl }
-  write-off (slot s) ws m = record { words = λ u h. refl; lists = λ x h. upd-other s ws (m .slots) x (slot-apart s x h) }
+  write-off (slot s) ws m = record { words = λ u h. refl; lists = λ x h. updated-other s ws (m .slots) x (slot-apart s x h) }
 
   pub read-off : (c : ℕ → Bool) (a b : Memory) → Off c a b → (q : Place) → ((u : ℕ) → T (covers q u) → T (c u) → ⊥) → read t f a q ≡ read t f b q
   unfolding read covers
@@ -159,4 +108,4 @@ module _ (t : RegInfo) (f : Function) (tk : TargetOk t) where
   pub read-write : (p : Place) (ws : List ℕ) (m : Memory) → T (fits t f p (length ws)) → read t f (write t f p ws m) p ≡ ws
   unfolding read write fits
   read-write (reg r) ws m h = put-same (regUnits t r) ws (m .word) (tk .twice r) (eqb→eq (length ws) (length (regUnits t r)) h)
-  read-write (slot s) ws m h = upd-same s ws (m .slots)
+  read-write (slot s) ws m h = updated-same s ws (m .slots)

@@ -1,7 +1,7 @@
 -- The ordering: kept moves in depth, diversions, and that the program stays sound.
 use mathlib.Core.Path.{_≡_, refl, sym, _∙_, ap, subst}
 use mathlib.Core.Bool.{Bool, true, false, not, _&&_, _||_, cond}
-use mathlib.Core.List.{List, [], _∷_, _++_, reverse}
+use mathlib.Core.List.{List, [], _∷_, reverse}
 use mathlib.Core.Option.{Option, some, none}
 use mathlib.Core.Logic.{_⊎_, inl, inr, ⊎-elim}
 use Prim.Native.Nat.{ℕ, zero, suc, pred, _+_, _≤_, _<_}
@@ -11,33 +11,26 @@ use lib.Dec.{T, T-not, not-T, eqb, eqb→eq, eqb-refl}
 use lib.ListN.{length}
 use Rattle.entity.specs.Logic.{has, any}
 use Rattle.entity.specs.Place.{Place, reg, slot}
-use Rattle.reginfo.specs.RegInfo.{RegInfo, regUnits, allocationOrder, includesSpillslots, spillslotSize, topLevelClass, isMemoryReg, isMemory}
+use Rattle.reginfo.specs.RegInfo.{RegInfo, regUnits, includesSpillslots, spillslotSize, topLevelClass}
 use Rattle.function.specs.Function.{Function, numValues, valueBank}
 use Rattle.rules.specs.Edit.{updated, andThen, each}
 use Rattle.rules.specs.Scratch.{ScratchAllocator, Found, unitsOfReg, makeUnavailable, release, releasePlace, withCache, getScratchReg, doMove}
 use Rattle.rules.specs.Order.{KeptMove, State, New, Pending, Done, isNew, isPending, Diverted, ParallelMoves, withAllocator, withState, withDiverted, carry, source, dest, value, writers, cycleMoveSources, emit, noted, divert, carried, lead, lost, undivert, undivertAll, close, visit}
 use Rattle.machine.specs.Machine.{fits}
-use Rattle.machine.proofs.Memory.{hasIn, distinct, TargetOk, covers, Apart}
+use Rattle.rules.proofs.Steps.{All, all-then, all-map, same?, updated-at, updated-same, updated-other}
+use Rattle.machine.proofs.Tests.{hasIn, has-cons, has-head, has-tail, has-other, any-not, and-split, both, no-l, no-r, if, cond-yes, cond-not}
+use Rattle.machine.proofs.Memory.{distinct, TargetOk, covers, Apart}
 use Rattle.machine.proofs.Run.{Wait, idle, saved, Job}
 use Rattle.machine.proofs.Sound.{Needs, Within, Live}
-use Rattle.machine.proofs.Cache.{All, all-andThen, if, any-not, has-cons, or-l, or-r, or-split, and-split, both}
-use Rattle.machine.proofs.Search.{wait, WaitsIn, Empty, WaitOk, Room, Kept, ClassOk, Free, Lone, FoundOk, search-ok, kept-free, give-room}
+use Rattle.machine.proofs.Search.{wait, WaitsIn, Empty, WaitOk, Kept, ClassOk, Free, Lone, FoundOk, search-ok, kept-free, give-room}
 use Rattle.machine.proofs.Emit.{MemoryRule, Asked, StackOk, doMove-ok}
-use Rattle.machine.proofs.Tally.{same?, updated-same, updated-other, updated-at, tally, tally-pos, tally-cong, tally-up}
-use Rattle.machine.proofs.Carry.{TabOk, Grown, has-head, has-tail, has-other, mark-ok}
+use Rattle.machine.proofs.Tally.{tally, tally-pos, tally-cong, tally-up}
+use Rattle.machine.proofs.Carry.{TabOk, Grown, mark-ok}
 
 abbrev pub isDone : State → Bool
 isDone New = false
 isDone Pending = false
 isDone Done = true
-
-no-l : (a b : Bool) → T (not a) → T (not (a && b))
-no-l true b h = absurd h
-no-l false b h = tt
-
-no-r : (a b : Bool) → (T b → ⊥) → T (not (a && b))
-no-r true b h = not-T b h
-no-r false b h = tt
 
 module _ (t : RegInfo) (F : Function) (tk : TargetOk t) (j : Job) (em : (s : ℕ) → F .slots ≤ s → j .may (512 + s)) (ms : List KeptMove) where
   abbrev numOf : ℕ
@@ -153,6 +146,24 @@ module _ (t : RegInfo) (F : Function) (tk : TargetOk t) (j : Job) (em : (s : ℕ
       pub inside : Within t F tk j (covers t F tk (w .scratch v))
       pub above : (s : ℕ) → w .scratch v ≡ slot s → F .slots ≤ s
 
+    -- it stays one where its places stay, its writers still carry it or are done, and no move is done less
+    live-map : (w w′ : ParallelMoves) (st st′ : ℕ → State) (v : ℕ) → w′ .alloc v ≡ w .alloc v → w′ .scratch v ≡ w .scratch v
+        → ((i : ℕ) → T (hasIn (w .diverted .values i) v) ⊎ T (isDone (st i)) → T (hasIn (w′ .diverted .values i) v) ⊎ T (isDone (st′ i)))
+        → ((k : ℕ) → T (not (isDone (w′ .state k))) → T (not (isDone (w .state k)))) → LiveDiv w st v → LiveDiv w′ st′ v
+    live-map w w′ st st′ v a s h n d =
+        record {
+          origin = d .origin;
+          origin-in = d .origin-in;
+          origin-at = a ∙ d .origin-at;
+          origin-val = d .origin-val;
+          held = λ i c. h i (d .held i c);
+          apartD = λ k kl y. rw s (d .apartD k kl (n k y));
+          apartR = λ m ml. rw s (d .apartR m ml);
+          len = rw s (d .len);
+          inside = rw s (d .inside);
+          above = λ x e. d .above x (sym s ∙ e);
+        }
+
     -- where a closed move's value is read: at the source of a kept move of its value that nothing still writes
     pub record Home (w : ParallelMoves) (pl : ℕ → Place) (k : ℕ) : Type 0 where
       pub of : ℕ
@@ -224,20 +235,7 @@ module _ (t : RegInfo) (F : Function) (tk : TargetOk t) (j : Job) (em : (s : ℕ
                 let d = not-done (w .state) i x n in
                 (updated-other i from pl x (d .0) ∙ inv .here x xl (d .1) .0, subst (λ (y : Bool). T (not y)) (sym (updated-other i b ride x (d .0))) (inv .here x xl (d .1) .1));
             gone = λ x xl h. ⊎-elim (λ e. subst G (sym e) own) (other x xl) (was-done (w .state) i x h);
-            lives = λ v l.
-                let d = inv .lives v l in
-                record {
-                  origin = d .origin;
-                  origin-in = d .origin-in;
-                  origin-at = d .origin-at;
-                  origin-val = d .origin-val;
-                  held = λ x h. ⊎-elim (λ c. inl c) (λ c. inr (dn x c)) (d .held x h);
-                  apartD = λ x xl n. d .apartD x xl (not-done (w .state) i x n .1);
-                  apartR = d .apartR;
-                  len = d .len;
-                  inside = d .inside;
-                  above = d .above;
-                };
+            lives = λ v l. live-map w (after k) st (updated i Done (w .state)) v refl refl (λ x. ⊎-elim (λ c. inl c) (λ c. inr (dn x c))) (λ x n. not-done (w .state) i x n .1) (inv .lives v l);
             riders = λ v r.
                 ⊎-elim
                 (λ q.
@@ -284,20 +282,7 @@ module _ (t : RegInfo) (F : Function) (tk : TargetOk t) (j : Job) (em : (s : ℕ
           kept = inv .kept;
           here = inv .here;
           gone = λ k kl h. ⊎-elim (λ y. inl y) (λ y. inr (y .0, record { of = y .1 .of; of-in = y .1 .of-in; at = y .1 .at; val = y .1 .val; over = y .1 .over })) (inv .gone k kl h);
-          lives = λ v l.
-              let d = inv .lives v l in
-              record {
-                origin = d .origin;
-                origin-in = d .origin-in;
-                origin-at = d .origin-at;
-                origin-val = d .origin-val;
-                held = λ x h. ⊎-elim (more x v) (λ c. inr (dn x c)) (d .held x h);
-                apartD = d .apartD;
-                apartR = d .apartR;
-                len = d .len;
-                inside = d .inside;
-                above = d .above;
-              };
+          lives = λ v l. live-map w (withDiverted b w) st st′ v refl refl (λ x. ⊎-elim (more x v) (λ c. inr (dn x c))) (λ k n. n) (inv .lives v l);
           riders = inv .riders;
           apartS = inv .apartS;
         }
@@ -396,20 +381,7 @@ module _ (t : RegInfo) (F : Function) (tk : TargetOk t) (j : Job) (em : (s : ℕ
           new = updated-same v (x .place) (w .scratch)
 
           old : (y : ℕ) → L y → LiveDiv (noted t F ms i x w) st y
-          old y l =
-              let d = inv .lives y l in
-              record {
-                origin = d .origin;
-                origin-in = d .origin-in;
-                origin-at = updated-other v (srcOf i) (w .alloc) y (off y l) ∙ d .origin-at;
-                origin-val = d .origin-val;
-                held = d .held;
-                apartD = λ k kl n. rw (scr y l) (d .apartD k kl n);
-                apartR = λ m ml. rw (scr y l) (d .apartR m ml);
-                len = rw (scr y l) (d .len);
-                inside = rw (scr y l) (d .inside);
-                above = λ s e. d .above s (sym (scr y l) ∙ e);
-              }
+          old y l = live-map w (noted t F ms i x w) st st y (updated-other v (srcOf i) (w .alloc) y (off y l)) (scr y l) (λ k h. h) (λ k n. n) (inv .lives y l)
 
           fresh : LiveDiv (noted t F ms i x w) st v
           fresh =
@@ -456,8 +428,8 @@ module _ (t : RegInfo) (F : Function) (tk : TargetOk t) (j : Job) (em : (s : ℕ
     any-find f (k ∷ ks) h = go (f k) (λ x. x) h (λ y. any-find f ks y)
       where
         go : (b : Bool) → (T b → T (f k)) → T (b || any f ks) → (T (any f ks) → (x : ℕ) × T (hasIn ks x) × T (f x)) → (x : ℕ) × T (hasIn (k ∷ ks) x) × T (f x)
-        go true y h r = (k, has-head (numOf) ks k, y tt)
-        go false y h r = let z = r h in (z .0, has-tail (numOf) ks k (z .0) (z .1), z .2)
+        go true y h r = (k, has-head ks k, y tt)
+        go false y h r = let z = r h in (z .0, has-tail ks k (z .0) (z .1), z .2)
 
     abbrev pub Lv : ParallelMoves → ℕ → Type 0
     Lv w v = 0 < w .diverted .refCount v
@@ -506,7 +478,7 @@ module _ (t : RegInfo) (F : Function) (tk : TargetOk t) (j : Job) (em : (s : ℕ
       -- no writer is open: from the source
       plain-lead : T (not (any (λ k. isPending (st′ k)) (wrsOf i))) → All Led (emit t F ms i (srcOf i) (withState i Done w))
       plain-lead no-open =
-          all-andThen (λ k. Kept t F tk j em (Needed (updated i (srcOf i) (rs .pl))) k × ((s : ℕ) → Empty t F tk k s → Empty t F tk (w .allocator) s)) Led
+          all-then (λ k. Kept t F tk j em (Needed (updated i (srcOf i) (rs .pl))) k × ((s : ℕ) → Empty t F tk k s → Empty t F tk (w .allocator) s)) Led
           (doMove t F (valueBank F v₀) (dstOf i) (srcOf i) v₀ (w .allocator)) _
           (emit-shift (rs .pl) (updated i (srcOf i) (rs .pl)) (dstOf i) (srcOf i) v₀ (w .allocator) (shift (Lv w) (Lv w) w (w .state) (rs .pl) (rs .ride) (rs .inv) i il nd₀ (srcOf i) false)
           (ok .len i il) (ok .inside i il) (λ s e. ok .src-real i s il (empty-above (Needed (rs .pl)) (w .allocator) (rs .inv .kept) s e)) (rs .inv .kept))
@@ -566,7 +538,7 @@ module _ (t : RegInfo) (F : Function) (tk : TargetOk t) (j : Job) (em : (s : ℕ
       old-lead : Lv w v₀ → All Led (emit t F ms i (w .scratch v₀) (carried t F ms i (withState i Done w)))
       unfolding w₁ tab′
       old-lead l =
-          all-andThen (λ k. Kept t F tk j em (Needed (updated i (w .scratch v₀) (rs .pl))) k × ((s : ℕ) → Empty t F tk k s → Empty t F tk (w .allocator) s)) Led
+          all-then (λ k. Kept t F tk j em (Needed (updated i (w .scratch v₀) (rs .pl))) k × ((s : ℕ) → Empty t F tk k s → Empty t F tk (w .allocator) s)) Led
           (doMove t F (valueBank F v₀) (dstOf i) (w .scratch v₀) v₀ (w .allocator)) _
           (emit-shift (rs .pl) (updated i (w .scratch v₀) (rs .pl)) (dstOf i) (w .scratch v₀) v₀ (w .allocator) (shift (Lv w) (Lv w) w₁ st′ (rs .pl) (rs .ride) inv₁ i il nd₀ (w .scratch v₀) true)
           (ok .len i il) (ok .inside i il) (λ s e. rs .inv .kept .room .empty (w .scratch v₀) v₀ (rider-need (Lv w) (Lv w) w (w .state) (rs .pl) (rs .ride) (rs .inv) v₀ l) s e) (rs .inv .kept))
@@ -598,14 +570,14 @@ module _ (t : RegInfo) (F : Function) (tk : TargetOk t) (j : Job) (em : (s : ℕ
       new-lead : T (any (λ k. isPending (st′ k)) (wrsOf i)) → (Lv w v₀ → ⊥) → All Led (divert t F ms i (carried t F ms i (withState i Done w)))
       unfolding divert w₁ tab′
       new-lead y nl =
-          all-andThen (FoundOk t F tk j em (Needed (rs .pl)) (valueBank F v₀) (topOf v₀) (length (j .content v₀)) (barOf) (ok .top-ok v₀ (ok .valued i il)) (w .allocator)) Led
+          all-then (FoundOk t F tk j em (Needed (rs .pl)) (valueBank F v₀) (topOf v₀) (length (j .content v₀)) (barOf) (ok .top-ok v₀ (ok .valued i il)) (w .allocator)) Led
           (getScratchReg t F (valueBank F v₀) (topOf v₀) (barOf) (w .allocator)) _
           (search-ok t F tk j em (Needed (rs .pl)) (valueBank F v₀) (topOf v₀) (length (j .content v₀)) (barOf) (ok .top-ok v₀ (ok .valued i il)) (w .allocator) (rs .inv .kept)) found
         where
           found : (x : Found) → FoundOk t F tk j em (Needed (rs .pl)) (valueBank F v₀) (topOf v₀) (length (j .content v₀)) (barOf) (ok .top-ok v₀ (ok .valued i il)) (w .allocator) x
               → All Led (emit t F ms i (x .place) (noted t F ms i x (carried t F ms i (withState i Done w))))
           found x f =
-              all-andThen (λ k. Kept t F tk j em (Needed (updated i (x .place) (rs .pl))) k × ((s : ℕ) → Empty t F tk k s → Empty t F tk (makeUnavailable t F (x .place) (x .scratch)) s)) Led
+              all-then (λ k. Kept t F tk j em (Needed (updated i (x .place) (rs .pl))) k × ((s : ℕ) → Empty t F tk k s → Empty t F tk (makeUnavailable t F (x .place) (x .scratch)) s)) Led
               (doMove t F (valueBank F v₀) (dstOf i) (x .place) v₀ (makeUnavailable t F (x .place) (x .scratch))) _
               (emit-shift (rs .pl) (updated i (x .place) (rs .pl)) (dstOf i) (x .place) v₀ (makeUnavailable t F (x .place) (x .scratch)) (shift L² (Lv w) w₂ st′ (rs .pl) (rs .ride) inv₂ i il nd₀ (x .place) true)
               (ok .len i il) (ok .inside i il) (sc-real (Lv w) w₁ st′ (rs .pl) (rs .ride) inv₁ i il x f) (inv₂ .kept))
@@ -671,7 +643,7 @@ module _ (t : RegInfo) (F : Function) (tk : TargetOk t) (j : Job) (em : (s : ℕ
         sep = subst (λ (z : List ℕ). T (distinct z)) e (o .once i)
 
         had : T (hasIn (b .values i) v)
-        had = subst (λ (z : List ℕ). T (hasIn z v)) (sym e) (has-head (numOf) rest v)
+        had = subst (λ (z : List ℕ). T (hasIn z v)) (sym e) (has-head rest v)
 
         hasnt : T (not (hasIn (c′ i) v))
         hasnt = subst (λ (z : List ℕ). T (not (hasIn z v))) (sym (updated-same i rest (b .values))) (and-split (not (hasIn rest v)) (distinct rest) sep .0)
@@ -688,7 +660,7 @@ module _ (t : RegInfo) (F : Function) (tk : TargetOk t) (j : Job) (em : (s : ℕ
             (λ q. subst (λ (z : ℕ). pred (b .refCount v) ≡ tally (λ k. hasIn (c′ k) z) (numOf)) (sym q) (omega (arith, o .counts v, up)))
             (λ d. o .counts x ∙ tally-cong (λ k. hasIn (b .values k) x) (λ k. hasIn (c′ k) x) (numOf)
             (λ k _. updated-at (λ y. hasIn (b .values k) x ≡ hasIn y x) i rest (b .values) k
-            (λ q. subst (λ (z : ℕ). hasIn (b .values z) x ≡ hasIn rest x) (sym q) (ap (λ z. hasIn z x) e ∙ has-other (numOf) rest v x d)) (λ _. refl)))
+            (λ q. subst (λ (z : ℕ). hasIn (b .values z) x ≡ hasIn rest x) (sym q) (ap (λ z. hasIn z x) e ∙ has-other rest v x d)) (λ _. refl)))
 
         once : (k : ℕ) → T (distinct (c′ k))
         once k = updated-at (λ y. T (distinct y)) i rest (b .values) k (λ _. and-split (not (hasIn rest v)) (distinct rest) sep .1) (λ _. o .once k)
@@ -799,21 +771,13 @@ module _ (t : RegInfo) (F : Function) (tk : TargetOk t) (j : Job) (em : (s : ℕ
                   off = subst (λ (q : Place). Apart t F tk q (w .scratch v)) (sym (h .0)) (apart-sym (w .scratch v) (dstOf k) (d₀ .apartD k kl (n tt)));
                 })
 
-        cond-t : (b : Bool) (x y : Place) → T b → cond b x y ≡ x
-        cond-t true x y h = refl
-        cond-t false x y h = absurd h
-
-        cond-f : (b : Bool) (x y : Place) → T (not b) → cond b x y ≡ y
-        cond-f true x y h = absurd h
-        cond-f false x y h = refl
-
         moved : (k : ℕ) → Rides k → pl₂ k ≡ w .alloc v
         unfolding pl₂
-        moved k r = cond-t (rs .ride k && eqb (valOf k) v) (w .alloc v) (rs .pl k) (r .it)
+        moved k r = cond-yes (rs .ride k && eqb (valOf k) v) (w .alloc v) (rs .pl k) (r .it)
 
         stays : (k : ℕ) → Other k → pl₂ k ≡ rs .pl k
         unfolding pl₂
-        stays k r = cond-f (rs .ride k && eqb (valOf k) v) (w .alloc v) (rs .pl k) (r .it)
+        stays k r = cond-not (rs .ride k && eqb (valOf k) v) (w .alloc v) (rs .pl k) (r .it)
 
         not-other : (k : ℕ) → T (rs .ride k) → valOf k ≡ v → Other k → ⊥
         not-other k a e o = T-not (rs .ride k && eqb (valOf k) v) (o .it) (both (rs .ride k) (eqb (valOf k) v) a (subst (λ (z : ℕ). T (eqb (valOf k) z)) e (eqb-refl (valOf k))))
@@ -874,22 +838,9 @@ module _ (t : RegInfo) (F : Function) (tk : TargetOk t) (j : Job) (em : (s : ℕ
               kept = h;
               here = λ x xl n.
                   let y = rs .inv .here x xl n in
-                  (cond-f (rs .ride x && eqb (valOf x) v) (w .alloc v) (rs .pl x) (no-l (rs .ride x) (eqb (valOf x) v) (y .1)) ∙ y .0, no-l (rs .ride x) (not (eqb (valOf x) v)) (y .1));
+                  (cond-not (rs .ride x && eqb (valOf x) v) (w .alloc v) (rs .pl x) (no-l (rs .ride x) (eqb (valOf x) v) (y .1)) ∙ y .0, no-l (rs .ride x) (not (eqb (valOf x) v)) (y .1));
               gone = λ x xl hd. ⊎-elim (now-home x) (other x xl hd) (sorted x xl);
-              lives = λ y l.
-                  let d = rs .inv .lives y (was-lv y l) in
-                  record {
-                    origin = d .origin;
-                    origin-in = d .origin-in;
-                    origin-at = d .origin-at;
-                    origin-val = d .origin-val;
-                    held = λ x c. ⊎-elim (more x y) (λ q. inr q) (d .held x c);
-                    apartD = d .apartD;
-                    apartR = d .apartR;
-                    len = d .len;
-                    inside = d .inside;
-                    above = d .above;
-                  };
+              lives = λ y l. live-map w (withDiverted b₁ (withAllocator k w)) (w .state) (w .state) y refl refl (λ x. ⊎-elim (more x y) (λ q. inr q)) (λ k n. n) (rs .inv .lives y (was-lv y l));
               riders = λ y r.
                   let q = rs .inv .riders y (was-lv y r) in
                   (q .0, q .1, q .2, both (rs .ride (q .0)) (not (eqb (valOf (q .0)) v)) (q .3) (not-T (eqb (valOf (q .0)) v) (λ e. off-v y r (sym (q .4) ∙ eqb→eq (valOf (q .0)) v e))), q .4);
@@ -924,7 +875,7 @@ module _ (t : RegInfo) (F : Function) (tk : TargetOk t) (j : Job) (em : (s : ℕ
 
         finish : All Let (andThen (doMove t F (valueBank F v) (w .scratch v) (w .alloc v) v (w .allocator)) (λ k. some (withDiverted b₁ (withAllocator (releasePlace t F (sizeOf v) (w .scratch v) k) w))))
         finish =
-            all-andThen (λ k. Kept t F tk j em (Needed pl₂) k × ((s : ℕ) → Empty t F tk k s → Empty t F tk (w .allocator) s)) Let (doMove t F (valueBank F v) (w .scratch v) (w .alloc v) v (w .allocator)) _
+            all-then (λ k. Kept t F tk j em (Needed pl₂) k × ((s : ℕ) → Empty t F tk k s → Empty t F tk (w .allocator) s)) Let (doMove t F (valueBank F v) (w .scratch v) (w .alloc v) v (w .allocator)) _
             (emit-shift (rs .pl) pl₂ (w .scratch v) (w .alloc v) v (w .allocator) shift₂ (d₀ .len) (d₀ .inside)
             (λ s e. rw (d₀ .origin-at) (ok .src-real (d₀ .origin) s (d₀ .origin-in) (empty-above (Needed (rs .pl)) (w .allocator) (rs .inv .kept) s e))) (rs .inv .kept))
             (λ k kp. (
@@ -936,10 +887,6 @@ module _ (t : RegInfo) (F : Function) (tk : TargetOk t) (j : Job) (em : (s : ℕ
       pub let-go : All Let (undivert t F ms i v rest w)
       unfolding undivert b₁
       let-go = if (All Let) (eqb (b₁ .refCount v) 0) _ _ (λ z. finish (eqb→eq (b₁ .refCount v) 0 z)) go-on
-
-    pub all-map : {A : Type 0} (Q Z : A → Type 0) (o : Option A) → ((a : A) → Q a → Z a) → All Q o → All Z o
-    all-map Q Z none f h = tt
-    all-map Q Z (some a) f h = f a h
 
     release-ok : (i : ℕ) → i < numOf → (vs : List ℕ) (w : ParallelMoves) → w .diverted .values i ≡ vs → T (isDone (w .state i)) → Rest (λ k. k ≡ i) w
         → All (λ w′. Rest (λ k. ⊥) w′ × ((k : ℕ) → w′ .state k ≡ w .state k)) (undivertAll t F ms i vs w)
@@ -955,7 +902,7 @@ module _ (t : RegInfo) (F : Function) (tk : TargetOk t) (j : Job) (em : (s : ℕ
       λ k. refl,
     )
     release-ok i il (v ∷ vs) w e dn rs =
-        all-andThen (λ w′. Rest (λ k. k ≡ i) w′ × ((k : ℕ) → w′ .state k ≡ w .state k) × (w′ .diverted .values i ≡ vs)) (λ w′. Rest (λ k. ⊥) w′ × ((k : ℕ) → w′ .state k ≡ w .state k)) (undivert t F ms i v vs w) _
+        all-then (λ w′. Rest (λ k. k ≡ i) w′ × ((k : ℕ) → w′ .state k ≡ w .state k) × (w′ .diverted .values i ≡ vs)) (λ w′. Rest (λ k. ⊥) w′ × ((k : ℕ) → w′ .state k ≡ w .state k)) (undivert t F ms i v vs w) _
         (let-go i il v vs w dn rs e)
         (λ w₁ r.
         all-map (λ w′. Rest (λ k. ⊥) w′ × ((k : ℕ) → w′ .state k ≡ w₁ .state k)) (λ w′. Rest (λ k. ⊥) w′ × ((k : ℕ) → w′ .state k ≡ w .state k)) (undivertAll t F ms i vs w₁)
@@ -966,7 +913,7 @@ module _ (t : RegInfo) (F : Function) (tk : TargetOk t) (j : Job) (em : (s : ℕ
         → All (λ w′. Rest (λ k. ⊥) w′ × ((k : ℕ) → w′ .state k ≡ updated i Done (w .state) k)) (close t F ms i w)
     unfolding close
     close-ok i il w rs op vis =
-        all-andThen (λ w′. Rest (λ k. k ≡ i) w′ × ((k : ℕ) → w′ .state k ≡ updated i Done (w .state) k)) (λ w′. Rest (λ k. ⊥) w′ × ((k : ℕ) → w′ .state k ≡ updated i Done (w .state) k))
+        all-then (λ w′. Rest (λ k. k ≡ i) w′ × ((k : ℕ) → w′ .state k ≡ updated i Done (w .state) k)) (λ w′. Rest (λ k. ⊥) w′ × ((k : ℕ) → w′ .state k ≡ updated i Done (w .state) k))
         (lead t F ms i (withState i Done w)) _ (lead-ok w rs i il op vis)
         (λ w₁ r.
         all-map (λ w′. Rest (λ k. ⊥) w′ × ((k : ℕ) → w′ .state k ≡ w₁ .state k)) (λ w′. Rest (λ k. ⊥) w′ × ((k : ℕ) → w′ .state k ≡ updated i Done (w .state) k)) (undivertAll t F ms i (w₁ .diverted .values i) w₁)
@@ -1002,20 +949,7 @@ module _ (t : RegInfo) (F : Function) (tk : TargetOk t) (j : Job) (em : (s : ℕ
                 here = λ k kl n. inv .here k kl (down k n);
                 gone = λ k kl h.
                     ⊎-elim (λ y. inl y) (λ y. inr (y .0, record { of = y .1 .of; of-in = y .1 .of-in; at = y .1 .at; val = y .1 .val; over = λ x z. fwd x (y .1 .over x z) })) (inv .gone k kl (bwd k h));
-                lives = λ v l.
-                    let d = inv .lives v l in
-                    record {
-                      origin = d .origin;
-                      origin-in = d .origin-in;
-                      origin-at = d .origin-at;
-                      origin-val = d .origin-val;
-                      held = λ x h. ⊎-elim (λ c. inl c) (λ c. inr (fwd x c)) (d .held x h);
-                      apartD = λ k kl n. d .apartD k kl (down k n);
-                      apartR = d .apartR;
-                      len = d .len;
-                      inside = d .inside;
-                      above = d .above;
-                    };
+                lives = λ v l. live-map w (withState i Pending w) (w .state) (updated i Pending (w .state)) v refl refl (λ x. ⊎-elim (λ c. inl c) (λ c. inr (fwd x c))) (λ k n. down k n) (inv .lives v l);
                 riders = λ v r. let y = inv .riders v r in (y .0, y .1, fwd (y .0) (y .2), y .3, y .4);
                 apartS = inv .apartS;
               };
@@ -1046,7 +980,7 @@ module _ (t : RegInfo) (F : Function) (tk : TargetOk t) (j : Job) (em : (s : ℕ
     unfolding each has
     each-ok f fo [] l w rs = (rs, λ k. inl refl, λ k h. absurd h)
     each-ok f fo (k ∷ ks) l w rs =
-        all-andThen (Visited k w) (AllSeen (k ∷ ks) w) (f k w) _ (fo k w (l k (has-head (numOf) ks k)) rs)
+        all-then (Visited k w) (AllSeen (k ∷ ks) w) (f k w) _ (fo k w (l k (has-head ks k)) rs)
         (λ w₁ r.
         all-map (AllSeen ks w₁) (AllSeen (k ∷ ks) w) (each f ks w₁)
         (λ w₂ q. (
@@ -1054,7 +988,7 @@ module _ (t : RegInfo) (F : Function) (tk : TargetOk t) (j : Job) (em : (s : ℕ
           went-trans (w .state) (w₁ .state) (w₂ .state) (r .1) (q .1),
           λ x h. ⊎-elim (λ e. subst (λ (z : ℕ). T (not (isNew (w₂ .state z)))) (sym e) (not-new (w₁ .state) (w₂ .state) (q .1) k (r .2))) (q .2 x) (has-cons ks k x h),
         ))
-        (each-ok f fo ks (λ x h. l x (has-tail (numOf) ks k x h)) w₁ (r .0)))
+        (each-ok f fo ks (λ x h. l x (has-tail ks k x h)) w₁ (r .0)))
 
     visit-new : (f i : ℕ) (w : ParallelMoves) → i < numOf → Rest (λ k. ⊥) w
         → ((x : ParallelMoves) → Rest (λ k. ⊥) x → All (AllSeen (visOf i) x) (each (visit t F ms f) (visOf i) x))
@@ -1062,7 +996,7 @@ module _ (t : RegInfo) (F : Function) (tk : TargetOk t) (j : Job) (em : (s : ℕ
     visit-new f i w il rs ih =
         if (All (Visited i w)) (isNew (w .state i)) _ _
         (λ nw.
-        all-andThen (AllSeen (visOf i) (withState i Pending w)) (Visited i w) (each (visit t F ms f) (visOf i) (withState i Pending w)) _ (ih (withState i Pending w) (open-ok i w nw rs))
+        all-then (AllSeen (visOf i) (withState i Pending w)) (Visited i w) (each (visit t F ms f) (visOf i) (withState i Pending w)) _ (ih (withState i Pending w) (open-ok i w nw rs))
         (λ w₁ r.
         let oi : w₁ .state i ≡ Pending = ⊎-elim (λ e. e ∙ updated-same i Pending (w .state)) (λ e. absurd (subst (λ (z : State). T (isNew z)) (updated-same i Pending (w .state)) (e .0))) (r .1 i) in
         all-map (λ w′. Rest (λ k. ⊥) w′ × ((k : ℕ) → w′ .state k ≡ updated i Done (w₁ .state) k)) (Visited i w) (close t F ms i w₁)

@@ -1,28 +1,29 @@
 -- The two passes: from any start in which each kept source holds its content, every edit can be done and every stop is right.
-use mathlib.Core.Path.{_≡_, refl, sym, _∙_, ap, subst}
-use mathlib.Core.Bool.{Bool, true, false, not, _&&_, _||_, cond}
+use mathlib.Core.Path.{_≡_, refl, sym, _∙_, subst}
+use mathlib.Core.Bool.{Bool, true, false, not, _||_}
 use mathlib.Core.List.{List, [], _∷_}
-use mathlib.Core.Option.{Option, some, none}
+use mathlib.Core.Option.{Option}
 use mathlib.Core.Logic.{_⊎_, inl, inr, ⊎-elim}
 use Prim.Native.Nat.{ℕ, zero, suc, _+_, _≤_, _<_}
 use native.Mathlib.Omega.{arith}
-use lib.Dec.{T, T-not, not-T, eqb, eqb→eq, eqb-refl}
+use lib.Dec.{T, T-not, not-T, eqb, eqb-refl}
 use lib.ListN.{length}
 use Rattle.entity.specs.Logic.{has, indices}
-use Rattle.entity.specs.Place.{Place, reg, slot}
 use Rattle.reginfo.specs.RegInfo.{RegInfo, isMemory}
 use Rattle.function.specs.Function.{Function}
-use Rattle.rules.specs.Edit.{andThen, each}
+use Rattle.rules.specs.Edit.{each}
 use Rattle.rules.specs.Scratch.{ScratchAllocator, unevictAll}
-use Rattle.rules.specs.Order.{KeptMove, State, New, Pending, Done, isNew, ParallelMoves, source, dest, value, visit, visitUnlessMemory, start, moves}
+use Rattle.rules.specs.Order.{KeptMove, State, New, Done, isNew, ParallelMoves, source, dest, value, visit, visitUnlessMemory, start, moves}
 use Rattle.machine.specs.Machine.{Memory, read, counted}
-use Rattle.machine.proofs.Memory.{hasIn, distinct, TargetOk}
+use Rattle.rules.proofs.Steps.{All, all-then, all-map}
+use Rattle.machine.proofs.Tests.{hasIn, has-cons, or-l, or-r, if}
+use Rattle.machine.proofs.Memory.{distinct, TargetOk}
 use Rattle.machine.proofs.Run.{idle, Job, state, Ready, Along}
 use Rattle.machine.proofs.Sound.{Needs, Ok, Sound}
-use Rattle.machine.proofs.Cache.{All, all-andThen, if, has-cons, or-l, or-r, CacheOk}
-use Rattle.machine.proofs.Search.{wait, waitOf, Kept, Back, bring-ok, brought}
+use Rattle.machine.proofs.Cache.{CacheOk}
+use Rattle.machine.proofs.Search.{waitOf, Kept, Back, bring-ok, brought}
 use Rattle.machine.proofs.Tally.{tally, tally-zero}
-use Rattle.machine.proofs.Order.{isDone, PatchOk, Needed, live, Rest, Home, Went, went-trans, Visited, AllSeen, each-ok, visit-ok, all-map}
+use Rattle.machine.proofs.Order.{isDone, PatchOk, Needed, live, Rest, Home, Went, went-trans, Visited, AllSeen, each-ok, visit-ok}
 
 -- the indices from i on, n of them
 pub indices-lt : (n i k : ℕ) → T (hasIn (indices i n) k) → k < i + n
@@ -83,16 +84,16 @@ module _ (t : RegInfo) (F : Function) (tk : TargetOk t) (j : Job) (em : (s : ℕ
     unfolding each has
     each-some g go [] l w r = (r, λ k. inl refl)
     each-some g go (k ∷ ks) l w r =
-        all-andThen (Some w) (Some w) (g k w) _ (go k w (l k (or-l (eqb k k) (hasIn ks k) (eqb-refl k))) r)
+        all-then (Some w) (Some w) (g k w) _ (go k w (l k (or-l (eqb k k) (hasIn ks k) (eqb-refl k))) r)
         (λ w₁ s.
-        all-map t F tk j em ms ok (Some w₁) (Some w) (each g ks w₁) (λ w₂ q. (q .0, went-trans t F tk j em ms ok (w .state) (w₁ .state) (w₂ .state) (s .1) (q .1)))
+        all-map (Some w₁) (Some w) (each g ks w₁) (λ w₂ q. (q .0, went-trans t F tk j em ms ok (w .state) (w₁ .state) (w₂ .state) (s .1) (q .1)))
         (each-some g go ks (λ x h. l x (or-r (eqb x k) (hasIn ks x) h)) w₁ (s .0)))
 
     first-ok : (i : ℕ) (w : ParallelMoves) → i < length ms → R w → All (Some w) (visitUnlessMemory t F ms i w)
     unfolding visitUnlessMemory
     first-ok i w il r =
         if (All (Some w)) (isMemory t (source t F ms i) || isMemory t (dest t F ms i)) _ _ (λ _. (r, λ k. inl refl))
-        (λ _. all-map t F tk j em ms ok (Visited t F tk j em ms ok i w) (Some w) (visit t F ms (length ms) i w) (λ w′ q. (q .0, q .1)) (visit-ok t F tk j em ms ok (length ms) i w il r))
+        (λ _. all-map (Visited t F tk j em ms ok i w) (Some w) (visit t F ms (length ms) i w) (λ w′ q. (q .0, q .1)) (visit-ok t F tk j em ms ok (length ms) i w il r))
 
     all-below : (k : ℕ) → T (hasIn (indices 0 (length ms)) k) → k < length ms
     all-below k h = let q : k < 0 + length ms = indices-lt (length ms) 0 k h in omega arith
@@ -144,11 +145,11 @@ module _ (t : RegInfo) (F : Function) (tk : TargetOk t) (j : Job) (em : (s : ℕ
     pub moves-right : All Right (moves t F ms k₀)
     unfolding moves start
     moves-right =
-        all-andThen (λ w. R w × ((k : ℕ) → k < length ms → T (isDone (w .state k)))) Right _ _
-        (all-andThen (Some (start t F ms k₀)) (λ w. R w × ((k : ℕ) → k < length ms → T (isDone (w .state k)))) (each (visitUnlessMemory t F ms) (indices 0 (length ms)) (start t F ms k₀)) _
+        all-then (λ w. R w × ((k : ℕ) → k < length ms → T (isDone (w .state k)))) Right _ _
+        (all-then (Some (start t F ms k₀)) (λ w. R w × ((k : ℕ) → k < length ms → T (isDone (w .state k)))) (each (visitUnlessMemory t F ms) (indices 0 (length ms)) (start t F ms k₀)) _
         (each-some (visitUnlessMemory t F ms) first-ok (indices 0 (length ms)) all-below (start t F ms k₀) start-ok)
         (λ w₁ s.
-        all-map t F tk j em ms ok (AllSeen t F tk j em ms ok (indices 0 (length ms)) w₁) (λ w. R w × ((k : ℕ) → k < length ms → T (isDone (w .state k)))) (each (visit t F ms (length ms)) (indices 0 (length ms)) w₁)
+        all-map (AllSeen t F tk j em ms ok (indices 0 (length ms)) w₁) (λ w. R w × ((k : ℕ) → k < length ms → T (isDone (w .state k)))) (each (visit t F ms (length ms)) (indices 0 (length ms)) w₁)
         (λ w₂ q. (q .0, λ k kl. done (w₂ .state k) (went-trans t F tk j em ms ok (λ k. New) (w₁ .state) (w₂ .state) (s .1) (q .1) k) (q .2 k (indices-has (length ms) 0 k (omega arith) (omega arith)))))
         (each-ok t F tk j em ms ok (visit t F ms (length ms)) (λ i w il r. visit-ok t F tk j em ms ok (length ms) i w il r) (indices 0 (length ms)) all-below w₁ (s .0))))
         (λ w r. right w (r .0) (r .1))

@@ -9,13 +9,13 @@ use lib.Dec.{eqb, ltb}
 use lib.ListN.{length, getD, length-append, length-map, List·getD-append, List·getD-map, List·getD-eq-default}
 use lib.Seq.{getD-append-add}
 use borrow.Author.Tests.{eq-eqb, eqb-true, ltb-true, ltb-false}
-use Rattle.entity.specs.Logic.{pick, or, no, any, has, meets, twice}
+use Rattle.entity.specs.Logic.{or, no, any, has, meets, twice}
 use Rattle.entity.specs.Place.{Place, reg, slot}
 use Rattle.entity.proofs.Laws.{or-false, and-false, never-true, any-at}
-use Rattle.reginfo.specs.RegInfo.{Reg, RegInfo, noReg, numRegs, numClasses, regUnits, bankForClass, classMembers, isMemoryReg, includesSpillslots, lastInOrder, placeUnits, overlap, isMemory, ofBank}
+use Rattle.reginfo.specs.RegInfo.{Reg, RegInfo, noReg, numRegs, numClasses, regUnits, bankForClass, classMembers, includesSpillslots, lastInOrder, placeUnits, overlap, ofBank}
 use Rattle.reginfo.specs.Refused as target
 use Rattle.reginfo.proofs.Laws.{overlap-comm}
-use Rattle.reginfo.proofs.Accepted.{unit-low, member-fits, units-once, member-bank, memory-apart}
+use Rattle.reginfo.proofs.Accepted.{unit-low, member-fits, units-once, member-bank}
 use Rattle.function.specs.Function.{Function, numValues, valueBank, rematClass}
 use Rattle.function.specs.Refused as function
 use Rattle.function.proofs.Laws.{class-there, class-of-bank}
@@ -23,6 +23,8 @@ use Rattle.rules.specs.Scratch.{unitsOfReg}
 use Rattle.rules.specs.Order.{KeptMove, Remat, noMove, source, dest, value, writerFrom, writersOf, writers, cycleMoveSources}
 use Rattle.rules.specs.Patch.{Patch, Sorted, destinations, namesPlace, freeDestination, lastOverlaps}
 use Rattle.rules.specs.Sorted.{RematOk, noRemat, SortedOk}
+use Rattle.rules.proofs.Steps.{every-has}
+use Rattle.rules.proofs.Writers.{writers-low}
 use Rattle.machine.specs.Machine.{fits}
 use Rattle.machine.specs.Claim.{Contents}
 
@@ -187,18 +189,6 @@ module _ (t : RegInfo) (f : Function) where
     first-writer u j (m ∷ l) zero h e b = rw e (ap some (omega arith))
     first-writer u j (m ∷ l) (suc k) h e b = rw (b 0 (omega arith)) (first-writer u (j + 1) l k (omega arith) e (λ i q. b (suc i) (omega arith)) ∙ ap some (omega arith))
 
-    abbrev Writer : ℕ → ℕ → List KeptMove → ℕ → Type 0
-    Writer u j l k = (i : ℕ) × (i < length l) × (k ≡ j + i) × (has u (placeUnits t (getD l i noMove .dest)) ≡ true)
-
-    found-writer : (u j : ℕ) (l : List KeptMove) (k : ℕ) → writerFrom t f ms j l u ≡ some k → Writer u j l k
-    unfolding writerFrom
-    found-writer u j [] k e = let z : _≡_ {A = ℕ} 0 1 = cc in absurd (omega arith)
-    found-writer u j (m ∷ l) k e = go (has u (placeUnits t (m .dest))) refl e (found-writer u (j + 1) l k)
-      where
-        go : (b : Bool) → has u (placeUnits t (m .dest)) ≡ b → pick b (some j) (writerFrom t f ms (j + 1) l u) ≡ some k → (writerFrom t f ms (j + 1) l u ≡ some k → Writer u (j + 1) l k) → Writer u j (m ∷ l) k
-        go true q e on = let z : j ≡ k = cc in (0, omega arith, omega arith, q)
-        go false q e on = let w = on e in (suc (w .0), omega (arith, w .1), omega (arith, w .2), w .3)
-
     writers-step : (x : ℕ) (us : List ℕ) → writersOf t f ms (x ∷ us) ≡ listed (writerFrom t f ms 0 ms x) (writersOf t f ms us)
     unfolding writersOf
     writers-step x us = refl
@@ -214,36 +204,9 @@ module _ (t : RegInfo) (f : Function) where
         later none h = h
         later (some m) h = or-true (eqb k m) _ h
 
-    abbrev Through : ℕ → List ℕ → Type 0
-    Through k us = (u : ℕ) × (has u us ≡ true) × (writerFrom t f ms 0 ms u ≡ some k)
-
-    writers-of : (k : ℕ) (us : List ℕ) → has k (writersOf t f ms us) ≡ true → Through k us
-    unfolding writersOf has
-    writers-of k [] h = absurd (false≢true h)
-    writers-of k (x ∷ us) h = go (writerFrom t f ms 0 ms x) refl h (writers-of k us)
-      where
-        on : Through k us → Through k (x ∷ us)
-        on w = (w .0, or-true (eqb (w .0) x) (has (w .0) us) (w .1), w .2)
-
-        go : (o : Option ℕ) → writerFrom t f ms 0 ms x ≡ o → has k (listed o (writersOf t f ms us)) ≡ true → (has k (writersOf t f ms us) ≡ true → Through k us) → Through k (x ∷ us)
-        go none q h rest = on (rest h)
-        go (some m) q h rest = has-cases k m (writersOf t f ms us) h (λ e. (x, rw (eq-eqb x x refl), q ∙ ap some (sym e))) (λ r. on (rest r))
-
-    -- a writer is a kept move that writes a unit of the source
+    -- a writer is a kept move
     pub written : (i k : ℕ) → has k (writers t f ms i) ≡ true → k < length ms
-    unfolding writers
-    written i k h =
-        let w = writers-of k (placeUnits t (source t f ms i)) h in
-        let v = found-writer (w .0) 0 ms k (w .2) in
-        omega (arith, v .1, v .2)
-
-    pub written-unit : (i k : ℕ) → has k (writers t f ms i) ≡ true → (u : ℕ) × (has u (placeUnits t (source t f ms i)) ≡ true) × (has u (placeUnits t (dest t f ms k)) ≡ true)
-    unfolding writers
-    written-unit i k h =
-        let w = writers-of k (placeUnits t (source t f ms i)) h in
-        let v = found-writer (w .0) 0 ms k (w .2) in
-        let e : k ≡ v .0 = omega (arith, v .2) in
-        (w .0, w .1, ap (λ (j : ℕ). has (w .0) (placeUnits t (dest t f ms j))) e ∙ v .3)
+    written i k h = every-has (λ m. m < length ms) (writers t f ms i) k (writers-low t f ms i) h
 
     -- a source unit of a kept move is barred to a diversion
     pub barred : (m u : ℕ) → m < length ms → has u (unitsOfReg t f (source t f ms m)) ≡ true → cycleMoveSources t f ms u ≡ true
@@ -283,9 +246,6 @@ module _ (t : RegInfo) (f : Function) where
     module _ (a : Sorted) (ok : SortedOk t f a) where
       pub dest-fits : (i : ℕ) → i < length (a .moves) → fits t f (dest t f (a .moves) i) (length (content (value t f (a .moves) i))) ≡ true
       dest-fits i h = let m = ok .moves i h in place-fits (dest t f (a .moves) i) (value t f (a .moves) i) (m .value-named) (m .dest-named) (m .dest-bank)
-
-      pub source-fits : (i : ℕ) → i < length (a .moves) → fits t f (source t f (a .moves) i) (length (content (value t f (a .moves) i))) ≡ true
-      source-fits i h = let m = ok .moves i h in place-fits (source t f (a .moves) i) (value t f (a .moves) i) (m .value-named) (m .source-named) (m .source-bank)
 
       pub remat-fits : (i : ℕ) → i < length (a .remats) → fits t f (rematAt (a .remats) i .dest) (length (content (rematAt (a .remats) i .value))) ≡ true
       remat-fits i h = let r = ok .remats i h in place-fits (rematAt (a .remats) i .dest) (rematAt (a .remats) i .value) (r .value-named) (r .dest-named) (r .dest-bank)
@@ -332,8 +292,3 @@ module _ (t : RegInfo) (f : Function) where
     pub beyond : (p : Place) (s : ℕ) → namesPlace t f p ≡ true → f .slots ≤ s → Disjoint p (slot s)
     beyond (reg r) s n h = reg-slot r s
     beyond (slot x) s n h = let l : x < f .slots = named-slot x n in slot-slot x s (λ e. omega arith)
-
-    -- 6: memory shares nothing with a register that isn't
-    pub memory-disjoint : (q : Place) (r : ℕ) → isMemory t q ≡ true → namesPlace t f q ≡ true → r < numRegs t → isMemoryReg t r ≡ false → Disjoint q (reg r)
-    memory-disjoint (reg x) r m n h k = disjoint (reg x) (reg r) (memory-apart t to x r (named-reg x n) h m k)
-    memory-disjoint (slot s) r m n h k = disjoint-comm (reg r) (slot s) (reg-slot r s)

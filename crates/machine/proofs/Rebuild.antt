@@ -1,26 +1,26 @@
 -- The rebuilds, put behind the kept moves: without scratch, with one scratch place, with two.
-use mathlib.Core.Path.{_≡_, refl, sym, _∙_, ap, subst}
-use mathlib.Core.Bool.{Bool, true, false, not, _&&_, _||_, cond}
-use mathlib.Core.List.{List, [], _∷_}
-use mathlib.Core.Option.{Option, some, none}
-use mathlib.Core.Logic.{_⊎_, inl, inr, ⊎-elim}
-use Prim.Native.Nat.{ℕ, zero, suc, _+_, _≤_, _<_}
+use mathlib.Core.Path.{_≡_, refl, sym, subst}
+use mathlib.Core.Bool.{not}
+use mathlib.Core.List.{_∷_}
+use mathlib.Core.Option.{some}
+use mathlib.Core.Logic.{_⊎_, inr, ⊎-elim}
+use Prim.Native.Nat.{ℕ, _+_, _≤_}
 use native.Mathlib.Nat.{add-left-cancel}
-use lib.Dec.{T, T-not, not-T, eqb, eqb→eq, eqb-refl}
+use lib.Dec.{T, T-not, not-T, eqb-refl}
 use lib.ListN.{length}
-use Rattle.entity.specs.Logic.{has}
 use Rattle.entity.specs.Place.{Place, reg, slot}
-use Rattle.reginfo.specs.RegInfo.{RegInfo, regUnits, bankForClass, includesSpillslots, classMembers, lastInOrder, spillslotSize, stackToStackClass, isMemory}
+use Rattle.reginfo.specs.RegInfo.{RegInfo, regUnits, bankForClass, includesSpillslots, classMembers, lastInOrder, spillslotSize, isMemory}
 use Rattle.function.specs.Function.{Function, rematClass}
-use Rattle.rules.specs.Edit.{Edit, Rematerialize, andThen}
+use Rattle.rules.specs.Edit.{Rematerialize, andThen}
 use Rattle.rules.specs.Scratch.{ScratchAllocator, Found, push, unitsOfReg, makeAvailable, releasePlace, unevictForReg, getScratchReg, nothingBarred, moveEdits}
-use Rattle.rules.specs.Order.{Remat, doRemat, rematWithScratch}
+use Rattle.rules.specs.Order.{doRemat, rematWithScratch}
 use Rattle.machine.specs.Machine.{fits}
-use Rattle.machine.proofs.Memory.{hasIn, TargetOk, covers, Apart}
+use Rattle.rules.proofs.Steps.{All, all-then}
+use Rattle.machine.proofs.Tests.{hasIn, and-split}
+use Rattle.machine.proofs.Memory.{TargetOk, covers, Apart}
 use Rattle.machine.proofs.Run.{Wait, idle, saved, Job}
 use Rattle.machine.proofs.Sound.{Needs, can, under, shown, Aside, Within, Live, Ok, Pre, Sound, Turns, Stands}
 use Rattle.machine.proofs.Macro.{Scratch, rebuild, rebuild-into}
-use Rattle.machine.proofs.Cache.{All, all-andThen, and-split}
 use Rattle.machine.proofs.Search.{wait, WaitsIn, or-case, Empty, ApartW, reg-covers, Room, Kept, BackFor, bringFor-ok, ClassOk, Free, Lone, FoundOk, search-ok, kept-free, give-room}
 use Rattle.machine.proofs.Emit.{MemoryRule, room-edits, Asked, StackOk, goal, Moved, moveEdits-ok}
 
@@ -144,7 +144,7 @@ module _ (t : RegInfo) (F : Function) (tk : TargetOk t) (j : Job) (em : (s : ℕ
     pub scratched-ok : RebuildOk to v cls → StackOk t F tk j em bnk (length (j .content v)) → MemoryRule t F tk → (k₀ : ScratchAllocator) → K needs k₀ → All (K needs′) (rematWithScratch t F (record { dest = to; value = v }) k₀)
     unfolding rematWithScratch
     scratched-ok rk sk rule k₀ h₀ =
-        all-andThen (FoundOk t F tk j em needs bnk cls (length (j .content v)) (nothingBarred t F) (rk .ok) k) (K needs′) (getScratchReg t F bnk cls (nothingBarred t F) k) _
+        all-then (FoundOk t F tk j em needs bnk cls (length (j .content v)) (nothingBarred t F) (rk .ok) k) (K needs′) (getScratchReg t F bnk cls (nothingBarred t F) k) _
         (search-ok t F tk j em needs bnk cls (length (j .content v)) (nothingBarred t F) (rk .ok) k (b₁ .back .kept)) next
       where
         k : ScratchAllocator
@@ -156,7 +156,7 @@ module _ (t : RegInfo) (F : Function) (tk : TargetOk t) (j : Job) (em : (s : ℕ
         next : (x : Found) → FoundOk t F tk j em needs bnk cls (length (j .content v)) (nothingBarred t F) (rk .ok) k x
             → All (K needs′) (andThen (moveEdits t F bnk to (x .place) v (x .scratch)) (λ k′. some (makeAvailable t F to (releasePlace t F (spillslotSize t bnk) (x .place) (push (Rematerialize (x .place) v) k′)))))
         next x f =
-            all-andThen (Moved t F tk j em needs needs′ to (x .place) v (asked (x .place)) P (x .scratch)) (K needs′) (moveEdits t F bnk to (x .place) v (x .scratch)) _
+            all-then (Moved t F tk j em needs needs′ to (x .place) v (asked (x .place)) P (x .scratch)) (K needs′) (moveEdits t F bnk to (x .place) v (x .scratch)) _
             (moveEdits-ok t F tk j em needs needs′ to (x .place) v (asked (x .place)) bnk sk rule P (x .scratch) (f .kept) (f .still to (b₁ .off) (rk .far)) (λ m l h. (h .ok, h .raw)) (λ _ y g m l h. (h .ok, h .raw)))
             done
           where

@@ -1,26 +1,28 @@
 -- The scratch allocator's bringing back and its search, and that each keeps the program sound.
-use mathlib.Core.Path.{_≡_, refl, sym, _∙_, ap, subst}
+use mathlib.Core.Path.{_≡_, refl, sym, ap, subst}
 use mathlib.Core.Bool.{Bool, true, false, not, _&&_, _||_, cond}
 use mathlib.Core.List.{List, [], _∷_}
 use mathlib.Core.Option.{Option, some, none}
 use mathlib.Core.Logic.{_⊎_, inl, inr, ⊎-elim}
-use Prim.Native.Nat.{ℕ, zero, suc, _+_, _≤_, _<_}
+use Prim.Native.Nat.{ℕ, suc, _+_, _≤_, _<_}
 use native.Mathlib.Omega.{arith}
 use native.Mathlib.Nat.{add-left-cancel}
 use native.Mathlib.Decide.{decLt}
-use lib.Dec.{T, T-not, not-T, eqb, eqb→eq, eqb-refl}
+use lib.Dec.{T, T-not, not-T, eqb, eqb→eq}
 use lib.ListN.{length}
-use Rattle.entity.specs.Logic.{has, any, all, meets}
+use Rattle.entity.specs.Logic.{has, meets}
 use Rattle.entity.specs.Place.{Place, reg, slot}
 use Rattle.reginfo.specs.RegInfo.{RegInfo, regUnits, classMembers, allocationOrder, includesSpillslots, lastInOrder, spillslotSize, isMemoryReg, isMemory, placeUnits}
 use Rattle.function.specs.Function.{Function}
-use Rattle.rules.specs.Edit.{Edit, EmergencySpill, EmergencyReload, andThen, find, filter}
+use Rattle.rules.specs.Edit.{EmergencyReload, find, filter}
 use Rattle.rules.specs.Scratch.{Cache, Evicted, ScratchAllocator, Found, Acquired, withEvicted, withCache, push, acquire, release, unitsOfReg, unevict, unevictAll, overlapsEvicted, unevictForReg, usable, slotScratch, evictLast, reuse, orScratch, getScratchReg}
 use Rattle.machine.specs.Machine.{fits}
-use Rattle.machine.proofs.Memory.{hasIn, TargetOk, covers, Apart}
+use Rattle.rules.proofs.Steps.{All, all-then}
+use Rattle.machine.proofs.Tests.{hasIn, has-cons, all-has, find-all, or-split, or-l, and-split, if}
+use Rattle.machine.proofs.Memory.{TargetOk, covers, Apart}
 use Rattle.machine.proofs.Run.{Wait, idle, saved, Job}
 use Rattle.machine.proofs.Sound.{Needs, under, Clear, Aside, Within, Ok, Sound, reload, save}
-use Rattle.machine.proofs.Cache.{All, all-andThen, if, has-cons, all-has, find-all, or-l, or-r, or-split, and-split, Loose, CacheOk, Taken, take-ok, give-ok, loose-give}
+use Rattle.machine.proofs.Cache.{Loose, CacheOk, Taken, take-ok, give-ok, loose-give}
 
 abbrev pub waitOf : List Evicted → Wait
 waitOf [] = idle
@@ -248,7 +250,7 @@ module _ (t : RegInfo) (F : Function) (tk : TargetOk t) where
       found-evict : (k₀ : ScratchAllocator) → T (not (includesSpillslots t c)) → Kept needs k₀ → All (FoundOk k₀) (evictLast t F b c (unevictAll t F k₀))
       unfolding evictLast
       found-evict k₀ ns h₀ =
-          all-andThen (Taken t F (k .cache)) (FoundOk k₀) (acquire t F (spillslotSize t b) (k .cache)) _ (take-ok t F (spillslotSize t b) (k .cache) (h .room .cache-ok)) next
+          all-then (Taken t F (k .cache)) (FoundOk k₀) (acquire t F (spillslotSize t b) (k .cache)) _ (take-ok t F (spillslotSize t b) (k .cache) (h .room .cache-ok)) next
         where
           bk : Back needs k₀ (unevictAll t F k₀)
           bk = bring-ok needs k₀ h₀
@@ -303,7 +305,7 @@ module _ (t : RegInfo) (F : Function) (tk : TargetOk t) where
       found-slot : (k : ScratchAllocator) → Kept needs k → T (includesSpillslots t c) → All (FoundOk k) (slotScratch t F b k)
       unfolding slotScratch fits covers
       found-slot k h sl =
-          all-andThen (Taken t F (k .cache)) (FoundOk k) (acquire t F (spillslotSize t b) (k .cache)) _ (take-ok t F (spillslotSize t b) (k .cache) (h .room .cache-ok)) next
+          all-then (Taken t F (k .cache)) (FoundOk k) (acquire t F (spillslotSize t b) (k .cache)) _ (take-ok t F (spillslotSize t b) (k .cache) (h .room .cache-ok)) next
         where
           next : (x : Acquired) → Taken t F (k .cache) x → FoundOk k (record { place = slot (x .slot); scratch = withCache (x .cache) k })
           next x ta =

@@ -1,7 +1,7 @@
 -- Between patches every slot made lies in exactly one stack, once: all through a run each is counted in a stack, with an evicted register or as a live scratch.
 use Prim.Native.Nat.{ℕ, zero, suc, pred, _+_, _<_, _≤_}
 use mathlib.Core.Path.{_≡_, refl, sym, ap, subst, _∙_}
-use mathlib.Core.Bool.{Bool, true, false}
+use mathlib.Core.Bool.{Bool, true, false, false≢true}
 use mathlib.Core.List.{List, [], _∷_, reverse}
 use mathlib.Core.Option.{Option, none, some}
 use mathlib.Core.Logic.{_⊎_, inl, inr, ⊎-elim}
@@ -21,13 +21,15 @@ use Rattle.function.proofs.Laws.{bank-there, class-of-bank}
 use Rattle.rules.specs.Edit.{Edit, Rematerialize, updated, andThen, each, find, filter}
 use Rattle.rules.specs.Scratch.{Cache, emptyCache, Evicted, ScratchAllocator, Acquired, push, withEvicted, Found, unevict, unevictAll, overlapsEvicted, unevictForReg, acquireFrom, acquire, release, releasePlace, usable, slotScratch, evictLast, reuse, orScratch, getScratchReg, nothingBarred, moveEdits, doMove}
 use Rattle.rules.specs.Order.{KeptMove, noMove, Remat, State, Pending, Done, isNew, isPending, Diverted, ParallelMoves, withState, carry, remats, doRemat, rematWithScratch, source, dest, value, bank, writers, cycleMoveSources, emit, noted, divert, carried, lead, lost, undivert, undivertAll, close, visit, visitUnlessMemory, start, moves}
-use Rattle.rules.specs.Patch.{Patch, Sorted, sorted, run}
+use Rattle.rules.specs.Patch.{Patch, Sorted, sorted, run, Answer, refused, resolved, resolve, Call, cacheAfter}
 use Rattle.rules.specs.Sorted.{MoveOk, RematOk, noRemat, SortedOk, Ran}
-use Rattle.machine.specs.Slots.{InStacks, Stays}
-use Rattle.machine.proofs.Steps.{All, all-then, branch, same?, Every, every-getD, every-reverse, every-index, all-each, updated-at, updated-same, updated-other}
+use Rattle.rules.proofs.Accepted.{accepted}
+use Rattle.machine.specs.Slots.{InStacks, Stays, SlotsClaim, SlotsLie}
+use Rattle.rules.proofs.Steps.{All, all-then, branch, same?, Every, every-getD, every-reverse, every-index, all-each, updated-at, updated-same, updated-other}
 use Rattle.machine.proofs.Bound.{unevict-evicted}
-use Rattle.machine.proofs.Sum.{sum, sum-change, sum-zero}
-use Rattle.machine.proofs.Diversions.{clash, bit, occurs, occurs-head, occurs-tail, has-occurs, writers-low, Counted, Grown, carry-grown, was-live, lost-counted}
+use Rattle.rules.proofs.Writers.{writers-low}
+use Rattle.rules.proofs.Sum.{bit, sum, sum-change, sum-zero}
+use Rattle.machine.proofs.Diversions.{occurs, occurs-head, occurs-tail, has-occurs, Counted, Grown, carry-grown, was-live, lost-counted}
 
 positive : (a : ℕ) → (a ≡ 0 → ⊥) → 0 < a
 positive a h = omega arith
@@ -53,7 +55,7 @@ occurs-none x l h = go (occurs x l) (occurs-has x l)
   where
     go : (k : ℕ) → (0 < k → has x l ≡ true) → k ≡ 0
     go zero r = refl
-    go (suc k) r = absurd (clash (sym h ∙ r (omega arith)))
+    go (suc k) r = absurd (false≢true (sym h ∙ r (omega arith)))
 
 -- nothing twice is at most once
 once-most : (l : List ℕ) → twice l ≡ false → (x : ℕ) → occurs x l ≤ 1
@@ -247,7 +249,7 @@ module _ (t : RegInfo) (f : Function) (c₀ : Cache) where
     slot-good k i g =
         all-then (Taken (spillslotSize t b) (λ s z. waits (k .evicted) s z + extra s z)) (Search b c extra) (acquire t f (spillslotSize t b) (k .cache)) _
         (acquire-good (spillslotSize t b) (k .cache) (λ s z. waits (k .evicted) s z + extra s z) g)
-        (λ a q. record { good = good-cong _ _ (a .cache .made) (λ s z. omega arith) q; plain = λ e. absurd (clash (sym e ∙ i)) })
+        (λ a q. record { good = good-cong _ _ (a .cache .made) (λ s z. omega arith) q; plain = λ e. absurd (false≢true (sym e ∙ i)) })
 
     evict-good : (k : ScratchAllocator) → Kept extra k → All (Search b c extra) (evictLast t f b c k)
     unfolding evictLast Kept holds Taken waits
@@ -493,7 +495,7 @@ module _ (t : RegInfo) (f : Function) (c₀ : Cache) where
             record {
               good = g .good;
               counted = g .counted;
-              idle = λ k a. updated-at (λ (s : State). isPending s ≡ false → w .diverted .values k ≡ []) i Pending (w .state) k (λ _ b. absurd (clash (sym b))) (λ _ b. g .idle k a b);
+              idle = λ k a. updated-at (λ (s : State). isPending s ≡ false → w .diverted .values k ≡ []) i Pending (w .state) k (λ _ b. absurd (false≢true (sym b))) (λ _ b. g .idle k a b);
               still = λ k a. ap isPending (updated-other i Pending (w .state) k (a .1)) ∙ g .still k (a .0);
             }
 
@@ -614,7 +616,7 @@ module _ (t : RegInfo) (f : Function) (c₀ : Cache) where
 pub slots-empty : (f : Function) → InStacks f emptyCache
 unfolding has twice
 slots-empty f =
-    record { listed = λ s lo hi. absurd (omega arith); once = λ z. refl; sole = λ s y z a b. absurd (clash a); low = λ s z a. absurd (clash a); below = λ s z a. absurd (clash a) }
+    record { listed = λ s lo hi. absurd (omega arith); once = λ z. refl; sole = λ s y z a b. absurd (false≢true a); low = λ s z a. absurd (false≢true a); below = λ s z a. absurd (false≢true a) }
 
 -- from call to call every slot made lies in exactly one stack, and where it lay
 pub slots-ok :
@@ -625,3 +627,14 @@ slots-ok t f at af p room c c′ es r ins =
   where
     good : Good t f c (stacked (r .allocator .cache)) (r .allocator .cache .made)
     good = subst (All (λ k. Good t f c (stacked (k .cache)) (k .cache .made))) (r .ran) (run-good t f c at af ins p (r .ok))
+
+pub slots-lie : SlotsLie
+slots-lie t f at af calls = claim calls emptyCache (slots-empty f)
+  where
+    called : (x : Call) (c : Cache) (r : Answer) → resolve t f (x .patch) (x .room) c ≡ r → InStacks f c → InStacks f (cacheAfter c r) × Stays c (cacheAfter c r)
+    called x c (refused n) e ins = (ins, λ s z h. h)
+    called x c (resolved es c′) e ins = slots-ok t f at af (x .patch) (x .room) c c′ es (accepted t f (x .patch) (x .room) c c′ es e) ins
+
+    claim : (calls : List Call) (c : Cache) → InStacks f c → SlotsClaim t f calls c
+    claim [] c ins = ins
+    claim (x ∷ l) c ins = let y = called x c (resolve t f (x .patch) (x .room) c) refl ins in (ins, y .1, claim l (cacheAfter c (resolve t f (x .patch) (x .room) c)) (y .0))

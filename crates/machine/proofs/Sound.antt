@@ -1,20 +1,21 @@
 -- A program built backwards: sound from any state that meets a precondition, so that edits come in groups.
-use mathlib.Core.Path.{_≡_, refl, sym, _∙_, ap, subst}
+use mathlib.Core.Path.{_≡_, refl, sym, _∙_, ap}
 use mathlib.Core.Bool.{Bool, true, false, not, _&&_, cond}
-use mathlib.Core.List.{List, [], _∷_, List·Memᴰ, List·Memᴰ·head, List·Memᴰ·tail}
-use mathlib.Core.Option.{Option, some, none}
+use mathlib.Core.List.{List, [], _∷_, List·Memᴰ·head, List·Memᴰ·tail}
+use mathlib.Core.Option.{some}
 use mathlib.Core.Logic.{_⊎_, inl, inr}
-use Prim.Native.Nat.{ℕ, zero, suc, _+_}
-use lib.Dec.{T, T-not, not-T, eqb, eqb→eq, eqb-refl}
+use Prim.Native.Nat.{ℕ, _+_}
+use lib.Dec.{T, not-T, eqb, eqb→eq, eqb-refl}
 use lib.ListN.{length, length-map}
-use Rattle.entity.specs.Logic.{has}
 use Rattle.entity.specs.Place.{Place, reg, slot}
-use Rattle.reginfo.specs.RegInfo.{RegInfo, regUnits, isMemoryReg, isMemory, inClass}
+use Rattle.reginfo.specs.RegInfo.{RegInfo, regUnits, isMemory, inClass}
 use Rattle.function.specs.Function.{Function, canRematerialize, rematClass}
-use Rattle.rules.specs.Edit.{Edit, Move, Rematerialize, EmergencySpill, EmergencyReload, filter, updated}
-use Rattle.machine.specs.Machine.{Memory, Machine, Waiting, Written, put, read, write, fits, step, counted, seen, without, when}
-use Rattle.machine.proofs.Memory.{hasIn, TargetOk, Off, covers, Apart, write-off, read-off, read-write, put-cong, put-hit, put-self, upd-same}
-use Rattle.machine.proofs.Run.{Wait, idle, saved, waiting, Log, wr, state, when-yes, Job, view, Ready, Frame, Anchored, Holds, Stop, Final, Along}
+use Rattle.rules.specs.Edit.{Edit, Move, Rematerialize, EmergencySpill, EmergencyReload, filter}
+use Rattle.machine.specs.Machine.{Memory, Machine, Waiting, Written, put, read, write, fits, step, counted, seen, without}
+use Rattle.rules.proofs.Steps.{updated-same}
+use Rattle.machine.proofs.Tests.{hasIn}
+use Rattle.machine.proofs.Memory.{TargetOk, Off, covers, Apart, write-off, read-off, read-write, put-cong, put-hit, put-self}
+use Rattle.machine.proofs.Run.{Wait, idle, saved, waiting, Log, wr, state, when-yes, Job, view, Ready, Frame, Anchored, Holds, Stop, Along}
 
 both : (a b : Bool) → T a → T b → T (a && b)
 both true b x y = y
@@ -104,13 +105,13 @@ module _ (t : RegInfo) (F : Function) (tk : TargetOk t) where
   unfolding counted write read
   save-off s r m =
       record {
-        words = λ u k. rw upd-same (put-self (regUnits t r) (m .word) u);
+        words = λ u k. rw updated-same (put-self (regUnits t r) (m .word) u);
         lists = write-off t F tk (slot s) (read t F m (reg r)) m .lists;
       }
 
   save-ready : (s r : ℕ) (m : Memory) → Ready t F (saved r s) (write t F (slot s) (read t F m (reg r)) m)
   unfolding Ready write read fits
-  save-ready s r m = rw (upd-same, length-map) (eqb-refl (length (regUnits t r)))
+  save-ready s r m = rw (updated-same, length-map) (eqb-refl (length (regUnits t r)))
 
   module _ (j : Job) where
     frame-refl : (a : Memory) → Frame t F j a a

@@ -1,6 +1,5 @@
 -- A patch whole: rebuilds, then kept moves.
-use mathlib.Core.Path.{_≡_, refl, sym, _∙_, ap, subst}
-use mathlib.Core.Bool.{Bool, true, false, not, _&&_}
+use mathlib.Core.Path.{_≡_, refl, sym, subst}
 use mathlib.Core.List.{List, [], _∷_, _++_}
 use mathlib.Core.Option.{Option, some, none}
 use mathlib.Core.Logic.{_⊎_, inl, inr, ⊎-elim}
@@ -15,15 +14,16 @@ use Rattle.function.specs.Function.{Function, rematClass}
 use Rattle.rules.specs.Edit.{andThen, each}
 use Rattle.rules.specs.Scratch.{Cache, ScratchAllocator}
 use Rattle.rules.specs.Order.{KeptMove, Remat, source, dest, value, remats, rematWithScratch, moves}
-use Rattle.rules.specs.Patch.{Patch, Sorted, run}
 use Rattle.machine.specs.Machine.{Memory, read, fits}
-use Rattle.machine.proofs.Memory.{hasIn, TargetOk, covers, Apart}
-use Rattle.machine.proofs.Run.{Wait, idle, Job, state, Along}
-use Rattle.machine.proofs.Sound.{Needs, can, Within, Ok, Sound, sound-nil}
-use Rattle.machine.proofs.Cache.{All, all-andThen, Loose, CacheOk}
+use Rattle.rules.proofs.Steps.{All, all-then}
+use Rattle.machine.proofs.Tests.{hasIn}
+use Rattle.machine.proofs.Memory.{TargetOk, covers, Apart}
+use Rattle.machine.proofs.Run.{idle, Job, state, Along}
+use Rattle.machine.proofs.Sound.{Needs, can, Within, Sound, sound-nil}
+use Rattle.machine.proofs.Cache.{Loose, CacheOk}
 use Rattle.machine.proofs.Search.{waitOf, ApartW, Kept}
-use Rattle.machine.proofs.Emit.{MemoryRule, StackOk}
-use Rattle.machine.proofs.Order.{PatchOk, Needed, live}
+use Rattle.machine.proofs.Emit.{StackOk}
+use Rattle.machine.proofs.Order.{PatchOk, live}
 use Rattle.machine.proofs.Rebuild.{AskedR, RebuildOk, plain-ok, scratched-ok}
 use Rattle.machine.proofs.Passes.{Base, moves-right, Right}
 
@@ -84,7 +84,7 @@ module _ (t : RegInfo) (F : Function) (tk : TargetOk t) (j : Job) (em : (s : ℕ
   unfolding each
   scratches-ok [] k o h = h
   scratches-ok (r ∷ rs) k o h =
-      all-andThen (K (NeedR rs)) (K (NeedR [])) (rematWithScratch t F r k) _
+      all-then (K (NeedR rs)) (K (NeedR [])) (rematWithScratch t F r k) _
       (scratched-ok t F tk j em (NeedR (r ∷ rs)) (NeedR rs) (r .dest) (r .value) (asked r rs (o .0)) (o .1) (o .2) (ok .rule) k h)
       (λ k₁ h₁. scratches-ok rs k₁ (o .3) h₁)
 
@@ -123,7 +123,7 @@ module _ (t : RegInfo) (F : Function) (tk : TargetOk t) (j : Job) (em : (s : ℕ
 
     pub whole-ok : (c : Cache) → CacheOk t F c → PatchStart → All Done (andThen (each (rematWithScratch t F) ss (remats t F ps (begin c))) (moves t F ms))
     whole-ok c co st =
-        all-andThen (K (NeedR [])) Done (each (rematWithScratch t F) ss (remats t F ps (begin c))) _
+        all-then (K (NeedR [])) Done (each (rematWithScratch t F) ss (remats t F ps (begin c))) _
         (scratches-ok ss (remats t F ps (begin c)) (st .scratches) (plains-ok ps ss (begin c) (st .plains) refl begun))
         (λ k h. out k (bare k h) (moves t F ms k) (moves-right t F tk j em ms ok home k (bare k h)))
       where

@@ -1,13 +1,13 @@
 -- Demand 3, as one claim about a whole list of calls.
 use Prim.Native.Nat.{ℕ, _<_, _≤_}
 use mathlib.Core.Path.{_≡_}
-use mathlib.Core.Bool.{Bool, true, false}
+use mathlib.Core.Bool.{false}
 use mathlib.Core.List.{List, [], _∷_, List·Memᴰ}
 use mathlib.Core.Option.{some}
 use mathlib.Core.Logic.{_⊎_}
 use lib.ListN.{length, getD, take}
 use Rattle.entity.specs.Logic.{any, has}
-use Rattle.entity.specs.Place.{Place, reg, slot, samePlace}
+use Rattle.entity.specs.Place.{Place, slot, samePlace}
 use Rattle.reginfo.specs.RegInfo.{RegInfo, numRegs, bankForReg, regUnits}
 use Rattle.reginfo.specs.Refused as target
 use Rattle.function.specs.Function.{Function, numValues, valueBank}
@@ -15,8 +15,8 @@ use Rattle.function.specs.Refused as function
 use Rattle.rules.specs.Edit.{Edit}
 use Rattle.rules.specs.Scratch.{Cache, emptyCache, unitsOfReg}
 use Rattle.rules.specs.Order.{KeptMove, Remat, noMove}
-use Rattle.rules.specs.Patch.{Patch, Sorted, sorted, destinations, bound, Answer, refused, resolved, resolve, Call, cacheAfter}
-use Rattle.machine.specs.Machine.{Memory, Machine, Written, begin, read, steps, seen}
+use Rattle.rules.specs.Patch.{Patch, sorted, destinations, bound, Answer, refused, resolved, resolve, Call, cacheAfter}
+use Rattle.machine.specs.Machine.{Memory, Machine, begin, read, steps, seen}
 
 module _ (t : RegInfo) (f : Function) where
   -- "Each value has a content, as many words as its bank's registers have units."

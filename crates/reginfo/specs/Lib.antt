@@ -1,4 +1,5 @@
 pub mod RegInfo
 pub mod Known
 pub mod Refused
+pub mod Given
 pub mod Table

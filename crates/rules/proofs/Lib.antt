@@ -1,3 +1,8 @@
+pub mod Steps
+pub mod Sum
+pub mod News
+pub mod Writers
+pub mod Fuel
 pub mod Trials
 pub mod Accepted
 pub mod Refusals

@@ -10,12 +10,13 @@ use borrow.Author.Tests.{ltb-false, le-ltb}
 use Rattle.entity.specs.Logic.{pick}
 use Rattle.reginfo.specs.RegInfo.{RegInfo}
 use Rattle.reginfo.specs.Refused.{Condition, cond, orElse, firstOf}
-use Rattle.reginfo.proofs.First.{first-none, none-first, first-is, first-given}
+use Rattle.reginfo.specs.Given.{NoneHolds}
+use Rattle.reginfo.proofs.First.{first-none, none-first, given-first, first-given}
 use Rattle.function.specs.Function.{Function}
 use Rattle.rules.specs.Edit.{Edit}
 use Rattle.rules.specs.Scratch.{Cache, ScratchAllocator, Acquired, acquireFrom}
 use Rattle.rules.specs.Patch.{Entry, Patch, Sorted, nothingSorted, Answer, refused, resolved, answerOf, unlessRefused, cacheAfter, add, sortedFrom, sorted, entryConditions, patchConditions, run, resolveSorted, resolveFrom, resolve}
-use Rattle.rules.specs.Refusals.{Given, NoneHolds, ranOut, entriesConditions, callConditions, Refusals, NoSlot}
+use Rattle.rules.specs.Refusals.{ranOut, entriesConditions, callConditions, Refusals, NoSlot}
 
 -- one list of conditions, then another
 first-append : (xs ys : List Condition) (r : Answer) → unlessRefused (firstOf (xs ++ ys)) r ≡ unlessRefused (firstOf xs) (unlessRefused (firstOf ys) r)
@@ -56,13 +57,6 @@ resolved-none none r es c e = refl
 none-resolved : (r : Option ScratchAllocator) → ranOut r ≡ false → (es : List Edit) × (c : Cache) × (answerOf r ≡ resolved es c)
 none-resolved none h = let z : _≡_ {A = ℕ} 0 1 = cc in absurd (omega arith)
 none-resolved (some k) h = (k .edits, k .cache, refl)
-
--- as `Given` has it
-to-given : (l : List Condition) (n : ℕ) → firstOf l ≡ some n → Given l n
-to-given l n e = let w = first-given l n e in record { at = w .0; is = w .1 .is; number = w .2; holds = w .1 .holds; earlier = w .1 .before }
-
-of-given : (l : List Condition) (n : ℕ) → Given l n → firstOf l ≡ some n
-of-given l n g = first-is l (g .at) record { is = g .is; holds = g .holds; before = g .earlier } ∙ ap some (g .number)
 
 not-made : (b : Bool) (x : Acquired) → pick b (some x) none ≡ none → b ≡ false
 not-made true x e = let z : _≡_ {A = ℕ} 0 1 = cc in absurd (omega arith)
@@ -105,8 +99,8 @@ module _ (t : RegInfo) (f : Function) where
     refusals =
         record {
           given = λ n. (
-            λ e. to-given (callConditions t f p room c) n (refused-some _ ran n not-out (sym by-first ∙ e)),
-            λ g. by-first ∙ ap (λ (o : Option ℕ). unlessRefused o (answerOf ran)) (of-given (callConditions t f p room c) n g),
+            λ e. first-given (callConditions t f p room c) n (refused-some _ ran n not-out (sym by-first ∙ e)),
+            λ g. by-first ∙ ap (λ (o : Option ℕ). unlessRefused o (answerOf ran)) (given-first (callConditions t f p room c) n g),
           );
           taken = (λ w. first-none (callConditions t f p room c) (resolved-none _ (answerOf ran) (w .0) (w .1) (sym by-first ∙ w .2)), taken-if);
           cache-stays = λ n e. ap (cacheAfter c) e;

@@ -1,27 +1,47 @@
--- The marked trial patches of 01, by computation.
+-- The marked trial patches of 01, and those that tell the rules from others, by computation.
 use mathlib.Core.Path.{refl}
-use Rattle.entity.specs.Logic.{any, all, has, meets, lastOr, indices}
+use Rattle.entity.specs.Logic.{any, all, has, meets, twice, lastOr, indices}
 use Rattle.reginfo.specs.RegInfo.{spillslotSize, topLevelClass, stackToStackClass, regMemory, bankForReg, regUnits, bankForClass, classSlots, classMembers, allocationOrder}
-use Rattle.reginfo.specs.Refused.{firstOf}
+use Rattle.reginfo.specs.Refused.{orderTotal, countsFit, bankFits, regFits, classFits, outsideLimits, listedTwice, unequalWidths, foreignMember, sharedMemory, unfitClass, firstOf, targetRefusal}
 use Rattle.function.specs.Function.{valueBank, rematCost, rematClass}
 use Rattle.rules.specs.Edit.{updated, andThen, each, find, filter}
 use Rattle.rules.specs.Scratch.{acquireFrom, unevict, unevictForReg, slotScratch, evictLast, reuse, orScratch, getScratchReg, moveEdits, doMove}
 use Rattle.rules.specs.Order.{carryOne, carry, remats, rematWithScratch, writerFrom, writersOf, writers, cycleMoveSources, divert, lead, undivert, undivertAll, close, visit, visitUnlessMemory, start, moves}
 use Rattle.rules.specs.Patch.{destinations, add, entryConditions, patchConditions, run, resolveSorted, resolveFrom, resolve}
-use Rattle.rules.specs.Trials.{three, Trials}
+use Rattle.rules.specs.Trials.{three, chained, five, six, halves, between, Trials, ToldApart}
+
+both : Trials × ToldApart
+unfolding any all has meets lastOr indices spillslotSize topLevelClass stackToStackClass regMemory bankForReg regUnits bankForClass classSlots classMembers allocationOrder firstOf valueBank rematCost rematClass updated andThen each find filter acquireFrom unevict unevictForReg slotScratch evictLast reuse orScratch getScratchReg moveEdits doMove carryOne carry remats rematWithScratch writerFrom writersOf writers cycleMoveSources divert lead undivert undivertAll close visit visitUnlessMemory start moves destinations add entryConditions patchConditions run resolveSorted resolveFrom resolve three chained five six halves between orderTotal countsFit bankFits regFits classFits outsideLimits listedTwice unequalWidths foreignMember sharedMemory unfitClass targetRefusal twice
+both = (
+  record {
+    swap-full = (refl, refl, refl);
+    unit-free = (refl, refl, refl);
+    chain = (refl, refl, refl);
+    slot-to-slot = (refl, refl, refl);
+    slots-swapped = (refl, refl, refl);
+    rebuild = (refl, refl, refl);
+    no-entries = (refl, refl, refl);
+    twice = (refl, refl, refl);
+    no-slot = refl;
+    no-slot-cache = refl;
+  },
+  record {
+    targets = (refl, refl, refl, refl, refl, refl);
+    closed-first = (refl, refl, refl);
+    sources-spared = (refl, refl, refl);
+    scratch-on-evicted = (refl, refl, refl);
+    two-writers = (refl, refl, refl);
+    join-counts = (refl, refl, refl);
+    join-keeps-source = (refl, refl, refl);
+    scratch-unavailable = (refl, refl, refl);
+    source-last = (refl, refl, refl);
+    source-brought-back = (refl, refl, refl);
+    stack-first = (refl, refl, refl);
+  },
+)
 
 pub trials : Trials
-unfolding any all has meets lastOr indices spillslotSize topLevelClass stackToStackClass regMemory bankForReg regUnits bankForClass classSlots classMembers allocationOrder firstOf valueBank rematCost rematClass updated andThen each find filter acquireFrom unevict unevictForReg slotScratch evictLast reuse orScratch getScratchReg moveEdits doMove carryOne carry remats rematWithScratch writerFrom writersOf writers cycleMoveSources divert lead undivert undivertAll close visit visitUnlessMemory start moves destinations add entryConditions patchConditions run resolveSorted resolveFrom resolve three
-trials =
-    record {
-      swap-full = (refl, refl, refl);
-      unit-free = (refl, refl, refl);
-      chain = (refl, refl, refl);
-      slot-to-slot = (refl, refl, refl);
-      slots-swapped = (refl, refl, refl);
-      rebuild = (refl, refl, refl);
-      no-entries = (refl, refl, refl);
-      twice = (refl, refl, refl);
-      no-slot = refl;
-      no-slot-cache = refl;
-    }
+trials = both .0
+
+pub told-apart : ToldApart
+told-apart = both .1

@@ -6,10 +6,10 @@ use mathlib.Core.Option.{Option, none, some}
 use lib.Dec.{eqb}
 use lib.ListN.{length, getD}
 use Rattle.entity.specs.Logic.{pick, and, or, no, any, has, indices}
-use Rattle.entity.specs.Place.{Place, reg, slot}
+use Rattle.entity.specs.Place.{Place, slot}
 use Rattle.reginfo.specs.RegInfo.{RegInfo, bankForClass, spillslotSize, topLevelClass, placeUnits, isMemory}
 use Rattle.function.specs.Function.{Function, valueBank, rematClass}
-use Rattle.rules.specs.Edit.{Edit, Rematerialize, updated, andThen, each}
+use Rattle.rules.specs.Edit.{Rematerialize, updated, andThen, each}
 use Rattle.rules.specs.Scratch.{ScratchAllocator, push, Found, unitsOfReg, makeAvailable, makeUnavailable, releasePlace, unevictAll, unevictForReg, getScratchReg, nothingBarred, moveEdits, doMove}
 
 pub record KeptMove : Type 0 where
@@ -172,7 +172,7 @@ module _ (t : RegInfo) (f : Function) where
     close i w = andThen (lead i (withState i Done w)) (λ w′. undivertAll i (w′ .diverted .values i) w′)
 
     -- "In depth, a move visits the unvisited writers of its source units, last unit first, and each writer is a move again." The first
-    -- number bounds the depth; proofs/Fuel shows that it never decides.
+    -- number bounds the depth; Depth says that it never decides, and proofs/Fuel shows it.
     unfoldable pub visit : ℕ → ℕ → ParallelMoves → Option ParallelMoves
     visit zero i w = pick (isNew (w .state i)) none (some w)
     visit (suc n) i w = pick (isNew (w .state i)) (andThen (each (visit n) (reverse (writers i)) (withState i Pending w)) (close i)) (some w)

@@ -1,13 +1,13 @@
 -- 01, Ordering and Refused jobs: the entries of a patch, which number each gets, and `resolve`.
-use Prim.Native.Nat.{ℕ, zero, suc, _+_, _*_}
-use mathlib.Core.Bool.{Bool, true, false}
+use Prim.Native.Nat.{ℕ, suc, _+_, _*_}
+use mathlib.Core.Bool.{Bool}
 use mathlib.Core.List.{List, [], _∷_, _++_, map}
 use mathlib.Core.Option.{Option, none, some}
 use lib.Dec.{eqb, ltb, leb}
 use lib.ListN.{length}
 use Rattle.entity.specs.Logic.{pick, and, or, no, any, has, meets}
-use Rattle.entity.specs.Place.{Place, reg, slot, samePlace, names}
-use Rattle.reginfo.specs.RegInfo.{RegInfo, numRegs, lastInOrder, includesSpillslots, placeUnits, overlap, isMemory, inClass, ofBank}
+use Rattle.entity.specs.Place.{Place, reg, samePlace, names}
+use Rattle.reginfo.specs.RegInfo.{RegInfo, numRegs, lastInOrder, includesSpillslots, overlap, isMemory, inClass, ofBank}
 use Rattle.reginfo.specs.Refused.{Condition, cond, firstOf}
 use Rattle.function.specs.Function.{Function, numValues, valueBank, rematCost, rematClass, canRematerialize}
 use Rattle.rules.specs.Edit.{Edit, andThen, each}

@@ -5,27 +5,13 @@ use mathlib.Core.Bool.{Bool, true, false}
 use mathlib.Core.List.{List, [], _∷_, _++_}
 use mathlib.Core.Option.{Option, none, some}
 use mathlib.Core.Logic.{_↔_}
-use lib.ListN.{length, getD}
 use Rattle.reginfo.specs.RegInfo.{RegInfo}
 use Rattle.reginfo.specs.Refused.{Condition, cond}
+use Rattle.reginfo.specs.Given.{Given, NoneHolds}
 use Rattle.function.specs.Function.{Function}
 use Rattle.rules.specs.Edit.{Edit}
 use Rattle.rules.specs.Scratch.{Cache, ScratchAllocator, acquire}
 use Rattle.rules.specs.Patch.{Entry, Patch, Sorted, nothingSorted, refused, resolved, cacheAfter, add, sorted, entryConditions, patchConditions, run, resolve}
-
-abbrev pub conditionAt : List Condition → ℕ → Condition
-conditionAt l i = getD l i (cond 0 false)
-
--- one of the conditions has the number n and holds, and none earlier does
-pub record Given (l : List Condition) (n : ℕ) : Type 0 where
-  pub at : ℕ
-  pub is : at < length l
-  pub number : conditionAt l at .number ≡ n
-  pub holds : conditionAt l at .holds ≡ true
-  pub earlier : (k : ℕ) → k < at → conditionAt l k .holds ≡ false
-
-abbrev pub NoneHolds : List Condition → Type 0
-NoneHolds l = (i : ℕ) → i < length l → conditionAt l i .holds ≡ false
 
 -- 17: "a slot is needed, its stack is empty and L are made"
 abbrev pub ranOut : Option ScratchAllocator → Bool

@@ -1,6 +1,6 @@
 -- 01, Scratch keeper. A step answers none where 17 is given: "a slot is needed, its stack is empty and L are made".
 use Prim.Native.Nat.{ℕ, _+_}
-use mathlib.Core.Bool.{Bool, true, false}
+use mathlib.Core.Bool.{Bool, false}
 use mathlib.Core.List.{List, [], _∷_}
 use mathlib.Core.Option.{Option, none, some}
 use lib.Dec.{ltb}

@@ -5,7 +5,7 @@ use mathlib.Core.Bool.{Bool, true, false}
 use mathlib.Core.List.{List}
 use mathlib.Core.Option.{some}
 use lib.ListN.{length, getD}
-use Rattle.entity.specs.Place.{Place, slot, samePlace}
+use Rattle.entity.specs.Place.{slot, samePlace}
 use Rattle.reginfo.specs.RegInfo.{RegInfo, inClass, ofBank, overlap}
 use Rattle.function.specs.Function.{Function, numValues, valueBank, rematClass, canRematerialize}
 use Rattle.rules.specs.Edit.{Edit}

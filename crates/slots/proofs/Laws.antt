@@ -14,7 +14,7 @@ use Rattle.entity.specs.Logic.{pick}
 use Rattle.rules.specs.Edit.{updated}
 use Rattle.slots.specs.declared.Popped.the-variants.{At, Empty}
 use Rattle.slots.specs.Stacks.{topFirst, depthOf, leftOf, ownOf, cacheOf, stacksOf, CacheFits, SlotsFit}
-use Rattle.slots.specs.Steps.{withoutTop, Cleared, Begun, Taken, PutBack, Committed}
+use Rattle.slots.specs.Steps.{Cleared, Begun, Taken, PutBack, Settled, Committed}
 
 -- ---- cells, the last first
 pub top-step : (t : List ℕ) (at n : ℕ) → 0 < n → topFirst t at n ≡ getD t (at + (n - 1)) 0 ∷ topFirst t at (n - 1)
@@ -53,19 +53,19 @@ pub length-stacks : (slots cache : List ℕ) (z : ℕ) → z < 32 → length (st
 length-stacks slots cache z h =
     ap length (stacks-in slots cache z h) ∙ length-append (topFirst slots (64 + z * 1024) (ownOf slots z)) (topFirst cache (64 + z * 2048) (leftOf slots z)) ∙ rw (length-top slots (64 + z * 1024) (ownOf slots z), length-top cache (64 + z * 2048) (leftOf slots z))
 
--- both at once: equal stacks below 32 are equal stacks
-stacks-by : (slots cache slots′ cache′ : List ℕ) (y : ℕ) → (y < 32 → stacksOf slots cache y ≡ stacksOf slots′ cache′ y) → stacksOf slots cache y ≡ stacksOf slots′ cache′ y
-stacks-by slots cache slots′ cache′ y e = go (ltb y 32) refl
+-- only the stacks below 32 can differ
+stacks-by : (slots slots′ cache : List ℕ) (y : ℕ) → (y < 32 → stacksOf slots cache y ≡ stacksOf slots′ cache y) → stacksOf slots cache y ≡ stacksOf slots′ cache y
+stacks-by slots slots′ cache y e = go (ltb y 32) refl
   where
-    go : (b : Bool) → ltb y 32 ≡ b → stacksOf slots cache y ≡ stacksOf slots′ cache′ y
+    go : (b : Bool) → ltb y 32 ≡ b → stacksOf slots cache y ≡ stacksOf slots′ cache y
     go true l = e (ltb-true y 32 l)
-    go false l = let h : 32 ≤ y = ltb-false y 32 l in stacks-out slots cache y h ∙ sym (stacks-out slots′ cache′ y h)
+    go false l = let h : 32 ≤ y = ltb-false y 32 l in stacks-out slots cache y h ∙ sym (stacks-out slots′ cache y h)
 
 -- a store that is no part of stack y
 stacks-set : (slots cache : List ℕ) (i v y : ℕ) → (y < 32 → (y ≡ i → ⊥) × (32 + y ≡ i → ⊥) × ((j : ℕ) → j < ownOf slots y → 64 + y * 1024 + j ≡ i → ⊥)) → stacksOf (set slots i v) cache y ≡ stacksOf slots cache y
 unfolding stacksOf
 stacks-set slots cache i v y h =
-    stacks-by (set slots i v) cache slots cache y
+    stacks-by (set slots i v) slots cache y
     (λ l. let n = h l in rw (getD-set-other slots i (32 + y) v 0 (n .1), getD-set-other slots i y v 0 (n .0), top-set slots i v (64 + y * 1024) (ownOf slots y) (n .2)))
 
 updated-by : (f g : ℕ → List ℕ) (z : ℕ) (l : List ℕ) → f z ≡ l → ((y : ℕ) → (y ≡ z → ⊥) → f y ≡ g y) → f ≡ updated z l g
@@ -191,6 +191,7 @@ copied-more slots cache z long low k y h = go (eqb y z) refl
   where
     u : List ℕ
     u = set slots z (getD cache z 0)
+
     go : (b : Bool) → eqb y z ≡ b → (getD (set u (32 + z) 0) y 0 ≡ getD cache y 0) × (getD (set u (32 + z) 0) (32 + y) 0 ≡ 0)
     go true e =
         rw (eqb-true y z e)
@@ -232,3 +233,81 @@ cleared cache k =
     go : (y : ℕ) (b : Bool) → ltb y 32 ≡ b → pick b (topFirst cache (64 + y * 2048) (depthOf cache y)) [] ≡ []
     go y true e = let h : y < 32 = ltb-true y 32 e in rw (k y (omega arith))
     go y false e = refl
+
+-- ---- a stack is settled: i of those put back are copied
+pub record Settling (slots cache exit : List ℕ) (z left i : ℕ) : Type 0 where
+  pub here : topFirst exit (64 + z * 2048) (left + i) ≡ topFirst slots (64 + z * 1024) i ++ topFirst cache (64 + z * 2048) left
+  pub others : (y n : ℕ) → (y ≡ z → ⊥) → n ≤ 2048 → topFirst exit (64 + y * 2048) n ≡ topFirst cache (64 + y * 2048) n
+  pub depths : (y : ℕ) → y < 32 → depthOf exit y ≡ depthOf cache y
+  pub long : length exit ≡ length cache
+
+module _ (slots cache : List ℕ) (z left : ℕ) where
+  pub settle-start : Settling slots cache cache z left 0
+  unfolding topFirst
+  settle-start =
+      let e : left + 0 ≡ left = omega arith in
+      record { here = ap (topFirst cache (64 + z * 2048)) e; others = λ y n q h. refl; depths = λ y h. refl; long = refl }
+
+  module _ (exit : List ℕ) (i : ℕ) (room : left + i < 2048) (low : z < 32) (k : Settling slots cache exit z left i) where
+    pub settle-more : length cache ≡ 65600 → Settling slots cache (set exit (64 + z * 2048 + (left + i)) (getD slots (64 + z * 1024 + i) 0)) z left (i + 1)
+    settle-more long =
+        let at = 64 + z * 2048 + (left + i) in
+        let v = getD slots (64 + z * 1024 + i) 0 in
+        let e : left + (i + 1) ≡ left + i + 1 = omega arith in
+        record {
+          here = rw (e, top-more (set exit at v) (64 + z * 2048) (left + i), getD-set-same exit at v 0 (omega (arith, k .long)), top-set exit at v (64 + z * 2048) (left + i) (λ j h e. omega arith), k .here, top-more slots (64 + z * 1024) i);
+          others = λ y n q h. top-set exit at v (64 + y * 2048) n (λ j l e. q (omega arith)) ∙ k .others y n q h;
+          depths = λ y h. getD-set-other exit at y v 0 (λ e. omega arith) ∙ k .depths y h;
+          long = length-set exit at v ∙ k .long;
+        }
+
+  pub settled : (exit : List ℕ) (own : ℕ) → length cache ≡ 65600 → z < 32 → left ≡ leftOf slots z → own ≡ ownOf slots z → left + own ≤ 2048 → Settling slots cache exit z left own → Settled slots cache (set exit z (left + own)) z
+  settled exit own long low is has h k =
+      let depth : depthOf (set exit z (left + own)) z ≡ left + own = getD-set-same exit z (left + own) 0 (omega (arith, k .long)) in
+      record {
+        here = rw (depth, top-set exit z (left + own) (64 + z * 2048) (left + own) (λ j h e. omega arith), k .here, stacks-in slots cache z low, is, has);
+        deep = rw depth h;
+        others = λ y n q h. top-set exit z (left + own) (64 + y * 2048) n (λ j l e. omega arith) ∙ k .others y n q h;
+        depths = λ y q h. getD-set-other exit z y (left + own) 0 q ∙ k .depths y h;
+      }
+
+-- ---- a patch is committed: the stacks below z are settled, and the others are as they were
+pub record Committing (slots cache exit : List ℕ) (z : ℕ) : Type 0 where
+  pub done : (y : ℕ) → y < z → (topFirst exit (64 + y * 2048) (depthOf exit y) ≡ stacksOf slots cache y) × (depthOf exit y ≤ 2048)
+  pub rest : (y n : ℕ) → z ≤ y → n ≤ 2048 → topFirst exit (64 + y * 2048) n ≡ topFirst cache (64 + y * 2048) n
+
+module _ (slots cache : List ℕ) where
+  pub commit-start : Committing slots cache cache 0
+  commit-start = record { done = λ y h. absurd (omega arith); rest = λ y n l h. refl }
+
+  pub commit-more : (now exit : List ℕ) (z : ℕ) → z < 32 → leftOf slots z ≤ 2048 → Committing slots cache now z → Settled slots now exit z → Committing slots cache exit (z + 1)
+  commit-more now exit z low fit k s =
+      record { done = λ y h. go y h (eqb y z) refl; rest = λ y n l h. s .others y n (λ e. omega arith) h ∙ k .rest y n (omega arith) h }
+    where
+      same : stacksOf slots now z ≡ stacksOf slots cache z
+      same = rw (stacks-in slots now z low, stacks-in slots cache z low, k .rest z (leftOf slots z) (omega arith) fit)
+
+      go : (y : ℕ) → y < z + 1 → (b : Bool) → eqb y z ≡ b → (topFirst exit (64 + y * 2048) (depthOf exit y) ≡ stacksOf slots cache y) × (depthOf exit y ≤ 2048)
+      go y h true e = rw (eqb-true y z e) (s .here ∙ same, s .deep)
+      go y h false e =
+          let q : y ≡ z → ⊥ = eqb-false y z e in
+          let l : y < z = omega arith in
+          let d = k .done y l in
+          rw (s .depths y q (omega arith)) (s .others y (depthOf now y) q (d .1) ∙ d .0, d .1)
+
+  pub committed : (now : List ℕ) (made : ℕ) → length now ≡ 65600 → Committing slots cache now 32 → Committed slots cache (set now 32 made) made
+  unfolding cacheOf
+  committed now made long k =
+      record {
+        is = rw (getD-set-same now 32 made 0 (omega arith)) (ap (λ (f : ℕ → List ℕ). record { stacks = f; made = made }) (fun-ext (λ y. go y (ltb y 32) refl)));
+        fits = record { deep = λ y h. rw (depth y h) (k .done y h .1) };
+      }
+    where
+      depth : (y : ℕ) → y < 32 → depthOf (set now 32 made) y ≡ depthOf now y
+      depth y h = getD-set-other now 32 y made 0 (λ e. omega arith)
+
+      go : (y : ℕ) (b : Bool) → ltb y 32 ≡ b → pick b (topFirst (set now 32 made) (64 + y * 2048) (depthOf (set now 32 made) y)) [] ≡ stacksOf slots cache y
+      go y true e =
+          let h : y < 32 = ltb-true y 32 e in
+          rw (depth y h, top-set now 32 made (64 + y * 2048) (depthOf now y) (λ j l e. omega arith)) (k .done y h .0)
+      go y false e = sym (stacks-out slots cache y (ltb-false y 32 e))

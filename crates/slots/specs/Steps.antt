@@ -1,13 +1,13 @@
 -- What each step promises, of the tables before and after.
-use Prim.Native.Nat.{ℕ, _+_}
+use Prim.Native.Nat.{ℕ, _+_, _*_, _<_, _≤_}
 use mathlib.Core.Path.{_≡_}
 use mathlib.Core.List.{List, [], _∷_}
 use mathlib.Core.Option.{Option, none, some}
 use Rattle.rules.specs.Edit.{updated}
-use Rattle.rules.specs.Scratch.{Cache, emptyCache}
+use Rattle.rules.specs.Scratch.{emptyCache}
 use Rattle.slots.specs.declared.Popped.{Popped}
 use Rattle.slots.specs.declared.Popped.the-variants.{At, Empty}
-use Rattle.slots.specs.Stacks.{cacheOf, stacksOf, CacheFits, SlotsFit}
+use Rattle.slots.specs.Stacks.{topFirst, depthOf, cacheOf, stacksOf, CacheFits, SlotsFit}
 
 abbrev pub poppedOf : Popped → Option ℕ
 poppedOf (At s) = some s
@@ -39,6 +39,13 @@ pub record Taken (slots cache exit : List ℕ) (z : ℕ) (r : Popped) : Type 0 w
 pub record PutBack (slots exit : List ℕ) (z s : ℕ) : Type 0 where
   pub stacks : (cache : List ℕ) → stacksOf exit cache ≡ updated z (s ∷ stacksOf slots cache z) (stacksOf slots cache)
   pub fits : (n : ℕ) → SlotsFit n slots → SlotsFit (n + 1) exit
+
+-- the cache's stack z is what the patch left of it, and no other stack has changed
+pub record Settled (slots cache exit : List ℕ) (z : ℕ) : Type 0 where
+  pub here : topFirst exit (64 + z * 2048) (depthOf exit z) ≡ stacksOf slots cache z
+  pub deep : depthOf exit z ≤ 2048
+  pub others : (y n : ℕ) → (y ≡ z → ⊥) → n ≤ 2048 → topFirst exit (64 + y * 2048) n ≡ topFirst cache (64 + y * 2048) n
+  pub depths : (y : ℕ) → (y ≡ z → ⊥) → y < 32 → depthOf exit y ≡ depthOf cache y
 
 -- the cache is what the patch left
 pub record Committed (slots cache exit : List ℕ) (made : ℕ) : Type 0 where

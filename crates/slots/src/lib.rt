@@ -4,12 +4,13 @@ use entity::SpillSlot;
 use entity::narrow;
 use entity::wide;
 ghost use mathlib.Core.Path.{_≡_};
-ghost use Prim.Native.Nat.{_<_, _≤_};
+ghost use Prim.Native.Nat.{ℕ, _+_, _<_, _≤_};
 ghost use lib.ListN.{length};
-ghost use Rattle.slots.specs.Stacks.{cacheOf, leftOf, ownOf, CacheFits, SlotsFit};
-ghost use Rattle.slots.specs.Steps.{Cleared, Begun, Taken, PutBack};
+ghost use Rattle.slots.specs.Stacks.{cacheOf, leftOf, ownOf, stacksOf, CacheFits, SlotsFit};
+ghost use Rattle.slots.specs.Steps.{Cleared, Begun, Taken, PutBack, Settled, Committed};
 
 pub type SlotCache = [u16; 65600];
+
 pub type Slots = [u16; 32832];
 
 // What a stack gives.
@@ -94,4 +95,34 @@ pub fn put_back(slots: &mut Slots, z: usize, s: SpillSlot)
     let own = wide(slots[32 + z]);
     slots[64 + z * 1024 + own] = s.0;
     slots[32 + z] = narrow(own + 1);
+}
+
+// What was put back on a stack goes onto what is left of the cache's.
+fn settle(slots: &Slots, cache: &mut SlotCache, z: usize)
+    requires { ⌜ (z < 32) × (ownOf (now slots) z ≤ 1024) × (ownOf (now slots) z + leftOf (now slots) z ≤ 2048) ⌝ }
+    ensures { λ _. ⌜ Settled (now (slots .entry)) (now (cache .entry)) (now (cache .exit)) z ⌝ }
+{
+    told_cache(*cache);
+    let left = wide(slots[z]);
+    let own = wide(slots[32 + z]);
+    let mut i: usize = 0;
+    while i < own {
+        cache[64 + z * 2048 + (left + i)] = slots[64 + z * 1024 + i];
+        i += 1;
+    }
+    cache[z] = narrow(left + own);
+}
+
+// The cache becomes what the patch left.
+pub fn commit(slots: &Slots, cache: &mut SlotCache, made: u16)
+    requires { ⌜ SlotsFit 1024 (now slots) × ((z : ℕ) → z < 32 → length (stacksOf (now slots) (now cache) z) ≤ 2048) ⌝ }
+    ensures { λ _. ⌜ Committed (now (slots .entry)) (now (cache .entry)) (now (cache .exit)) made ⌝ }
+{
+    let mut z: usize = 0;
+    while z < 32 {
+        settle(slots, cache, z);
+        z += 1;
+    }
+    told_cache(*cache);
+    cache[32] = made;
 }

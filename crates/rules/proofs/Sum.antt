@@ -1,9 +1,25 @@
--- Sums over the first n numbers.
+-- Sums over the first n numbers, and tests as numbers.
 use Prim.Native.Nat.{ℕ, zero, suc, _+_, _<_, _≤_}
 use mathlib.Core.Path.{_≡_, refl, subst}
+use mathlib.Core.Bool.{Bool, true, false}
 use mathlib.Core.Logic.{⊎-elim}
 use native.Mathlib.Omega.{arith}
-use Rattle.machine.proofs.Steps.{same?}
+use Rattle.rules.proofs.Steps.{same?}
+
+-- 1 where a test is passed
+unfoldable pub bit : Bool → ℕ
+bit true = 1
+bit false = 0
+
+pub bit-yes : (b : Bool) → b ≡ true → bit b ≡ 1
+unfolding bit
+bit-yes true e = refl
+bit-yes false e = let z : _≡_ {A = ℕ} 0 1 = cc in absurd (omega arith)
+
+pub bit-le : (a b : Bool) → (a ≡ true → b ≡ true) → bit a ≤ bit b
+unfolding bit
+bit-le true b h = omega (arith, bit-yes b (h refl))
+bit-le false b h = omega arith
 
 unfoldable pub sum : (ℕ → ℕ) → ℕ → ℕ
 sum f zero = 0
@@ -37,3 +53,8 @@ pub sum-ones : (n : ℕ) → sum (λ k. 1) n ≡ n
 unfolding sum
 sum-ones zero = refl
 sum-ones (suc n) = omega (arith, sum-ones n)
+
+pub sum-le : (f g : ℕ → ℕ) (n : ℕ) → ((k : ℕ) → k < n → f k ≤ g k) → sum f n ≤ sum g n
+unfolding sum
+sum-le f g zero h = omega arith
+sum-le f g (suc n) h = omega (arith, h n (omega arith), sum-le f g n (λ k l. h k (omega arith)))

@@ -1,7 +1,7 @@
 -- What holds of a step that may be refused, of a branch, of steps one after the other and of a function changed at one place.
 use Prim.Native.Nat.{ℕ, zero, suc, _+_, _<_, _≤_}
 use mathlib.Core.Path.{_≡_, refl}
-use mathlib.Core.Bool.{Bool, true, false}
+use mathlib.Core.Bool.{Bool, true, false, false≢true}
 use mathlib.Core.List.{List, [], _∷_, reverse, reverseAux}
 use mathlib.Core.Option.{Option, none, some}
 use mathlib.Core.Logic.{_⊎_, inl, inr}
@@ -9,8 +9,8 @@ use native.Mathlib.Omega.{arith}
 use lib.Dec.{eqb}
 use lib.ListN.{length, getD}
 use borrow.Author.Tests.{eqb-true, eqb-false}
-use Rattle.entity.specs.Logic.{pick, indices}
+use Rattle.entity.specs.Logic.{pick, or, has, indices}
 use Rattle.rules.specs.Edit.{updated, andThen, each}
 
 -- what holds of a result, unless it was refused
 abbrev pub All : {A : Type 0} → (A → Type 0) → Option A → Type 0
@@ -60,6 +60,15 @@ every-reverseAux P (x ∷ l) r h k = every-reverseAux P l (x ∷ r) (h .1) (h .0
 
 pub every-reverse : {A : Type 0} (P : A → Type 0) (l : List A) → Every P l → Every P (reverse l)
 every-reverse P l h = every-reverseAux P l [] h tt
+
+pub every-has : (P : ℕ → Type 0) (l : List ℕ) (x : ℕ) → Every P l → has x l ≡ true → P x
+unfolding has
+every-has P [] x h e = absurd (false≢true e)
+every-has P (y ∷ l) x h e = go (eqb x y) refl e (every-has P l x (h .1))
+  where
+    go : (b : Bool) → eqb x y ≡ b → or b (has x l) ≡ true → (has x l ≡ true → P x) → P x
+    go true q e on = rw (eqb-true x y q) (h .0)
+    go false q e on = on e
 
 pub every-index : (n i m : ℕ) → i + m ≤ n → Every (λ k. k < n) (indices i m)
 unfolding indices

@@ -1,0 +1,32 @@
+-- How many moves are not visited yet.
+use Prim.Native.Nat.{ℕ, suc, _<_, _≤_}
+use mathlib.Core.Path.{_≡_, refl, ap}
+use mathlib.Core.Bool.{true, false≢true}
+use native.Mathlib.Omega.{arith}
+use Rattle.rules.specs.Edit.{updated}
+use Rattle.rules.specs.Order.{State, Pending, Done, isNew}
+use Rattle.rules.proofs.Steps.{updated-at, updated-same, updated-other}
+use Rattle.rules.proofs.Sum.{bit, bit-yes, bit-le, sum, sum-change, sum-le, sum-ones}
+
+module _ (n : ℕ) where
+  pub news : (ℕ → State) → ℕ
+  news s = sum (λ k. bit (isNew (s k))) n
+
+  pub news-all : (s : ℕ → State) → news s ≤ n
+  unfolding news bit
+  news-all s = omega (arith, sum-le (λ k. bit (isNew (s k))) (λ k. 1) n (λ k l. bit-le (isNew (s k)) true (λ _. refl)), sum-ones n)
+
+  -- to open a move leaves one fewer, to close one no more
+  pub news-open : (i : ℕ) (s : ℕ → State) → i < n → isNew (s i) ≡ true → news s ≡ suc (news (updated i Pending s))
+  unfolding news bit
+  news-open i s il e =
+      omega (
+        arith,
+        sum-change (λ k. bit (isNew (updated i Pending s k))) (λ k. bit (isNew (s k))) n i il (λ k d. ap (λ (z : State). bit (isNew z)) (updated-other i Pending s k d)),
+        ap (λ (z : State). bit (isNew z)) (updated-same i Pending s),
+        bit-yes (isNew (s i)) e,
+      )
+
+  pub news-close : (i : ℕ) (s : ℕ → State) → news (updated i Done s) ≤ news s
+  unfolding news
+  news-close i s = sum-le _ _ n (λ k l. bit-le _ _ (updated-at (λ z. isNew z ≡ true → isNew (s k) ≡ true) i Done s k (λ _ e. absurd (false≢true e)) (λ _ e. e)))

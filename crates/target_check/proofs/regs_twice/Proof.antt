@@ -1,0 +1,77 @@
+-- A search over the registers.
+use Prim.Native.Nat.{ℕ, _+_}
+use mathlib.Core.Path.{_≡_, sym, _∙_}
+use mathlib.Core.Bool.{Bool}
+use mathlib.Core.List.{List}
+use native.Mathlib.Omega.{arith}
+use borrow.Author.Needs.{needs}
+use Rattle.entity.specs.Logic.{any, twice, indices}
+use Rattle.entity.proofs.Laws.{indices-step}
+use Rattle.reginfo.specs.RegInfo.{numRegs, regUnits}
+use Rattle.reginfo.specs.Table.{regInfoOf}
+use Rattle.target_limits.proofs.Laws.{any-here, any-on}
+use Rattle.target_limits.proofs.Limits.{counts-of, regs-few}
+use Rattle.target_check.proofs.regs_twice.Statement.{statement}
+use Rattle.target_check.proofs.regs_twice.Tie as tie
+
+abbrev bad : List ℕ → ℕ → Bool
+bad t r = twice (regUnits (regInfoOf t) r)
+
+abbrev Inv-loop : tie.InvT-loop
+Inv-loop t i₀ left₀ i left = (any (bad t) (indices 0 (numRegs (regInfoOf t))) ≡ any (bad t) (indices i left)) × (i + left ≡ numRegs (regInfoOf t))
+
+abbrev μ-loop : tie.MeasureT-loop
+μ-loop t i₀ left₀ i left = left
+
+num-regs-requires : tie.Need-num-regs-requires Inv-loop μ-loop
+num-regs-requires c κs = search needs
+
+loop-holds : tie.Need-loop-holds Inv-loop μ-loop
+loop-holds c = (rw (c .num-regs .ensures), omega arith)
+
+units-twice-requires : tie.Need-units-twice-requires Inv-loop μ-loop
+units-twice-requires c κs = (c .before .before .before .pre, omega arith)
+
+returns : tie.Need-returns Inv-loop μ-loop
+returns c =
+    let turn = c .before .before .before .loop in
+    sym (turn .inv .0 ∙ any-here (bad (c .before .before .before .before .before .args .t .now)) (indices-step (turn .i) (turn .left) (c .before .before .loop-test .taken)) (sym (c .before .units-twice .ensures) ∙ c .if1 .taken))
+
+add-i : tie.Need-add-i Inv-loop μ-loop
+add-i c =
+    let start = c .before .before .before .before .before in
+    omega (arith, regs-few (regInfoOf (start .args .t .now)) (counts-of (regInfoOf (start .args .t .now)) (start .pre)))
+
+sub-left : tie.Need-sub-left Inv-loop μ-loop
+sub-left c = search needs
+
+loop-less : tie.Need-loop-less Inv-loop μ-loop
+loop-less c = search needs
+
+loop-again : tie.Need-loop-again Inv-loop μ-loop
+loop-again c =
+    let turn = c .before .before .before .loop in
+    (turn .inv .0 ∙ any-on (bad (c .before .before .before .before .before .args .t .now)) (indices-step (turn .i) (turn .left) (c .before .before .loop-test .taken)) (sym (c .before .units-twice .ensures) ∙ c .if1 .left), omega arith)
+
+returns-2 : tie.Need-returns-2 Inv-loop μ-loop
+unfolding any indices
+returns-2 c =
+    let turn = c .before .loop in
+    let z : turn .left ≡ 0 = omega arith in
+    sym (turn .inv .0 ∙ rw z)
+
+pub regs-twice-spec : {M : Type 1} → statement M
+regs-twice-spec =
+    tie.close
+    (tie.spec
+    Inv-loop
+    μ-loop
+    num-regs-requires
+    loop-holds
+    units-twice-requires
+    returns
+    add-i
+    sub-left
+    loop-less
+    loop-again
+    returns-2)

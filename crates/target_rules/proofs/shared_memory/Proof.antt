@@ -1,0 +1,80 @@
+-- A search over the registers.
+use Prim.Native.Nat.{ℕ, _+_}
+use mathlib.Core.Path.{_≡_, sym, _∙_}
+use mathlib.Core.Bool.{Bool}
+use mathlib.Core.List.{List}
+use native.Mathlib.Omega.{arith}
+use borrow.Author.Needs.{needs}
+use Rattle.entity.specs.Logic.{any, indices}
+use Rattle.entity.proofs.Laws.{indices-step}
+use Rattle.reginfo.specs.RegInfo.{numRegs}
+use Rattle.reginfo.specs.Table.{regInfoOf}
+use Rattle.reginfo.specs.Refused.{sharedMemory}
+use Rattle.target_limits.proofs.Laws.{any-here, any-on}
+use Rattle.target_limits.proofs.Limits.{regs-few, counts-of}
+use Rattle.target_rules.specs.Rules.{sharedReg}
+use Rattle.target_rules.proofs.shared_memory.Statement.{statement}
+use Rattle.target_rules.proofs.shared_memory.Tie as tie
+
+abbrev bad : List ℕ → ℕ → Bool
+bad t = sharedReg (regInfoOf t)
+
+abbrev Inv-loop : tie.InvT-loop
+Inv-loop t i₀ left₀ i left = (any (bad t) (indices 0 (numRegs (regInfoOf t))) ≡ any (bad t) (indices i left)) × (i + left ≡ numRegs (regInfoOf t))
+
+abbrev μ-loop : tie.MeasureT-loop
+μ-loop t i₀ left₀ i left = left
+
+num-regs-requires : tie.Need-num-regs-requires Inv-loop μ-loop
+num-regs-requires c κs = search needs
+
+loop-holds : tie.Need-loop-holds Inv-loop μ-loop
+loop-holds c = (rw (c .num-regs .ensures), omega arith)
+
+reg-shared-requires : tie.Need-reg-shared-requires Inv-loop μ-loop
+reg-shared-requires c κs = (c .before .before .before .pre, omega arith)
+
+returns : tie.Need-returns Inv-loop μ-loop
+unfolding sharedMemory
+returns c =
+    let turn = c .before .before .before .loop in
+    sym (turn .inv .0 ∙ any-here (bad (c .before .before .before .before .before .args .t .now)) (indices-step (turn .i) (turn .left) (c .before .before .loop-test .taken)) (sym (c .before .reg-shared .ensures) ∙ c .if1 .taken))
+
+add-i : tie.Need-add-i Inv-loop μ-loop
+add-i c =
+    let start = c .before .before .before .before .before in
+    omega (arith, regs-few (regInfoOf (start .args .t .now)) (counts-of (regInfoOf (start .args .t .now)) (start .pre)))
+
+sub-left : tie.Need-sub-left Inv-loop μ-loop
+sub-left c = search needs
+
+loop-less : tie.Need-loop-less Inv-loop μ-loop
+loop-less c = search needs
+
+loop-again : tie.Need-loop-again Inv-loop μ-loop
+loop-again c =
+    let turn = c .before .before .before .loop in
+    (turn .inv .0 ∙ any-on (bad (c .before .before .before .before .before .args .t .now)) (indices-step (turn .i) (turn .left) (c .before .before .loop-test .taken)) (sym (c .before .reg-shared .ensures) ∙ c .if1 .left), omega arith)
+
+returns-2 : tie.Need-returns-2 Inv-loop μ-loop
+unfolding any indices sharedMemory
+returns-2 c =
+    let turn = c .before .loop in
+    let z : turn .left ≡ 0 = omega arith in
+    sym (turn .inv .0 ∙ rw z)
+
+pub shared-memory-spec : {M : Type 1} → statement M
+shared-memory-spec =
+    tie.close
+    (tie.spec
+    Inv-loop
+    μ-loop
+    num-regs-requires
+    loop-holds
+    reg-shared-requires
+    returns
+    add-i
+    sub-left
+    loop-less
+    loop-again
+    returns-2)

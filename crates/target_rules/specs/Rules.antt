@@ -1,0 +1,39 @@
+-- The rules 4 to 7 of a target, at one register, class or bank.
+use Prim.Native.Nat.{ℕ}
+use mathlib.Core.Bool.{Bool}
+use lib.ListN.{length}
+use lib.Dec.{eqb}
+use Rattle.entity.specs.Logic.{and, or, no, any, has, meets}
+use Rattle.reginfo.specs.RegInfo.{RegInfo, numRegs, topLevelClass, stackToStackClass, bankForReg, regUnits, bankForClass, classMembers, allocationOrder, isMemoryReg, includesSpillslots, lastInOrder}
+use Rattle.reginfo.specs.Refused.{some-below}
+
+-- 4: r and q are of one bank and have not equally many units
+abbrev pub widthsDiffer : RegInfo → ℕ → ℕ → Bool
+widthsDiffer t r q = and (eqb (bankForReg t r) (bankForReg t q)) (no (eqb (length (regUnits t r)) (length (regUnits t q))))
+
+-- 5: the register is not of the bank; it is no member of the class
+abbrev pub foreignTo : RegInfo → ℕ → ℕ → Bool
+foreignTo t b r = no (eqb (bankForReg t r) b)
+
+abbrev pub noMember : RegInfo → ℕ → ℕ → Bool
+noMember t c r = no (has r (classMembers t c))
+
+abbrev pub foreignClass : RegInfo → ℕ → Bool
+foreignClass t c = or (any (foreignTo t (bankForClass t c)) (classMembers t c)) (any (noMember t c) (allocationOrder t c))
+
+abbrev pub foreignBank : RegInfo → ℕ → Bool
+foreignBank t b = or (no (eqb (bankForClass t (topLevelClass t b)) b)) (no (eqb (bankForClass t (stackToStackClass t b)) b))
+
+-- 6: q isn't memory and shares a unit with r
+abbrev pub sharesWith : RegInfo → ℕ → ℕ → Bool
+sharesWith t r q = and (no (isMemoryReg t q)) (meets (regUnits t r) (regUnits t q))
+
+abbrev pub sharedReg : RegInfo → ℕ → Bool
+sharedReg t r = and (isMemoryReg t r) (some-below (numRegs t) (sharesWith t r))
+
+-- 7: the bank's two classes; the class's order
+abbrev pub unfitBank : RegInfo → ℕ → Bool
+unfitBank t b = or (no (includesSpillslots t (topLevelClass t b))) (or (includesSpillslots t (stackToStackClass t b)) (any (λ r. isMemoryReg t r) (allocationOrder t (stackToStackClass t b))))
+
+abbrev pub unfitOrder : RegInfo → ℕ → Bool
+unfitOrder t c = and (no (includesSpillslots t c)) (or (eqb (length (allocationOrder t c)) 0) (isMemoryReg t (lastInOrder t c)))

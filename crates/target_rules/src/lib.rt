@@ -1,0 +1,347 @@
+// 01, The target: its rules 4 to 7, tested over a lent table whose target is within the limits.
+use entity::PhysReg;
+use entity::RegBank;
+use entity::RegClass;
+use reginfo::RegInfo;
+use reginfo::bank_for_class;
+use reginfo::bank_for_reg;
+use reginfo::class_has_reg;
+use reginfo::class_includes_spillslots;
+use reginfo::is_memory_reg;
+use reginfo::num_banks;
+use reginfo::num_classes;
+use reginfo::num_members;
+use reginfo::num_reg_units;
+use reginfo::num_regs;
+use reginfo::order_last;
+use reginfo::order_len;
+use reginfo::regs_overlap;
+use reginfo::stack_to_stack_class;
+use reginfo::top_level_class;
+use target_limits::members_from;
+use target_limits::order_from;
+ghost use mathlib.Core.Path.{_≡_};
+ghost use mathlib.Core.Bool.{true, false};
+ghost use Prim.Native.Nat.{_<_, _≤_, _+_};
+ghost use Rattle.entity.specs.Logic.{any, cells};
+ghost use Rattle.reginfo.specs.RegInfo.{numBanks, numRegs, numClasses, bankForClass, classMembers, allocationOrder, isMemoryReg};
+ghost use Rattle.reginfo.specs.Table.{regInfoOf, Indexed};
+ghost use Rattle.reginfo.specs.Refused.{some-below, allBelow, outsideLimits, unequalWidths, foreignMember, sharedMemory, unfitClass};
+ghost use Rattle.target_rules.specs.Rules.{widthsDiffer, foreignTo, noMember, foreignClass, foreignBank, sharesWith, sharedReg, unfitBank, unfitOrder};
+
+// 4: the registers of a bank have equally many units.
+fn widths_differ(t: &RegInfo, r: PhysReg, q: PhysReg) -> bool
+    requires { ⌜ (outsideLimits (regInfoOf (now t)) ≡ false) × (r .0 < numRegs (regInfoOf (now t))) × (q .0 < numRegs (regInfoOf (now t))) ⌝ }
+    ensures { λ d. ⌜ d ≡ widthsDiffer (regInfoOf (now (t .entry))) (r .0) (q .0) ⌝ }
+{
+    let a = bank_for_reg(t, r);
+    let b = bank_for_reg(t, q);
+    if a.0 != b.0 {
+        return false;
+    }
+    let n = num_reg_units(t, r);
+    let m = num_reg_units(t, q);
+    if n == m {
+        return false;
+    }
+    true
+}
+
+fn reg_widths(t: &RegInfo, r: PhysReg) -> bool
+    requires { ⌜ (outsideLimits (regInfoOf (now t)) ≡ false) × (r .0 < numRegs (regInfoOf (now t))) ⌝ }
+    ensures { λ d. ⌜ d ≡ some-below (numRegs (regInfoOf (now (t .entry)))) (widthsDiffer (regInfoOf (now (t .entry))) (r .0)) ⌝ }
+{
+    let mut i: u16 = 0;
+    let mut left = num_regs(t);
+    while 0 < left {
+        if widths_differ(t, r, PhysReg(i)) {
+            return true;
+        }
+        i += 1;
+        left -= 1;
+    }
+    false
+}
+
+pub fn unequal_widths(t: &RegInfo) -> bool
+    requires { ⌜ outsideLimits (regInfoOf (now t)) ≡ false ⌝ }
+    ensures { λ r. ⌜ r ≡ unequalWidths (regInfoOf (now (t .entry))) ⌝ }
+{
+    let mut i: u16 = 0;
+    let mut left = num_regs(t);
+    while 0 < left {
+        if reg_widths(t, PhysReg(i)) {
+            return true;
+        }
+        i += 1;
+        left -= 1;
+    }
+    false
+}
+
+// 5: a class's members are of its bank. Of the registers at the n cells from `at` on, one is not.
+fn regs_foreign(t: &RegInfo, at: usize, n: usize, b: RegBank) -> bool
+    requires { ⌜ (outsideLimits (regInfoOf (now t)) ≡ false) × (at + n ≤ 107520) × (allBelow (numRegs (regInfoOf (now t))) (cells (now t) at n) ≡ true) ⌝ }
+    ensures { λ f. ⌜ f ≡ any (foreignTo (regInfoOf (now (t .entry))) (b .0)) (cells (now (t .entry)) at n) ⌝ }
+{
+    let mut i = at;
+    let mut left = n;
+    while 0 < left {
+        let o = bank_for_reg(t, PhysReg(t[i]));
+        if o.0 != b.0 {
+            return true;
+        }
+        i += 1;
+        left -= 1;
+    }
+    false
+}
+
+fn members_foreign(t: &RegInfo, c: RegClass) -> bool
+    requires { ⌜ (outsideLimits (regInfoOf (now t)) ≡ false) × (c .0 < numClasses (regInfoOf (now t))) ⌝ }
+    ensures { λ f. ⌜ f ≡ any (foreignTo (regInfoOf (now (t .entry))) (bankForClass (regInfoOf (now (t .entry))) (c .0))) (classMembers (regInfoOf (now (t .entry))) (c .0)) ⌝ }
+{
+    let b = bank_for_class(t, c);
+    let at = members_from(c);
+    let n = num_members(t, c);
+    regs_foreign(t, at, n, b)
+}
+
+// An order lists members only. The index of the members is right.
+fn order_foreign(t: &RegInfo, c: RegClass) -> bool
+    requires { ⌜ (outsideLimits (regInfoOf (now t)) ≡ false) × (c .0 < numClasses (regInfoOf (now t))) × Indexed (now t) ⌝ }
+    ensures { λ f. ⌜ f ≡ any (noMember (regInfoOf (now (t .entry))) (c .0)) (allocationOrder (regInfoOf (now (t .entry))) (c .0)) ⌝ }
+{
+    let mut i = order_from(c);
+    let mut left = order_len(t, c);
+    while 0 < left {
+        if !class_has_reg(t, c, PhysReg(t[i])) {
+            return true;
+        }
+        i += 1;
+        left -= 1;
+    }
+    false
+}
+
+fn class_foreign(t: &RegInfo, c: RegClass) -> bool
+    requires { ⌜ (outsideLimits (regInfoOf (now t)) ≡ false) × (c .0 < numClasses (regInfoOf (now t))) × Indexed (now t) ⌝ }
+    ensures { λ f. ⌜ f ≡ foreignClass (regInfoOf (now (t .entry))) (c .0) ⌝ }
+{
+    if members_foreign(t, c) {
+        return true;
+    }
+    order_foreign(t, c)
+}
+
+fn classes_foreign(t: &RegInfo) -> bool
+    requires { ⌜ (outsideLimits (regInfoOf (now t)) ≡ false) × Indexed (now t) ⌝ }
+    ensures { λ f. ⌜ f ≡ some-below (numClasses (regInfoOf (now (t .entry)))) (foreignClass (regInfoOf (now (t .entry)))) ⌝ }
+{
+    let mut i: u16 = 0;
+    let mut left = num_classes(t);
+    while 0 < left {
+        if class_foreign(t, RegClass(i)) {
+            return true;
+        }
+        i += 1;
+        left -= 1;
+    }
+    false
+}
+
+// A bank's two classes are of that bank.
+fn bank_foreign(t: &RegInfo, b: RegBank) -> bool
+    requires { ⌜ (outsideLimits (regInfoOf (now t)) ≡ false) × (b .0 < numBanks (regInfoOf (now t))) ⌝ }
+    ensures { λ f. ⌜ f ≡ foreignBank (regInfoOf (now (t .entry))) (b .0) ⌝ }
+{
+    let top = top_level_class(t, b);
+    let x = bank_for_class(t, top);
+    if x.0 != b.0 {
+        return true;
+    }
+    let stack = stack_to_stack_class(t, b);
+    let y = bank_for_class(t, stack);
+    if y.0 != b.0 {
+        return true;
+    }
+    false
+}
+
+fn banks_foreign(t: &RegInfo) -> bool
+    requires { ⌜ outsideLimits (regInfoOf (now t)) ≡ false ⌝ }
+    ensures { λ f. ⌜ f ≡ some-below (numBanks (regInfoOf (now (t .entry)))) (foreignBank (regInfoOf (now (t .entry)))) ⌝ }
+{
+    let mut i: u16 = 0;
+    let mut left = num_banks(t);
+    while 0 < left {
+        if bank_foreign(t, RegBank(i)) {
+            return true;
+        }
+        i += 1;
+        left -= 1;
+    }
+    false
+}
+
+pub fn foreign_member(t: &RegInfo) -> bool
+    requires { ⌜ (outsideLimits (regInfoOf (now t)) ≡ false) × Indexed (now t) ⌝ }
+    ensures { λ r. ⌜ r ≡ foreignMember (regInfoOf (now (t .entry))) ⌝ }
+{
+    if classes_foreign(t) {
+        return true;
+    }
+    banks_foreign(t)
+}
+
+// 6: a memory register shares no unit with one that isn't memory.
+fn shares_with(t: &RegInfo, r: PhysReg, q: PhysReg) -> bool
+    requires { ⌜ (outsideLimits (regInfoOf (now t)) ≡ false) × (r .0 < numRegs (regInfoOf (now t))) × (q .0 < numRegs (regInfoOf (now t))) ⌝ }
+    ensures { λ s. ⌜ s ≡ sharesWith (regInfoOf (now (t .entry))) (r .0) (q .0) ⌝ }
+{
+    if is_memory_reg(t, q) {
+        return false;
+    }
+    regs_overlap(t, r, q)
+}
+
+fn reg_shares(t: &RegInfo, r: PhysReg) -> bool
+    requires { ⌜ (outsideLimits (regInfoOf (now t)) ≡ false) × (r .0 < numRegs (regInfoOf (now t))) ⌝ }
+    ensures { λ s. ⌜ s ≡ some-below (numRegs (regInfoOf (now (t .entry)))) (sharesWith (regInfoOf (now (t .entry))) (r .0)) ⌝ }
+{
+    let mut i: u16 = 0;
+    let mut left = num_regs(t);
+    while 0 < left {
+        if shares_with(t, r, PhysReg(i)) {
+            return true;
+        }
+        i += 1;
+        left -= 1;
+    }
+    false
+}
+
+fn reg_shared(t: &RegInfo, r: PhysReg) -> bool
+    requires { ⌜ (outsideLimits (regInfoOf (now t)) ≡ false) × (r .0 < numRegs (regInfoOf (now t))) ⌝ }
+    ensures { λ s. ⌜ s ≡ sharedReg (regInfoOf (now (t .entry))) (r .0) ⌝ }
+{
+    if !is_memory_reg(t, r) {
+        return false;
+    }
+    reg_shares(t, r)
+}
+
+pub fn shared_memory(t: &RegInfo) -> bool
+    requires { ⌜ outsideLimits (regInfoOf (now t)) ≡ false ⌝ }
+    ensures { λ r. ⌜ r ≡ sharedMemory (regInfoOf (now (t .entry))) ⌝ }
+{
+    let mut i: u16 = 0;
+    let mut left = num_regs(t);
+    while 0 < left {
+        if reg_shared(t, PhysReg(i)) {
+            return true;
+        }
+        i += 1;
+        left -= 1;
+    }
+    false
+}
+
+// 7: the order of a stack class has no memory register. At the n cells from `at` on there is one.
+fn any_memory(t: &RegInfo, at: usize, n: usize) -> bool
+    requires { ⌜ (outsideLimits (regInfoOf (now t)) ≡ false) × (at + n ≤ 107520) × (allBelow (numRegs (regInfoOf (now t))) (cells (now t) at n) ≡ true) ⌝ }
+    ensures { λ m. ⌜ m ≡ any (λ r. isMemoryReg (regInfoOf (now (t .entry))) r) (cells (now (t .entry)) at n) ⌝ }
+{
+    let mut i = at;
+    let mut left = n;
+    while 0 < left {
+        if is_memory_reg(t, PhysReg(t[i])) {
+            return true;
+        }
+        i += 1;
+        left -= 1;
+    }
+    false
+}
+
+fn order_memory(t: &RegInfo, c: RegClass) -> bool
+    requires { ⌜ (outsideLimits (regInfoOf (now t)) ≡ false) × (c .0 < numClasses (regInfoOf (now t))) ⌝ }
+    ensures { λ m. ⌜ m ≡ any (λ r. isMemoryReg (regInfoOf (now (t .entry))) r) (allocationOrder (regInfoOf (now (t .entry))) (c .0)) ⌝ }
+{
+    let at = order_from(c);
+    let n = order_len(t, c);
+    any_memory(t, at, n)
+}
+
+// A top-level class includes slots, a stack class does not.
+fn bank_unfit(t: &RegInfo, b: RegBank) -> bool
+    requires { ⌜ (outsideLimits (regInfoOf (now t)) ≡ false) × (b .0 < numBanks (regInfoOf (now t))) ⌝ }
+    ensures { λ u. ⌜ u ≡ unfitBank (regInfoOf (now (t .entry))) (b .0) ⌝ }
+{
+    let top = top_level_class(t, b);
+    if !class_includes_spillslots(t, top) {
+        return true;
+    }
+    let stack = stack_to_stack_class(t, b);
+    if class_includes_spillslots(t, stack) {
+        return true;
+    }
+    order_memory(t, stack)
+}
+
+fn banks_unfit(t: &RegInfo) -> bool
+    requires { ⌜ outsideLimits (regInfoOf (now t)) ≡ false ⌝ }
+    ensures { λ u. ⌜ u ≡ some-below (numBanks (regInfoOf (now (t .entry)))) (unfitBank (regInfoOf (now (t .entry)))) ⌝ }
+{
+    let mut i: u16 = 0;
+    let mut left = num_banks(t);
+    while 0 < left {
+        if bank_unfit(t, RegBank(i)) {
+            return true;
+        }
+        i += 1;
+        left -= 1;
+    }
+    false
+}
+
+// A class without slots has an order, whose last register isn't memory.
+fn class_unfit(t: &RegInfo, c: RegClass) -> bool
+    requires { ⌜ (outsideLimits (regInfoOf (now t)) ≡ false) × (c .0 < numClasses (regInfoOf (now t))) ⌝ }
+    ensures { λ u. ⌜ u ≡ unfitOrder (regInfoOf (now (t .entry))) (c .0) ⌝ }
+{
+    if class_includes_spillslots(t, c) {
+        return false;
+    }
+    if order_len(t, c) == 0 {
+        return true;
+    }
+    let last = order_last(t, c);
+    is_memory_reg(t, last)
+}
+
+fn classes_unfit(t: &RegInfo) -> bool
+    requires { ⌜ outsideLimits (regInfoOf (now t)) ≡ false ⌝ }
+    ensures { λ u. ⌜ u ≡ some-below (numClasses (regInfoOf (now (t .entry)))) (unfitOrder (regInfoOf (now (t .entry)))) ⌝ }
+{
+    let mut i: u16 = 0;
+    let mut left = num_classes(t);
+    while 0 < left {
+        if class_unfit(t, RegClass(i)) {
+            return true;
+        }
+        i += 1;
+        left -= 1;
+    }
+    false
+}
+
+pub fn unfit_class(t: &RegInfo) -> bool
+    requires { ⌜ outsideLimits (regInfoOf (now t)) ≡ false ⌝ }
+    ensures { λ r. ⌜ r ≡ unfitClass (regInfoOf (now (t .entry))) ⌝ }
+{
+    if banks_unfit(t) {
+        return true;
+    }
+    classes_unfit(t)
+}
