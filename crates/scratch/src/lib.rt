@@ -210,6 +210,7 @@ impl ScratchAllocator {
             },
         }
     }
+
     // Brings back the evicted register, and evicts the order's last.
     fn evict(
         mut self,
