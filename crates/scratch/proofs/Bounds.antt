@@ -1,23 +1,22 @@
 -- How the bounds are carried from step to step.
 use Prim.Native.Nat.{ℕ, _+_, _<_, _≤_}
-use mathlib.Core.Path.{_≡_, refl, sym, ap, _∙_}
+use mathlib.Core.Path.{_≡_, refl}
 use mathlib.Core.Bool.{Bool, true, false}
 use mathlib.Core.List.{List, [], _∷_}
-use mathlib.Core.Option.{Option, none, some}
+use mathlib.Core.Option.{some}
 use native.Mathlib.Omega.{arith}
 use lib.Dec.{eqb}
 use borrow.Author.Tests.{eqb-true}
 use Rattle.entity.specs.Logic.{pick, or, has}
+use Rattle.entity.specs.declared.PhysReg.{PhysReg}
+use Rattle.entity.specs.declared.SpillSlot.{SpillSlot}
 use Rattle.entity.proofs.Laws.{has-getD}
-use Rattle.reginfo.specs.RegInfo.{numRegs}
 use Rattle.rules.specs.Edit.{updated}
 use Rattle.edit.specs.Buffer.{countOf}
 use Rattle.slots.specs.declared.Popped.{Popped}
-use Rattle.slots.specs.Stacks.{stacksOf, SlotsFit}
+use Rattle.slots.specs.Stacks.{stacksOf}
 use Rattle.slots.specs.Steps.{topOf, withoutTop, Taken, PutBack}
 use Rattle.slots.proofs.Laws.{fits-more}
-use Rattle.entity.specs.declared.PhysReg.{PhysReg}
-use Rattle.entity.specs.declared.SpillSlot.{SpillSlot}
 use Rattle.scratch.specs.declared.Evicted.{Evicted}
 use Rattle.scratch.specs.declared.Evicted.the-variants.{Nothing, Held}
 use Rattle.scratch.specs.declared.ScratchAllocator.{ScratchAllocator}

@@ -3,24 +3,29 @@ use Prim.Native.Nat.{ℕ, _+_, _<_, _≤_}
 use mathlib.Core.Path.{_≡_, refl, sym, ap, _∙_}
 use mathlib.Core.Bool.{Bool, true, false}
 use mathlib.Core.List.{List, [], _∷_}
-use mathlib.Core.Option.{Option, none, some}
+use mathlib.Core.Option.{Option, some}
 use native.Mathlib.Omega.{arith}
-use Rattle.function.specs.Table.{functionOf}
+use Rattle.entity.specs.declared.AllocationKind.{AllocationKind}
+use Rattle.entity.specs.declared.AllocationKind.the-variants as kind
 use Rattle.entity.specs.declared.PhysReg.{PhysReg}
 use Rattle.entity.specs.declared.SpillSlot.{SpillSlot}
 use Rattle.entity.specs.declared.Allocation.{Allocation}
 use Rattle.entity.specs.Logic.{pick, and, has}
-use Rattle.entity.specs.Place.{Place, reg, slot, codeOf, placeAt}
+use Rattle.entity.specs.Place.{Place, reg, slot, codeOf, placeAt, placeOf}
 use Rattle.entity.proofs.Laws.{place-there, code-there}
 use Rattle.reginfo.specs.RegInfo.{numRegs, numClasses, classMembers, allocationOrder, includesSpillslots, spillslotSize, stackToStackClass, lastInOrder, overlap, isMemory}
 use Rattle.reginfo.proofs.Accepted.{regs-fit, known-units, size-fits, ordered-fits, last-ordered}
+use Rattle.function.specs.Table.{functionOf}
+use Rattle.small_set.specs.Set.{setOf}
 use Rattle.rules.specs.Edit.{Move, EmergencySpill, EmergencyReload, find, andThen}
 use Rattle.rules.specs.Scratch as rules
 use Rattle.rules.specs.Scratch.{unevict, unevictAll, unevictForReg, slotScratch, evictLast, reuse, orScratch, getScratchReg, moveEdits, doMove, makeAvailable, makeUnavailable, releasePlace}
-use Rattle.small_set.specs.Set.{setOf}
-use Rattle.search.specs.Search.{barredBy, usableIn, withUnits, withoutUnits}
+use Rattle.search.specs.declared.Search.{Search}
+use Rattle.search.specs.declared.Search.the-variants as search
+use Rattle.search.specs.declared.Search.the-variants.{At}
+use Rattle.search.specs.Search.{searchOf, barredBy, usableIn, withUnits, withoutUnits}
 use Rattle.edit.specs.Buffer.{countOf, editsOf}
-use Rattle.slots.specs.declared.Popped.the-variants.{At, Empty}
+use Rattle.slots.specs.declared.Popped.the-variants as popped
 use Rattle.slots.specs.Stacks.{stacksOf}
 use Rattle.slots.specs.Steps as slots
 use Rattle.scratch.specs.declared.Evicted.{Evicted}
@@ -37,13 +42,13 @@ use Rattle.scratch.proofs.Steps.{took, made, all-none, for-none, for-ap
 pub last-low : (t f : List ℕ) (b c : ℕ) → Evictable t f b c → (r : ℕ) → r ≡ lastInOrder (T t) c → r < numRegs (T t)
 last-low t f b c ok r e = rw e (ordered-fits (T t) (ok .checked .target) c (ok .class) _ (last-ordered (T t) (ok .checked .target) c (ok .class) (ok .slotless)))
 
--- so has every register that a search finds
-pub found-low : (t f : List ℕ) (c : ℕ) (p : ℕ → Bool) (r : ℕ) → Checked t f → c < numClasses (T t) → some r ≡ find p (allocationOrder (T t) c) → r < numRegs (T t)
-found-low t f c p r ok h e = ordered-fits (T t) (ok .target) c h r (find-has p (allocationOrder (T t) c) r (sym e))
+-- what a search finds is a register
+pub found-low : (t f : List ℕ) (c : ℕ) (p : ℕ → Bool) (s : Search) (r : PhysReg) → Checked t f → c < numClasses (T t) → searchOf s ≡ find p (allocationOrder (T t) c) → s ≡ At r → r .0 < numRegs (T t)
+found-low t f c p s r ok h e q = ordered-fits (T t) (ok .target) c h (r .0) (find-has p (allocationOrder (T t) c) (r .0) (sym e ∙ ap searchOf q))
 
 module _ (t f cache : List ℕ) where
   -- a slot of the stack, and a new one
-  pub taken-top : (z : ℕ) (k : ScratchAllocator) (s s′ : List ℕ) (x : ℕ) → Stocked k s cache → slots.Taken s cache s′ z (At x) → Acquired t f cache z k s (record { slot = record { 0 = x }; allocator = k }) s′
+  pub taken-top : (z : ℕ) (k : ScratchAllocator) (s s′ : List ℕ) (x : ℕ) → Stocked k s cache → slots.Taken s cache s′ z (popped.At x) → Acquired t f cache z k s (record { slot = record { 0 = x }; allocator = k }) s′
   taken-top z k s s′ x h p =
       record {
         is = took (T t) (F f) z (cacheIn k s cache) (stacksOf s cache z) x (stacksOf s′ cache) (p .got) (p .stacks);
@@ -52,7 +57,7 @@ module _ (t f cache : List ℕ) where
         fits = λ a b n edits h. taken p (fewer (omega arith) (omega arith) (omega arith) h);
       }
 
-  pub taken-new : (z : ℕ) (k : ScratchAllocator) (s s′ : List ℕ) (x : ℕ) → functionOf f .slots ≤ 4096 → Stocked k s cache → slots.Taken s cache s′ z Empty → x ≡ functionOf f .slots + k .made → Acquired t f cache z k s (record { slot = record { 0 = x }; allocator = record { evicted = k .evicted; made = k .made + 1 } }) s′
+  pub taken-new : (z : ℕ) (k : ScratchAllocator) (s s′ : List ℕ) (x : ℕ) → functionOf f .slots ≤ 4096 → Stocked k s cache → slots.Taken s cache s′ z popped.Empty → x ≡ functionOf f .slots + k .made → Acquired t f cache z k s (record { slot = record { 0 = x }; allocator = record { evicted = k .evicted; made = k .made + 1 } }) s′
   taken-new z k s s′ x l h p e =
       record {
         is = rw e (made (T t) (F f) z (cacheIn k s cache) (stacksOf s cache z) (stacksOf s′ cache) (p .got) (p .stacks) (h .made));
@@ -92,17 +97,17 @@ module _ (t f cache : List ℕ) where
     brought-for-none e = record { is = sym (for-none (T t) (F f) (stateOf t f cache k w) p (ap evictedOf e)); fits = λ a b n h. h }
 
     module _ (r : PhysReg) (x : SpillSlot) (z : ℕ) (e : k .evicted ≡ Held r x z) where
-      pub brought-apart : false ≡ overlap (T t) p (reg (r .0)) → Brought t f cache k w k w (unevictForReg (T t) (F f) p)
-      brought-apart o =
+      pub brought-apart : (o : Bool) → o ≡ overlap (T t) p (reg (r .0)) → o ≡ false → Brought t f cache k w k w (unevictForReg (T t) (F f) p)
+      brought-apart o m n =
           record {
-            is = sym (for-apart (T t) (F f) (stateOf t f cache k w) p (record { reg = r .0; slot = x .0; size = z }) (ap evictedOf e) (sym o));
+            is = sym (for-apart (T t) (F f) (stateOf t f cache k w) p (record { reg = r .0; slot = x .0; size = z }) (ap evictedOf e) (sym m ∙ n));
             fits = λ a b n h. h;
           }
 
-      pub brought-met : (k′ : ScratchAllocator) (w′ : Tables) → true ≡ overlap (T t) p (reg (r .0)) → Brought t f cache k w k′ w′ (unevictAll (T t) (F f)) → Brought t f cache k w k′ w′ (unevictForReg (T t) (F f) p)
-      brought-met k′ w′ o h =
+      pub brought-met : (k′ : ScratchAllocator) (w′ : Tables) (o : Bool) → o ≡ overlap (T t) p (reg (r .0)) → o ≡ true → Brought t f cache k w k′ w′ (unevictAll (T t) (F f)) → Brought t f cache k w k′ w′ (unevictForReg (T t) (F f) p)
+      brought-met k′ w′ o m n h =
           record {
-            is = h .is ∙ sym (for-met (T t) (F f) (stateOf t f cache k w) p (record { reg = r .0; slot = x .0; size = z }) (ap evictedOf e) (sym o));
+            is = h .is ∙ sym (for-met (T t) (F f) (stateOf t f cache k w) p (record { reg = r .0; slot = x .0; size = z }) (ap evictedOf e) (sym m ∙ n));
             fits = h .fits;
           }
 
@@ -160,38 +165,40 @@ module _ (t f cache : List ℕ) where
       found-as k w r w′ (reuse (T t) (F f) [] b c) (reuse (T t) (F f) (evictedOf (k .evicted)) b c) (ap (λ (v : Evicted). reuse (T t) (F f) (evictedOf v) b c (stateOf t f cache k w)) e) h
 
   module _ (b c : ℕ) (k : ScratchAllocator) (w : Tables) (v : PhysReg) (x : SpillSlot) (z : ℕ) (e : k .evicted ≡ Held v x z) where
-    pub found-member : (p : Allocation) → Checked t f → v .0 < numRegs (T t) → p .0 ≡ codeOf (reg (v .0)) → true ≡ has (v .0) (classMembers (T t) c) → Found t f cache k w (record { place = p; allocator = k }) w (reuse (T t) (F f) (evictedOf (k .evicted)) b c)
-    found-member p ok h q m =
+    pub found-member : (p : Allocation) → Checked t f → v .0 < numRegs (T t) → p .0 ≡ codeOf (reg (v .0)) → (m : Bool) → m ≡ has (v .0) (classMembers (T t) c) → m ≡ true → Found t f cache k w (record { place = p; allocator = k }) w (reuse (T t) (F f) (evictedOf (k .evicted)) b c)
+    found-member p ok h q m n o =
         found-reg k w p (v .0) (reuse (T t) (F f) (evictedOf (k .evicted)) b c) ok q h
-        (reuse-member (T t) (F f) b c (stateOf t f cache k w) (evictedOf (k .evicted)) (record { reg = v .0; slot = x .0; size = z }) (ap evictedOf e) (sym m))
+        (reuse-member (T t) (F f) b c (stateOf t f cache k w) (evictedOf (k .evicted)) (record { reg = v .0; slot = x .0; size = z }) (ap evictedOf e) (sym n ∙ o))
 
-    pub found-stranger : (r : Scratch) (w′ : Tables) → false ≡ has (v .0) (classMembers (T t) c) → Found t f cache k w r w′ (reuse (T t) (F f) [] b c) → Found t f cache k w r w′ (reuse (T t) (F f) (evictedOf (k .evicted)) b c)
-    found-stranger r w′ m h =
+    pub found-stranger : (r : Scratch) (w′ : Tables) (m : Bool) → m ≡ has (v .0) (classMembers (T t) c) → m ≡ false → Found t f cache k w r w′ (reuse (T t) (F f) [] b c) → Found t f cache k w r w′ (reuse (T t) (F f) (evictedOf (k .evicted)) b c)
+    found-stranger r w′ m n o h =
         found-as k w r w′ (reuse (T t) (F f) [] b c) (reuse (T t) (F f) (evictedOf (k .evicted)) b c)
-        (reuse-stranger (T t) (F f) b c (stateOf t f cache k w) (evictedOf (k .evicted)) (record { reg = v .0; slot = x .0; size = z }) (ap evictedOf e) (sym m)) h
+        (reuse-stranger (T t) (F f) b c (stateOf t f cache k w) (evictedOf (k .evicted)) (record { reg = v .0; slot = x .0; size = z }) (ap evictedOf e) (sym n ∙ o)) h
 
   -- a search
   module _ (b c : ℕ) (k : ScratchAllocator) (w : Tables) (cycle : Bool) (sources : List Bool) where
     abbrev searched : Option ℕ
     searched = find (usableIn (T t) (w .available) sources cycle) (allocationOrder (T t) c)
 
-    pub found-first : (p : Allocation) (r : ℕ) → Checked t f → c < numClasses (T t) → some r ≡ searched → p .0 ≡ codeOf (reg r) → Found t f cache k w (record { place = p; allocator = k }) w (getScratchReg (T t) (F f) b c (barredBy cycle sources))
+    pub found-first : (s : Search) (r : PhysReg) (p : Allocation) → Checked t f → c < numClasses (T t) → searchOf s ≡ searched → s ≡ At r → p .0 ≡ codeOf (reg (r .0)) → Found t f cache k w (record { place = p; allocator = k }) w (getScratchReg (T t) (F f) b c (barredBy cycle sources))
     unfolding getScratchReg orScratch
-    found-first p r ok h e q =
-        found-reg k w p r (getScratchReg (T t) (F f) b c (barredBy cycle sources)) ok q
-        (found-low t f c (usableIn (T t) (w .available) sources cycle) r ok h e)
-        (ap (λ (o : Option ℕ). orScratch (T t) (F f) o b c (stateOf t f cache k w)) (sym e))
+    found-first s r p ok h e d q =
+        found-reg k w p (r .0) (getScratchReg (T t) (F f) b c (barredBy cycle sources)) ok q
+        (found-low t f c (usableIn (T t) (w .available) sources cycle) s r ok h e d)
+        (ap (λ (o : Option ℕ). orScratch (T t) (F f) o b c (stateOf t f cache k w)) (sym e ∙ ap searchOf d))
 
-    module _ (r : Scratch) (w′ : Tables) (e : none ≡ searched) where
-      none-found : (s : Bool) → includesSpillslots (T t) c ≡ s → getScratchReg (T t) (F f) b c (barredBy cycle sources) (stateOf t f cache k w) ≡ pick s (slotScratch (T t) (F f) b (stateOf t f cache k w)) (reuse (T t) (F f) (evictedOf (k .evicted)) b c (stateOf t f cache k w))
+    module _ (s : Search) (r : Scratch) (w′ : Tables) (e : searchOf s ≡ searched) (d : s ≡ search.Nothing) (i : Bool) (j : i ≡ includesSpillslots (T t) c) where
+      none-found : (u : Bool) → i ≡ u → getScratchReg (T t) (F f) b c (barredBy cycle sources) (stateOf t f cache k w) ≡ pick u (slotScratch (T t) (F f) b (stateOf t f cache k w)) (reuse (T t) (F f) (evictedOf (k .evicted)) b c (stateOf t f cache k w))
       unfolding getScratchReg orScratch
-      none-found s i = ap (λ (o : Option ℕ). orScratch (T t) (F f) o b c (stateOf t f cache k w)) (sym e) ∙ ap (λ (s : Bool). pick s (slotScratch (T t) (F f) b (stateOf t f cache k w)) (reuse (T t) (F f) (evictedOf (k .evicted)) b c (stateOf t f cache k w))) i
+      none-found u q =
+          ap (λ (o : Option ℕ). orScratch (T t) (F f) o b c (stateOf t f cache k w)) (sym e ∙ ap searchOf d)
+          ∙ ap (λ (u : Bool). pick u (slotScratch (T t) (F f) b (stateOf t f cache k w)) (reuse (T t) (F f) (evictedOf (k .evicted)) b c (stateOf t f cache k w))) (sym j ∙ q)
 
-      pub found-slotted : includesSpillslots (T t) c ≡ true → Found t f cache k w r w′ (slotScratch (T t) (F f) b) → Found t f cache k w r w′ (getScratchReg (T t) (F f) b c (barredBy cycle sources))
-      found-slotted i h = found-as k w r w′ (slotScratch (T t) (F f) b) (getScratchReg (T t) (F f) b c (barredBy cycle sources)) (none-found true i) h
+      pub found-slotted : i ≡ true → Found t f cache k w r w′ (slotScratch (T t) (F f) b) → Found t f cache k w r w′ (getScratchReg (T t) (F f) b c (barredBy cycle sources))
+      found-slotted q h = found-as k w r w′ (slotScratch (T t) (F f) b) (getScratchReg (T t) (F f) b c (barredBy cycle sources)) (none-found true q) h
 
-      pub found-reused : includesSpillslots (T t) c ≡ false → Found t f cache k w r w′ (reuse (T t) (F f) (evictedOf (k .evicted)) b c) → Found t f cache k w r w′ (getScratchReg (T t) (F f) b c (barredBy cycle sources))
-      found-reused i h = found-as k w r w′ (reuse (T t) (F f) (evictedOf (k .evicted)) b c) (getScratchReg (T t) (F f) b c (barredBy cycle sources)) (none-found false i) h
+      pub found-reused : i ≡ false → Found t f cache k w r w′ (reuse (T t) (F f) (evictedOf (k .evicted)) b c) → Found t f cache k w r w′ (getScratchReg (T t) (F f) b c (barredBy cycle sources))
+      found-reused q h = found-as k w r w′ (reuse (T t) (F f) (evictedOf (k .evicted)) b c) (getScratchReg (T t) (F f) b c (barredBy cycle sources)) (none-found false q) h
 
   -- a move emitted
   module _ (b : ℕ) (to from : Place) (v : ℕ) where
@@ -202,8 +209,8 @@ module _ (t f cache : List ℕ) where
         record {
           is = rw (m, i, q .0, p .0);
           fits = λ a b n g.
-            let one : Fits (a + 1) (b + 1) (n + 1) t (r .allocator) e (w′ .slots) cache = pushed (omega arith) (omega arith) (omega arith) (p .1) (h .fits a b (n + 2) (fewer (omega arith) (omega arith) (omega arith) g)) in
-            pushed (omega arith) (omega arith) (omega arith) (q .1) one;
+              let one : Fits (a + 1) (b + 1) (n + 1) t (r .allocator) e (w′ .slots) cache = pushed (omega arith) (omega arith) (omega arith) (p .1) (h .fits a b (n + 2) (fewer (omega arith) (omega arith) (omega arith) g)) in
+              pushed (omega arith) (omega arith) (omega arith) (q .1) one;
         }
 
     pub moved-at-once : (k : ScratchAllocator) (w : Tables) (e : List ℕ) → and (isMemory (T t) to) (isMemory (T t) from) ≡ false → (editsOf e ≡ Move to from v ∷ editsOf (w .edits)) × (countOf e ≡ countOf (w .edits) + 1) → Moved t f cache k w k (tables e (w .available) (w .slots)) (moveEdits (T t) (F f) b to from v)
@@ -229,10 +236,11 @@ module _ (t f cache : List ℕ) where
 
   -- a scratch put back
   module _ (b c : ℕ) (k : ScratchAllocator) (e : List ℕ) (available : List Bool) (s : List ℕ) where
-    pub released-reg : (r : ℕ) → reg r ≡ placeAt c → Released t f cache k (tables e available s) k (tables e available s) (releasePlace (T t) (F f) (spillslotSize (T t) b) (placeAt c))
-    released-reg r q = record { is = rw (← q); fits = λ a b n g. fewer (omega arith) (omega arith) (omega arith) g }
+    pub released-reg : (p : AllocationKind) (r : PhysReg) → placeOf p ≡ placeAt c → p ≡ kind.PhysReg r → Released t f cache k (tables e available s) k (tables e available s) (releasePlace (T t) (F f) (spillslotSize (T t) b) (placeAt c))
+    released-reg p r q d = record { is = rw (← q, d); fits = λ a b n g. fewer (omega arith) (omega arith) (omega arith) g }
 
-    pub released-slot : (s′ : List ℕ) (x z : ℕ) → c < 16384 → slot x ≡ placeAt c → z ≡ spillslotSize (T t) b → slots.PutBack s s′ z x → Released t f cache k (tables e available s) k (tables e available s′) (releasePlace (T t) (F f) (spillslotSize (T t) b) (placeAt c))
-    released-slot s′ x z h q d p =
-        let low : x < 8192 = omega (arith, ap codeOf q ∙ code-there c) in
-        record { is = rw (← q, ← d, p .stacks cache); fits = λ a b n g. put-back p low g }
+    pub released-slot : (s′ : List ℕ) (p : AllocationKind) (x : SpillSlot) (z : ℕ) → c < 16384 → placeOf p ≡ placeAt c → p ≡ kind.SpillSlot x → z ≡ spillslotSize (T t) b → slots.PutBack s s′ z (x .0) → Released t f cache k (tables e available s) k (tables e available s′) (releasePlace (T t) (F f) (spillslotSize (T t) b) (placeAt c))
+    released-slot s′ p x z h q d y u =
+        let at : slot (x .0) ≡ placeAt c = sym (ap placeOf d) ∙ q in
+        let low : x .0 < 8192 = omega (arith, ap codeOf at ∙ code-there c) in
+        record { is = rw (← at, ← y, u .stacks cache); fits = λ a b n g. put-back u low g }

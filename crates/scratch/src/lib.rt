@@ -134,7 +134,12 @@ impl ScratchAllocator {
     }
 
     // Makes them unavailable.
-    pub fn make_unavailable(mut self, t: &RegInfo, available: &mut RegUnitSet, p: Allocation) -> Self
+    pub fn make_unavailable(
+        mut self,
+        t: &RegInfo,
+        available: &mut RegUnitSet,
+        p: Allocation,
+    ) -> Self
         requires { ⌜ KnownPlace (T (now t)) (placeAt (p .0)) ⌝ }
         ensures { λ r. ⌜ (r ≡ self) × ((f cache edits slots : List ℕ) → allocatorOf r edits (now (available .exit)) slots cache ≡ makeUnavailable (T (now (t .entry))) (F f) (placeAt (p .0)) (allocatorOf self edits (now (available .entry)) slots cache)) ⌝ }
     {
@@ -143,7 +148,14 @@ impl ScratchAllocator {
     }
 
     // Takes the slot of a size last put back, else makes one.
-    fn acquire(mut self, t: &RegInfo, f: &Function, cache: &SlotCache, slots: &mut Slots, z: usize) -> Taken
+    fn acquire(
+        mut self,
+        t: &RegInfo,
+        f: &Function,
+        cache: &SlotCache,
+        slots: &mut Slots,
+        z: usize,
+    ) -> Taken
         requires { ⌜ Checked (now t) (now f) × (z < 32) × Stocked self (now slots) (now cache) ⌝ }
         ensures { λ r. ⌜ Acquired (now (t .entry)) (now (f .entry)) (now (cache .entry)) z self (now (slots .entry)) r (now (slots .exit)) ⌝ }
     {
@@ -162,7 +174,14 @@ impl ScratchAllocator {
     }
 
     // Brings back the evicted register: emits its save and puts its slot back.
-    pub fn unevict_all(mut self, t: &RegInfo, f: &Function, cache: &SlotCache, edits: &mut Edits, slots: &mut Slots) -> Self
+    pub fn unevict_all(
+        mut self,
+        t: &RegInfo,
+        f: &Function,
+        cache: &SlotCache,
+        edits: &mut Edits,
+        slots: &mut Slots,
+    ) -> Self
         requires { ⌜ Checked (now t) (now f) × Fits 0 0 0 (now t) self (now edits) (now slots) (now cache) ⌝ }
         ensures { λ r. ⌜ ((available : List Bool) → Brought (now (t .entry)) (now (f .entry)) (now (cache .entry)) self (tables (now (edits .entry)) available (now (slots .entry))) r (tables (now (edits .exit)) available (now (slots .exit))) (unevictAll (T (now (t .entry))) (F (now (f .entry))))) ⌝ }
     {
@@ -179,7 +198,15 @@ impl ScratchAllocator {
     }
 
     // Brings back the evicted register if it overlaps the place.
-    pub fn unevict_for_reg(mut self, t: &RegInfo, f: &Function, cache: &SlotCache, edits: &mut Edits, slots: &mut Slots, p: Allocation) -> Self
+    pub fn unevict_for_reg(
+        mut self,
+        t: &RegInfo,
+        f: &Function,
+        cache: &SlotCache,
+        edits: &mut Edits,
+        slots: &mut Slots,
+        p: Allocation,
+    ) -> Self
         requires { ⌜ Checked (now t) (now f) × KnownPlace (T (now t)) (placeAt (p .0)) × Fits 0 0 0 (now t) self (now edits) (now slots) (now cache) ⌝ }
         ensures { λ r. ⌜ ((available : List Bool) → Brought (now (t .entry)) (now (f .entry)) (now (cache .entry)) self (tables (now (edits .entry)) available (now (slots .entry))) r (tables (now (edits .exit)) available (now (slots .exit))) (unevictForReg (T (now (t .entry))) (F (now (f .entry))) (placeAt (p .0)))) ⌝ }
     {
@@ -194,7 +221,14 @@ impl ScratchAllocator {
     }
 
     // An emergency slot as scratch.
-    fn slot_scratch(mut self, t: &RegInfo, f: &Function, cache: &SlotCache, slots: &mut Slots, b: RegBank) -> Scratch
+    fn slot_scratch(
+        mut self,
+        t: &RegInfo,
+        f: &Function,
+        cache: &SlotCache,
+        slots: &mut Slots,
+        b: RegBank,
+    ) -> Scratch
         requires { ⌜ Checked (now t) (now f) × (b .0 < numBanks (T (now t))) × Stocked self (now slots) (now cache) ⌝ }
         ensures { λ r. ⌜ ((edits : List ℕ) (available : List Bool) → Found (now (t .entry)) (now (f .entry)) (now (cache .entry)) self (tables edits available (now (slots .entry))) r (tables edits available (now (slots .exit))) (slotScratch (T (now (t .entry))) (F (now (f .entry))) (b .0))) ⌝ }
     {
@@ -208,7 +242,16 @@ impl ScratchAllocator {
     }
 
     // Evicts the last register of a class's order into a slot, and emits its reload.
-    fn evict_last(mut self, t: &RegInfo, f: &Function, cache: &SlotCache, edits: &mut Edits, slots: &mut Slots, b: RegBank, c: RegClass) -> Scratch
+    fn evict_last(
+        mut self,
+        t: &RegInfo,
+        f: &Function,
+        cache: &SlotCache,
+        edits: &mut Edits,
+        slots: &mut Slots,
+        b: RegBank,
+        c: RegClass,
+    ) -> Scratch
         requires { ⌜ Evictable (now t) (now f) (b .0) (c .0) × (self .evicted ≡ Evicted.Nothing) × Fits 0 1 2 (now t) self (now edits) (now slots) (now cache) ⌝ }
         ensures { λ r. ⌜ ((available : List Bool) → Found (now (t .entry)) (now (f .entry)) (now (cache .entry)) self (tables (now (edits .entry)) available (now (slots .entry))) r (tables (now (edits .exit)) available (now (slots .exit))) (evictLast (T (now (t .entry))) (F (now (f .entry))) (b .0) (c .0))) ⌝ }
     {
@@ -226,8 +269,18 @@ impl ScratchAllocator {
             },
         }
     }
+
     // Brings back the evicted register, and evicts the order's last.
-    fn evict(mut self, t: &RegInfo, f: &Function, cache: &SlotCache, edits: &mut Edits, slots: &mut Slots, b: RegBank, c: RegClass) -> Scratch
+    fn evict(
+        mut self,
+        t: &RegInfo,
+        f: &Function,
+        cache: &SlotCache,
+        edits: &mut Edits,
+        slots: &mut Slots,
+        b: RegBank,
+        c: RegClass,
+    ) -> Scratch
         requires { ⌜ Evictable (now t) (now f) (b .0) (c .0) × Fits 0 1 2 (now t) self (now edits) (now slots) (now cache) ⌝ }
         ensures { λ r. ⌜ ((available : List Bool) → Found (now (t .entry)) (now (f .entry)) (now (cache .entry)) self (tables (now (edits .entry)) available (now (slots .entry))) r (tables (now (edits .exit)) available (now (slots .exit))) (reuse (T (now (t .entry))) (F (now (f .entry))) [] (b .0) (c .0))) ⌝ }
     {
@@ -236,7 +289,16 @@ impl ScratchAllocator {
     }
 
     // The evicted register if it is a member of the class, else the order's last.
-    fn reuse(mut self, t: &RegInfo, f: &Function, cache: &SlotCache, edits: &mut Edits, slots: &mut Slots, b: RegBank, c: RegClass) -> Scratch
+    fn reuse(
+        mut self,
+        t: &RegInfo,
+        f: &Function,
+        cache: &SlotCache,
+        edits: &mut Edits,
+        slots: &mut Slots,
+        b: RegBank,
+        c: RegClass,
+    ) -> Scratch
         requires { ⌜ Evictable (now t) (now f) (b .0) (c .0) × Fits 0 1 2 (now t) self (now edits) (now slots) (now cache) ⌝ }
         ensures { λ r. ⌜ ((available : List Bool) → Found (now (t .entry)) (now (f .entry)) (now (cache .entry)) self (tables (now (edits .entry)) available (now (slots .entry))) r (tables (now (edits .exit)) available (now (slots .exit))) (reuse (T (now (t .entry))) (F (now (f .entry))) (evictedOf (self .evicted)) (b .0) (c .0))) ⌝ }
     {
@@ -255,7 +317,19 @@ impl ScratchAllocator {
 
     // A scratch of a class: the first register of its order that is usable, failing that a slot or an evicted register.
     // For a cycle no source unit of a kept move is used.
-    pub fn get_scratch_reg(mut self, t: &RegInfo, f: &Function, cache: &SlotCache, available: &RegUnitSet, sources: &RegUnitSet, cycle: bool, edits: &mut Edits, slots: &mut Slots, b: RegBank, c: RegClass) -> Scratch
+    pub fn get_scratch_reg(
+        mut self,
+        t: &RegInfo,
+        f: &Function,
+        cache: &SlotCache,
+        available: &RegUnitSet,
+        sources: &RegUnitSet,
+        cycle: bool,
+        edits: &mut Edits,
+        slots: &mut Slots,
+        b: RegBank,
+        c: RegClass,
+    ) -> Scratch
         requires { ⌜ Checked (now t) (now f) × (b .0 < numBanks (T (now t))) × (c .0 < numClasses (T (now t))) × Fits 0 1 2 (now t) self (now edits) (now slots) (now cache) ⌝ }
         ensures { λ r. ⌜ Found (now (t .entry)) (now (f .entry)) (now (cache .entry)) self (tables (now (edits .entry)) (now (available .entry)) (now (slots .entry))) r (tables (now (edits .exit)) (now (available .entry)) (now (slots .exit))) (getScratchReg (T (now (t .entry))) (F (now (f .entry))) (b .0) (c .0) (barredBy cycle (now (sources .entry)))) ⌝ }
     {
@@ -273,12 +347,36 @@ impl ScratchAllocator {
     }
 
     // Memory to memory goes through a scratch of the stack class.
-    fn through_scratch(mut self, t: &RegInfo, f: &Function, cache: &SlotCache, available: &RegUnitSet, sources: &RegUnitSet, edits: &mut Edits, slots: &mut Slots, b: RegBank, to: Allocation, from: Allocation, v: Value) -> Self
+    fn through_scratch(
+        mut self,
+        t: &RegInfo,
+        f: &Function,
+        cache: &SlotCache,
+        available: &RegUnitSet,
+        sources: &RegUnitSet,
+        edits: &mut Edits,
+        slots: &mut Slots,
+        b: RegBank,
+        to: Allocation,
+        from: Allocation,
+        v: Value,
+    ) -> Self
         requires { ⌜ Movable (now t) (now f) (b .0) (to .0) (from .0) (v .0) × (and (isMemory (T (now t)) (placeAt (to .0))) (isMemory (T (now t)) (placeAt (from .0))) ≡ true) × Fits 0 1 4 (now t) self (now edits) (now slots) (now cache) ⌝ }
         ensures { λ r. ⌜ Moved (now (t .entry)) (now (f .entry)) (now (cache .entry)) self (tables (now (edits .entry)) (now (available .entry)) (now (slots .entry))) r (tables (now (edits .exit)) (now (available .entry)) (now (slots .exit))) (moveEdits (T (now (t .entry))) (F (now (f .entry))) (b .0) (placeAt (to .0)) (placeAt (from .0)) (v .0)) ⌝ }
     {
         let c = reginfo::stack_to_stack_class(t, b);
-        let found = self.get_scratch_reg(t, f, cache, available, sources, false, edits, slots, b, c);
+        let found = self.get_scratch_reg(
+            t,
+            f,
+            cache,
+            available,
+            sources,
+            false,
+            edits,
+            slots,
+            b,
+            c,
+        );
         let p = found.place;
         let k = found.allocator;
         edit::push_move(edits, to, p, v);
@@ -287,31 +385,88 @@ impl ScratchAllocator {
     }
 
     // The edit or edits of a move.
-    pub fn move_edits(mut self, t: &RegInfo, f: &Function, cache: &SlotCache, available: &RegUnitSet, sources: &RegUnitSet, edits: &mut Edits, slots: &mut Slots, b: RegBank, to: Allocation, from: Allocation, v: Value) -> Self
+    pub fn move_edits(
+        mut self,
+        t: &RegInfo,
+        f: &Function,
+        cache: &SlotCache,
+        available: &RegUnitSet,
+        sources: &RegUnitSet,
+        edits: &mut Edits,
+        slots: &mut Slots,
+        b: RegBank,
+        to: Allocation,
+        from: Allocation,
+        v: Value,
+    ) -> Self
         requires { ⌜ Movable (now t) (now f) (b .0) (to .0) (from .0) (v .0) × Fits 0 1 4 (now t) self (now edits) (now slots) (now cache) ⌝ }
         ensures { λ r. ⌜ Moved (now (t .entry)) (now (f .entry)) (now (cache .entry)) self (tables (now (edits .entry)) (now (available .entry)) (now (slots .entry))) r (tables (now (edits .exit)) (now (available .entry)) (now (slots .exit))) (moveEdits (T (now (t .entry))) (F (now (f .entry))) (b .0) (placeAt (to .0)) (placeAt (from .0)) (v .0)) ⌝ }
     {
         if both_memory(t, to, from) {
-            return self.through_scratch(t, f, cache, available, sources, edits, slots, b, to, from, v);
+            return self.through_scratch(
+                t,
+                f,
+                cache,
+                available,
+                sources,
+                edits,
+                slots,
+                b,
+                to,
+                from,
+                v,
+            );
         }
         edit::push_move(edits, to, from, v);
         self
     }
 
     // Emits a move, and marks the units of its ends.
-    pub fn do_move(mut self, t: &RegInfo, f: &Function, cache: &SlotCache, available: &mut RegUnitSet, sources: &RegUnitSet, edits: &mut Edits, slots: &mut Slots, b: RegBank, to: Allocation, from: Allocation, v: Value) -> Self
+    pub fn do_move(
+        mut self,
+        t: &RegInfo,
+        f: &Function,
+        cache: &SlotCache,
+        available: &mut RegUnitSet,
+        sources: &RegUnitSet,
+        edits: &mut Edits,
+        slots: &mut Slots,
+        b: RegBank,
+        to: Allocation,
+        from: Allocation,
+        v: Value,
+    ) -> Self
         requires { ⌜ Movable (now t) (now f) (b .0) (to .0) (from .0) (v .0) × Fits 0 1 4 (now t) self (now edits) (now slots) (now cache) ⌝ }
         ensures { λ r. ⌜ Moved (now (t .entry)) (now (f .entry)) (now (cache .entry)) self (tables (now (edits .entry)) (now (available .entry)) (now (slots .entry))) r (tables (now (edits .exit)) (now (available .exit)) (now (slots .exit))) (doMove (T (now (t .entry))) (F (now (f .entry))) (b .0) (placeAt (to .0)) (placeAt (from .0)) (v .0)) ⌝ }
     {
         let first = self.unevict_for_reg(t, f, cache, edits, slots, from);
         let then = first.unevict_for_reg(t, f, cache, edits, slots, to);
-        let moved = then.move_edits(t, f, cache, available, sources, edits, slots, b, to, from, v);
+        let moved = then.move_edits(
+            t,
+            f,
+            cache,
+            available,
+            sources,
+            edits,
+            slots,
+            b,
+            to,
+            from,
+            v,
+        );
         let marked = moved.make_available(t, available, to);
         marked.make_unavailable(t, available, from)
     }
 
     // Puts a scratch back if it is a slot.
-    pub fn release_place(mut self, t: &RegInfo, f: &Function, slots: &mut Slots, b: RegBank, p: Allocation) -> Self
+    pub fn release_place(
+        mut self,
+        t: &RegInfo,
+        f: &Function,
+        slots: &mut Slots,
+        b: RegBank,
+        p: Allocation,
+    ) -> Self
         requires { ⌜ Checked (now t) (now f) × (b .0 < numBanks (T (now t))) × PlaceFits (now t) (p .0) × SlotsFit 1023 (now slots) ⌝ }
         ensures { λ r. ⌜ ((cache edits : List ℕ) (available : List Bool) → Released (now (t .entry)) (now (f .entry)) cache self (tables edits available (now (slots .entry))) r (tables edits available (now (slots .exit))) (releasePlace (T (now (t .entry))) (F (now (f .entry))) (spillslotSize (T (now (t .entry))) (b .0)) (placeAt (p .0)))) ⌝ }
     {

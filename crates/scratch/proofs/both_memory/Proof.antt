@@ -3,9 +3,6 @@ use mathlib.Core.Path.{sym, _∙_}
 use borrow.Author.Needs.{needs}
 use Rattle.scratch.proofs.both_memory.Statement.{statement}
 use Rattle.scratch.proofs.both_memory.Tie as tie
-use Rattle.scratch.proofs.both_memory.Reads as reads
-use Rattle.scratch.proofs.both_memory.Lts as lts
-use Rattle.reginfo.proofs.is_memory.Reads as is-memory-reads
 
 is-memory-requires : tie.Need-is-memory-requires
 is-memory-requires c κs = search needs

@@ -6,12 +6,6 @@ use Rattle.function.proofs.Laws.{few-slots}
 use Rattle.scratch.proofs.Outcomes.{taken-top, taken-new}
 use Rattle.scratch.proofs.ScratchAllocator.acquire.Statement.{statement}
 use Rattle.scratch.proofs.ScratchAllocator.acquire.Tie as tie
-use Rattle.scratch.proofs.ScratchAllocator.acquire.Reads as reads
-use Rattle.scratch.proofs.ScratchAllocator.acquire.Lts as lts
-use Rattle.entity.proofs.narrow.Reads as narrow-reads
-use Rattle.entity.proofs.wide.Reads as wide-reads
-use Rattle.function.proofs.num_slots.Reads as num-slots-reads
-use Rattle.slots.proofs.acquire.Reads as acquire-reads
 
 acquire-requires : tie.Need-acquire-requires
 acquire-requires c κs =

@@ -1,18 +1,12 @@
 -- `scratch::ScratchAllocator::do_move` meets its contract.
-use Rattle.scratch.specs.Contracts.{tables}
-use Rattle.entity.specs.Place.{placeAt}
 use mathlib.Core.List.{[]}
+use native.Mathlib.Omega.{arith}
+use Rattle.entity.specs.Place.{placeAt}
+use Rattle.scratch.specs.Contracts.{tables}
 use Rattle.scratch.proofs.Bounds.{fewer}
 use Rattle.scratch.proofs.Outcomes.{moved-marked}
-use native.Mathlib.Omega.{arith}
 use Rattle.scratch.proofs.ScratchAllocator.do_move.Statement.{statement}
 use Rattle.scratch.proofs.ScratchAllocator.do_move.Tie as tie
-use Rattle.scratch.proofs.ScratchAllocator.do_move.Reads as reads
-use Rattle.scratch.proofs.ScratchAllocator.do_move.Lts as lts
-use Rattle.scratch.proofs.ScratchAllocator.make_available.Reads as make-available-reads
-use Rattle.scratch.proofs.ScratchAllocator.make_unavailable.Reads as make-unavailable-reads
-use Rattle.scratch.proofs.ScratchAllocator.move_edits.Reads as move-edits-reads
-use Rattle.scratch.proofs.ScratchAllocator.unevict_for_reg.Reads as unevict-for-reg-reads
 
 unevict-for-reg-requires : tie.Need-unevict-for-reg-requires
 unevict-for-reg-requires c κs =

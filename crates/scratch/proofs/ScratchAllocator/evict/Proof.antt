@@ -1,14 +1,10 @@
 -- `scratch::ScratchAllocator::evict` meets its contract.
+use mathlib.Core.List.{[]}
 use native.Mathlib.Omega.{arith}
 use Rattle.scratch.proofs.Bounds.{fewer}
 use Rattle.scratch.proofs.Outcomes.{brought-all, found-evicted}
-use mathlib.Core.List.{[]}
 use Rattle.scratch.proofs.ScratchAllocator.evict.Statement.{statement}
 use Rattle.scratch.proofs.ScratchAllocator.evict.Tie as tie
-use Rattle.scratch.proofs.ScratchAllocator.evict.Reads as reads
-use Rattle.scratch.proofs.ScratchAllocator.evict.Lts as lts
-use Rattle.scratch.proofs.ScratchAllocator.evict_last.Reads as evict-last-reads
-use Rattle.scratch.proofs.ScratchAllocator.unevict_all.Reads as unevict-all-reads
 
 unevict-all-requires : tie.Need-unevict-all-requires
 unevict-all-requires c κs = let pre = c .before .before .pre in (pre .0 .checked, fewer (omega arith) (omega arith) (omega arith) (pre .1))

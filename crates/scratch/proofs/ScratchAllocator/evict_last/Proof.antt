@@ -1,18 +1,10 @@
 -- `scratch::ScratchAllocator::evict_last` meets its contract.
+use native.Mathlib.Omega.{arith}
+use Rattle.reginfo.proofs.Accepted.{known-bank, known-class, size-fits, order-some, order-fits, regs-fit}
 use Rattle.scratch.proofs.Bounds.{stocked}
 use Rattle.scratch.proofs.Outcomes.{last-low, found-last}
-use Rattle.reginfo.proofs.Accepted.{known-bank, known-class, size-fits, order-some, order-fits, regs-fit}
-use native.Mathlib.Omega.{arith}
 use Rattle.scratch.proofs.ScratchAllocator.evict_last.Statement.{statement}
 use Rattle.scratch.proofs.ScratchAllocator.evict_last.Tie as tie
-use Rattle.scratch.proofs.ScratchAllocator.evict_last.Reads as reads
-use Rattle.scratch.proofs.ScratchAllocator.evict_last.Lts as lts
-use Rattle.edit.proofs.push_reload.Reads as push-reload-reads
-use Rattle.entity.proofs.Allocation.reg.Reads as reg-reads
-use Rattle.entity.proofs.narrow.Reads as narrow-reads
-use Rattle.reginfo.proofs.order_last.Reads as order-last-reads
-use Rattle.reginfo.proofs.spillslot_size.Reads as spillslot-size-reads
-use Rattle.scratch.proofs.ScratchAllocator.acquire.Reads as acquire-reads
 
 spillslot-size-requires : tie.Need-spillslot-size-requires
 spillslot-size-requires c κs = known-bank _ (c .pre .0 .checked .target) _ (c .pre .0 .bank)

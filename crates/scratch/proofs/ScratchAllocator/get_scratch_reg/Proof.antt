@@ -1,20 +1,12 @@
 -- `scratch::ScratchAllocator::get_scratch_reg` meets its contract.
-use Rattle.scratch.proofs.Bounds.{stocked}
-use Rattle.scratch.proofs.Outcomes.{found-low, found-first, found-slotted, found-reused}
-use Rattle.reginfo.proofs.Accepted.{known-class, regs-fit}
-use Rattle.search.specs.Search.{searchOf}
-use mathlib.Core.Path.{sym, ap, _∙_}
+use mathlib.Core.Path.{sym, _∙_}
 use native.Mathlib.Omega.{arith}
 use borrow.Author.Needs.{needs}
+use Rattle.reginfo.proofs.Accepted.{known-class, regs-fit}
+use Rattle.scratch.proofs.Bounds.{stocked}
+use Rattle.scratch.proofs.Outcomes.{found-low, found-first, found-slotted, found-reused}
 use Rattle.scratch.proofs.ScratchAllocator.get_scratch_reg.Statement.{statement}
 use Rattle.scratch.proofs.ScratchAllocator.get_scratch_reg.Tie as tie
-use Rattle.scratch.proofs.ScratchAllocator.get_scratch_reg.Reads as reads
-use Rattle.scratch.proofs.ScratchAllocator.get_scratch_reg.Lts as lts
-use Rattle.entity.proofs.Allocation.reg.Reads as reg-reads
-use Rattle.reginfo.proofs.class_includes_spillslots.Reads as class-includes-spillslots-reads
-use Rattle.scratch.proofs.ScratchAllocator.reuse.Reads as reuse-reads
-use Rattle.scratch.proofs.ScratchAllocator.slot_scratch.Reads as slot-scratch-reads
-use Rattle.search.proofs.first_usable.Reads as first-usable-reads
 
 first-usable-requires : tie.Need-first-usable-requires
 first-usable-requires c κs = search needs
@@ -25,14 +17,13 @@ enum-known-found c = search needs
 reg-requires : tie.Need-reg-requires
 reg-requires c κs =
     let pre = c .before .before .before .before .pre in
-    let low = found-low _ _ _ _ _ (pre .0) (pre .2) (sym (ap searchOf (c .before .found .given .1)) ∙ c .before .before .before .first-usable .ensures) in
-    omega (arith, low, regs-fit _ (pre .0 .target) .1)
+    omega (arith, found-low _ _ _ _ _ _ (pre .0) (pre .2) (c .before .before .before .first-usable .ensures) (c .before .found .given .1), regs-fit _ (pre .0 .target) .1)
 
 returns : tie.Need-returns
 returns c =
     let pre = c .before .before .before .before .before .pre in
     let a = c .before .before .before .before .before .args in
-    found-first _ _ _ _ _ _ _ (a .cycle) (a .sources .now) _ _ (pre .0) (pre .2) (sym (ap searchOf (c .before .before .found .given .1)) ∙ c .before .before .before .before .first-usable .ensures) (c .reg .ensures)
+    found-first _ _ _ _ _ _ _ (a .cycle) (a .sources .now) _ _ _ (pre .0) (pre .2) (c .before .before .before .before .first-usable .ensures) (c .before .before .found .given .1) (c .reg .ensures)
 
 enum-told : tie.Need-enum-told
 enum-told c = search needs
@@ -46,7 +37,7 @@ slot-scratch-requires c κs = let pre = c .before .before .before .before .befor
 returns-2 : tie.Need-returns-2
 returns-2 c =
     let a = c .before .before .before .before .before .before .before .args in
-    found-slotted _ _ _ _ _ _ _ (a .cycle) (a .sources .now) _ _ (sym (ap searchOf (c .before .before .before .before .enum-told .given .1)) ∙ c .before .before .before .before .before .before .first-usable .ensures) (sym (c .before .before .before .class-includes-spillslots .ensures) ∙ c .before .before .if1 .taken) (c .slot-scratch .ensures (a .edits .now) (a .available .now))
+    found-slotted _ _ _ _ _ _ _ (a .cycle) (a .sources .now) _ _ _ (c .before .before .before .before .before .before .first-usable .ensures) (c .before .before .before .before .enum-told .given .1) _ (c .before .before .before .class-includes-spillslots .ensures) (c .before .before .if1 .taken) (c .slot-scratch .ensures (a .edits .now) (a .available .now))
 
 reuse-requires : tie.Need-reuse-requires
 reuse-requires c κs =
@@ -56,7 +47,7 @@ reuse-requires c κs =
 returns-3 : tie.Need-returns-3
 returns-3 c =
     let a = c .before .before .before .before .before .before .before .before .args in
-    found-reused _ _ _ _ _ _ _ (a .cycle) (a .sources .now) _ _ (sym (ap searchOf (c .before .before .before .before .before .enum-told .given .1)) ∙ c .before .before .before .before .before .before .before .first-usable .ensures) (sym (c .before .before .before .before .class-includes-spillslots .ensures) ∙ c .before .before .before .if1 .left) (c .reuse .ensures (a .available .now))
+    found-reused _ _ _ _ _ _ _ (a .cycle) (a .sources .now) _ _ _ (c .before .before .before .before .before .before .before .first-usable .ensures) (c .before .before .before .before .before .enum-told .given .1) _ (c .before .before .before .before .class-includes-spillslots .ensures) (c .before .before .before .if1 .left) (c .reuse .ensures (a .available .now))
 
 pub get-scratch-reg-spec : {M : Type 1} → statement M
 get-scratch-reg-spec =

@@ -1,13 +1,10 @@
 -- `scratch::ScratchAllocator::make_available` meets its contract.
-use Rattle.entity.specs.Place.{placeAt}
-use Rattle.scratch.proofs.Outcomes.{units-available}
 use mathlib.Core.Path.{refl}
 use borrow.Author.Needs.{needs}
+use Rattle.entity.specs.Place.{placeAt}
+use Rattle.scratch.proofs.Outcomes.{units-available}
 use Rattle.scratch.proofs.ScratchAllocator.make_available.Statement.{statement}
 use Rattle.scratch.proofs.ScratchAllocator.make_available.Tie as tie
-use Rattle.scratch.proofs.ScratchAllocator.make_available.Reads as reads
-use Rattle.scratch.proofs.ScratchAllocator.make_available.Lts as lts
-use Rattle.search.proofs.insert_units.Reads as insert-units-reads
 
 insert-units-requires : tie.Need-insert-units-requires
 insert-units-requires c κs = search needs

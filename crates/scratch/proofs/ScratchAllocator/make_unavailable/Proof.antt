@@ -1,13 +1,10 @@
 -- `scratch::ScratchAllocator::make_unavailable` meets its contract.
-use Rattle.entity.specs.Place.{placeAt}
-use Rattle.scratch.proofs.Outcomes.{units-unavailable}
 use mathlib.Core.Path.{refl}
 use borrow.Author.Needs.{needs}
+use Rattle.entity.specs.Place.{placeAt}
+use Rattle.scratch.proofs.Outcomes.{units-unavailable}
 use Rattle.scratch.proofs.ScratchAllocator.make_unavailable.Statement.{statement}
 use Rattle.scratch.proofs.ScratchAllocator.make_unavailable.Tie as tie
-use Rattle.scratch.proofs.ScratchAllocator.make_unavailable.Reads as reads
-use Rattle.scratch.proofs.ScratchAllocator.make_unavailable.Lts as lts
-use Rattle.search.proofs.remove_units.Reads as remove-units-reads
 
 remove-units-requires : tie.Need-remove-units-requires
 remove-units-requires c κs = search needs

@@ -1,16 +1,10 @@
 -- `scratch::ScratchAllocator::move_edits` meets its contract.
-use Rattle.scratch.proofs.Outcomes.{moved-at-once}
-use Rattle.entity.specs.Place.{placeAt}
 use mathlib.Core.Path.{sym, _∙_}
 use native.Mathlib.Omega.{arith}
-use borrow.Author.Needs.{needs}
+use Rattle.entity.specs.Place.{placeAt}
+use Rattle.scratch.proofs.Outcomes.{moved-at-once}
 use Rattle.scratch.proofs.ScratchAllocator.move_edits.Statement.{statement}
 use Rattle.scratch.proofs.ScratchAllocator.move_edits.Tie as tie
-use Rattle.scratch.proofs.ScratchAllocator.move_edits.Reads as reads
-use Rattle.scratch.proofs.ScratchAllocator.move_edits.Lts as lts
-use Rattle.edit.proofs.push_move.Reads as push-move-reads
-use Rattle.scratch.proofs.ScratchAllocator.through_scratch.Reads as through-scratch-reads
-use Rattle.scratch.proofs.both_memory.Reads as both-memory-reads
 
 both-memory-requires : tie.Need-both-memory-requires
 both-memory-requires c κs = (c .pre .0 .to-fits .known, c .pre .0 .from-fits .known)

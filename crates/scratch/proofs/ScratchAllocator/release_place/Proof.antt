@@ -1,19 +1,12 @@
 -- `scratch::ScratchAllocator::release_place` meets its contract.
-use Rattle.scratch.proofs.Outcomes.{released-reg, released-slot}
-use Rattle.slots.proofs.Laws.{fits-more}
-use Rattle.reginfo.proofs.Accepted.{known-bank, size-fits}
-use Rattle.entity.specs.Place.{placeOf}
 use Prim.Native.Nat.{_<_}
-use mathlib.Core.Path.{sym, ap, _∙_}
 use native.Mathlib.Omega.{arith}
 use borrow.Author.Needs.{needs}
+use Rattle.reginfo.proofs.Accepted.{known-bank, size-fits}
+use Rattle.slots.proofs.Laws.{fits-more}
+use Rattle.scratch.proofs.Outcomes.{released-reg, released-slot}
 use Rattle.scratch.proofs.ScratchAllocator.release_place.Statement.{statement}
 use Rattle.scratch.proofs.ScratchAllocator.release_place.Tie as tie
-use Rattle.scratch.proofs.ScratchAllocator.release_place.Reads as reads
-use Rattle.scratch.proofs.ScratchAllocator.release_place.Lts as lts
-use Rattle.entity.proofs.Allocation.kind.Reads as kind-reads
-use Rattle.reginfo.proofs.spillslot_size.Reads as spillslot-size-reads
-use Rattle.slots.proofs.put_back.Reads as put-back-reads
 
 kind-requires : tie.Need-kind-requires
 kind-requires c κs = search needs
@@ -25,7 +18,7 @@ enum-told : tie.Need-enum-told
 enum-told c = search needs
 
 returns : tie.Need-returns
-returns c = λ cache edits available. released-reg _ _ _ _ _ _ _ _ _ _ (sym (ap placeOf (c .enum-told .given .1)) ∙ c .before .before .kind .ensures)
+returns c = λ cache edits available. released-reg _ _ _ _ _ _ _ _ _ _ _ (c .before .before .kind .ensures) (c .enum-told .given .1)
 
 spillslot-size-requires : tie.Need-spillslot-size-requires
 spillslot-size-requires c κs = let pre = c .before .before .before .before .before .pre in known-bank _ (pre .0 .target) _ (pre .1)
@@ -39,7 +32,7 @@ put-back-requires c κs =
 returns-2 : tie.Need-returns-2
 returns-2 c =
     let pre = c .before .before .before .before .before .before .before .pre in
-    λ cache edits available. released-slot _ _ _ _ _ _ _ _ _ _ _ _ (pre .2 .small) (sym (ap placeOf (c .before .before .before .before .s .given .1)) ∙ c .before .before .before .before .before .before .kind .ensures) (c .before .spillslot-size .ensures) (c .put-back .ensures)
+    λ cache edits available. released-slot _ _ _ _ _ _ _ _ _ _ _ _ _ (pre .2 .small) (c .before .before .before .before .before .before .kind .ensures) (c .before .before .before .before .s .given .1) (c .before .spillslot-size .ensures) (c .put-back .ensures)
 
 pub release-place-spec : {M : Type 1} → statement M
 release-place-spec =

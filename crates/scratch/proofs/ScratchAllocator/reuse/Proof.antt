@@ -1,17 +1,11 @@
 -- `scratch::ScratchAllocator::reuse` meets its contract.
 use native.Mathlib.Omega.{arith}
-use mathlib.Core.Path.{sym, _∙_}
-use Rattle.reginfo.proofs.Accepted.{known-members, regs-fit}
-use Rattle.scratch.proofs.Outcomes.{found-none, found-member, found-stranger}
-use Rattle.scratch.proofs.Bounds.{held-fits}
 use borrow.Author.Needs.{needs}
+use Rattle.reginfo.proofs.Accepted.{known-members, regs-fit}
+use Rattle.scratch.proofs.Bounds.{held-fits}
+use Rattle.scratch.proofs.Outcomes.{found-none, found-member, found-stranger}
 use Rattle.scratch.proofs.ScratchAllocator.reuse.Statement.{statement}
 use Rattle.scratch.proofs.ScratchAllocator.reuse.Tie as tie
-use Rattle.scratch.proofs.ScratchAllocator.reuse.Reads as reads
-use Rattle.scratch.proofs.ScratchAllocator.reuse.Lts as lts
-use Rattle.entity.proofs.Allocation.reg.Reads as reg-reads
-use Rattle.reginfo.proofs.class_has_reg.Reads as class-has-reg-reads
-use Rattle.scratch.proofs.ScratchAllocator.evict.Reads as evict-reads
 
 enum-known-e : tie.Need-enum-known-e
 enum-known-e c = search needs
@@ -41,14 +35,14 @@ returns-2 : tie.Need-returns-2
 returns-2 c =
     let pre = c .before .before .before .before .before .before .pre in
     let e = c .before .before .before .before .e .given .1 in
-    λ available. found-member _ _ _ _ _ _ _ _ _ _ e _ (pre .0 .checked) (held-fits e (pre .1) .0) (c .reg .ensures) (sym (c .before .if1 .taken) ∙ c .before .before .class-has-reg .ensures)
+    λ available. found-member _ _ _ _ _ _ _ _ _ _ e _ (pre .0 .checked) (held-fits e (pre .1) .0) (c .reg .ensures) _ (c .before .before .class-has-reg .ensures) (c .before .if1 .taken)
 
 evict-requires-2 : tie.Need-evict-requires-2
 evict-requires-2 c κs = c .before .before .before .before .before .before .before .pre
 
 returns-3 : tie.Need-returns-3
 returns-3 c =
-    λ available. found-stranger _ _ _ _ _ _ _ _ _ _ (c .before .before .before .before .before .before .e .given .1) _ _ (sym (c .before .before .before .if1 .left) ∙ c .before .before .before .before .class-has-reg .ensures) (c .evict2 .ensures available)
+    λ available. found-stranger _ _ _ _ _ _ _ _ _ _ (c .before .before .before .before .before .before .e .given .1) _ _ _ (c .before .before .before .before .class-has-reg .ensures) (c .before .before .before .if1 .left) (c .evict2 .ensures available)
 
 pub reuse-spec : {M : Type 1} → statement M
 reuse-spec =

@@ -2,14 +2,8 @@
 use native.Mathlib.Omega.{arith}
 use Rattle.reginfo.proofs.Accepted.{known-bank, size-fits}
 use Rattle.scratch.proofs.Outcomes.{found-slot}
-use borrow.Author.Needs.{needs}
 use Rattle.scratch.proofs.ScratchAllocator.slot_scratch.Statement.{statement}
 use Rattle.scratch.proofs.ScratchAllocator.slot_scratch.Tie as tie
-use Rattle.scratch.proofs.ScratchAllocator.slot_scratch.Reads as reads
-use Rattle.scratch.proofs.ScratchAllocator.slot_scratch.Lts as lts
-use Rattle.entity.proofs.Allocation.spillslot.Reads as spillslot-reads
-use Rattle.reginfo.proofs.spillslot_size.Reads as spillslot-size-reads
-use Rattle.scratch.proofs.ScratchAllocator.acquire.Reads as acquire-reads
 
 spillslot-size-requires : tie.Need-spillslot-size-requires
 spillslot-size-requires c κs = let pre = c .before .pre in known-bank _ (pre .0 .target) _ (pre .1)

@@ -1,16 +1,11 @@
 -- `scratch::ScratchAllocator::through_scratch` meets its contract.
+use native.Mathlib.Omega.{arith}
 use Rattle.entity.specs.Place.{placeAt}
+use Rattle.reginfo.proofs.Accepted.{known-bank, stack-fits}
 use Rattle.scratch.proofs.Bounds.{fewer}
 use Rattle.scratch.proofs.Outcomes.{moved-through}
-use Rattle.reginfo.proofs.Accepted.{known-bank, stack-fits}
-use native.Mathlib.Omega.{arith}
 use Rattle.scratch.proofs.ScratchAllocator.through_scratch.Statement.{statement}
 use Rattle.scratch.proofs.ScratchAllocator.through_scratch.Tie as tie
-use Rattle.scratch.proofs.ScratchAllocator.through_scratch.Reads as reads
-use Rattle.scratch.proofs.ScratchAllocator.through_scratch.Lts as lts
-use Rattle.edit.proofs.push_move.Reads as push-move-reads
-use Rattle.reginfo.proofs.stack_to_stack_class.Reads as stack-to-stack-class-reads
-use Rattle.scratch.proofs.ScratchAllocator.get_scratch_reg.Reads as get-scratch-reg-reads
 
 stack-to-stack-class-requires : tie.Need-stack-to-stack-class-requires
 stack-to-stack-class-requires c κs = known-bank _ (c .pre .0 .checked .target) _ (c .pre .0 .bank)

@@ -1,18 +1,13 @@
 -- `scratch::ScratchAllocator::unevict_all` meets its contract.
 use Prim.Native.Nat.{_<_}
 use native.Mathlib.Omega.{arith}
+use borrow.Author.Needs.{needs}
 use Rattle.reginfo.proofs.Accepted.{regs-fit}
 use Rattle.slots.proofs.Laws.{fits-more}
-use Rattle.scratch.proofs.Outcomes.{brought-none, brought-held}
 use Rattle.scratch.proofs.Bounds.{let-go, held-fits}
-use borrow.Author.Needs.{needs}
+use Rattle.scratch.proofs.Outcomes.{brought-none, brought-held}
 use Rattle.scratch.proofs.ScratchAllocator.unevict_all.Statement.{statement}
 use Rattle.scratch.proofs.ScratchAllocator.unevict_all.Tie as tie
-use Rattle.scratch.proofs.ScratchAllocator.unevict_all.Reads as reads
-use Rattle.scratch.proofs.ScratchAllocator.unevict_all.Lts as lts
-use Rattle.edit.proofs.push_spill.Reads as push-spill-reads
-use Rattle.entity.proofs.wide.Reads as wide-reads
-use Rattle.slots.proofs.put_back.Reads as put-back-reads
 
 enum-known-e : tie.Need-enum-known-e
 enum-known-e c = search needs

@@ -1,16 +1,10 @@
 -- `scratch::ScratchAllocator::unevict_for_reg` meets its contract.
-use native.Mathlib.Omega.{arith}
-use Rattle.reginfo.proofs.Accepted.{known-units}
-use Rattle.scratch.proofs.Outcomes.{brought-for-none, brought-apart, brought-met}
-use Rattle.scratch.proofs.Bounds.{held-fits}
-use mathlib.Core.Path.{sym, _∙_}
 use borrow.Author.Needs.{needs}
+use Rattle.reginfo.proofs.Accepted.{known-units}
+use Rattle.scratch.proofs.Bounds.{held-fits}
+use Rattle.scratch.proofs.Outcomes.{brought-for-none, brought-apart, brought-met}
 use Rattle.scratch.proofs.ScratchAllocator.unevict_for_reg.Statement.{statement}
 use Rattle.scratch.proofs.ScratchAllocator.unevict_for_reg.Tie as tie
-use Rattle.scratch.proofs.ScratchAllocator.unevict_for_reg.Reads as reads
-use Rattle.scratch.proofs.ScratchAllocator.unevict_for_reg.Lts as lts
-use Rattle.reginfo.proofs.overlaps_reg.Reads as overlaps-reg-reads
-use Rattle.scratch.proofs.ScratchAllocator.unevict_all.Reads as unevict-all-reads
 
 enum-known-e : tie.Need-enum-known-e
 enum-known-e c = search needs
@@ -31,10 +25,10 @@ unevict-all-requires c κs = search needs
 
 returns-2 : tie.Need-returns-2
 returns-2 c =
-    λ available. brought-met _ _ _ _ _ _ _ _ _ (c .before .before .before .before .before .before .e .given .1) _ _ (sym (c .before .before .before .if1 .taken) ∙ c .before .before .before .before .overlaps-reg .ensures) (c .unevict-all .ensures available)
+    λ available. brought-met _ _ _ _ _ _ _ _ _ (c .before .before .before .before .before .before .e .given .1) _ _ _ (c .before .before .before .before .overlaps-reg .ensures) (c .before .before .before .if1 .taken) (c .unevict-all .ensures available)
 
 returns-3 : tie.Need-returns-3
-returns-3 c = λ available. brought-apart _ _ _ _ _ _ _ _ _ (c .before .before .before .e .given .1) (sym (c .if1 .left) ∙ c .before .overlaps-reg .ensures)
+returns-3 c = λ available. brought-apart _ _ _ _ _ _ _ _ _ (c .before .before .before .e .given .1) _ (c .before .overlaps-reg .ensures) (c .if1 .left)
 
 pub unevict-for-reg-spec : {M : Type 1} → statement M
 unevict-for-reg-spec =
