@@ -1,0 +1,119 @@
+-- How the bounds are carried from step to step.
+use Prim.Native.Nat.{ℕ, _+_, _<_, _≤_}
+use mathlib.Core.Path.{_≡_, refl}
+use mathlib.Core.Bool.{Bool, true, false}
+use mathlib.Core.List.{List, [], _∷_}
+use mathlib.Core.Option.{some}
+use native.Mathlib.Omega.{arith}
+use lib.Dec.{eqb}
+use borrow.Author.Tests.{eqb-true}
+use Rattle.entity.specs.Logic.{pick, or, has}
+use Rattle.entity.specs.declared.PhysReg.{PhysReg}
+use Rattle.entity.specs.declared.SpillSlot.{SpillSlot}
+use Rattle.entity.proofs.Laws.{has-getD}
+use Rattle.rules.specs.Edit.{updated}
+use Rattle.edit.specs.Buffer.{countOf}
+use Rattle.slots.specs.declared.Popped.{Popped}
+use Rattle.slots.specs.Stacks.{stacksOf}
+use Rattle.slots.specs.Steps.{topOf, withoutTop, Taken, PutBack}
+use Rattle.slots.proofs.Laws.{fits-more}
+use Rattle.scratch.specs.declared.Evicted.{Evicted}
+use Rattle.scratch.specs.declared.Evicted.the-variants.{Nothing, Held}
+use Rattle.scratch.specs.declared.ScratchAllocator.{ScratchAllocator}
+use Rattle.scratch.specs.State.{T, Stacked, Stocked, HeldFits, owed, Fits}
+
+-- lists of slots below 8,192
+abbrev Low : List ℕ → Type 0
+Low l = (s : ℕ) → has s l ≡ true → s < 8192
+
+first-or-rest : (b : Bool) (x s : ℕ) (l : List ℕ) → x < 8192 → Low l → eqb s x ≡ b → or b (has s l) ≡ true → s < 8192
+first-or-rest true x s l h low q e = rw (eqb-true s x q) h
+first-or-rest false x s l h low q e = low s e
+
+low-more : (x : ℕ) (l : List ℕ) → x < 8192 → Low l → Low (x ∷ l)
+unfolding has
+low-more x l h low s e = first-or-rest (eqb s x) x s l h low refl e
+
+low-rest : (x : ℕ) (l : List ℕ) → Low (x ∷ l) → Low l
+unfolding has
+low-rest x l low s e = low s (either (eqb s x) e)
+  where
+    either : (b : Bool) → has s l ≡ true → or b (has s l) ≡ true
+    either true e = refl
+    either false e = e
+
+either-low : (b : Bool) (l m : List ℕ) → Low l → Low m → Low (pick b l m)
+either-low true l m a b = a
+either-low false l m a b = b
+
+stacked-updated : (g : ℕ → List ℕ) (z : ℕ) (l : List ℕ) → Low l → Stacked g → Stacked (updated z l g)
+unfolding updated
+stacked-updated g z l low ok y = either-low (eqb y z) l (g y) low (ok y)
+
+stacked-without : (l : List ℕ) (z : ℕ) (g : ℕ → List ℕ) → Low l → Stacked g → Stacked (withoutTop l z g)
+stacked-without [] z g low ok = ok
+stacked-without (x ∷ l) z g low ok = stacked-updated g z l (low-rest x l low) ok
+
+pub top-low : (l : List ℕ) (s : ℕ) → Low l → some s ≡ topOf l → s < 8192
+top-low [] s low e = absurd (let z : _≡_ {A = ℕ} 0 1 = cc in omega arith)
+top-low (x ∷ l) s low e = let q : s ≡ x = cc in rw q (low x (has-getD (x ∷ l) 0 (omega arith)))
+
+module _ {a b n : ℕ} {t : List ℕ} {k : ScratchAllocator} {edits slots cache : List ℕ} where
+  -- what a smaller step asks
+  pub fewer : {a′ b′ n′ : ℕ} → a′ ≤ a → b′ ≤ b → n′ ≤ n → Fits a b n t k edits slots cache → Fits a′ b′ n′ t k edits slots cache
+  fewer p q r h =
+      record { few = omega arith; most = h .most; put = h .put; own = omega arith; made = omega arith; stacked = h .stacked; held = h .held }
+
+  pub stocked : Fits a b n t k edits slots cache → Stocked k slots cache
+  stocked h = record { put = fits-more (h .most) 1024 slots (omega arith) (h .put); made = omega arith; stacked = h .stacked }
+
+  -- an edit made
+  pub pushed : {a′ b′ n′ : ℕ} {edits′ : List ℕ} → a′ ≤ a + 1 → b′ ≤ b + 1 → n′ + 1 ≤ n → countOf edits′ ≡ countOf edits + 1 → Fits a b n t k edits slots cache → Fits a′ b′ n′ t k edits′ slots cache
+  pushed p q r e h =
+      record { few = omega arith; most = h .most; put = h .put; own = omega arith; made = omega arith; stacked = h .stacked; held = h .held }
+
+  -- a slot put back
+  pub put-back : {slots′ : List ℕ} {z s : ℕ} → PutBack slots slots′ z s → s < 8192 → Fits (a + 1) b n t k edits slots cache → Fits a b n t k edits slots′ cache
+  put-back {slots′} {z} {s} p l h =
+      record {
+        few = omega arith;
+        most = h .most + 1;
+        put = p .fits (h .most) (h .put);
+        own = omega arith;
+        made = omega arith;
+        stacked = rw (p .stacks cache) (stacked-updated (stacksOf slots cache) z (s ∷ stacksOf slots cache z) (low-more s _ l (h .stacked z)) (h .stacked));
+        held = h .held;
+      }
+
+  -- a slot taken from a stack
+  pub taken : {slots′ : List ℕ} {z : ℕ} {r : Popped} → Taken slots cache slots′ z r → Fits a b n t k edits slots cache → Fits a b n t k edits slots′ cache
+  taken {slots′} {z} p h =
+      record {
+        few = omega arith;
+        most = h .most;
+        put = p .fits (h .most) (h .put);
+        own = omega arith;
+        made = omega arith;
+        stacked = rw (p .stacks) (stacked-without (stacksOf slots cache z) z (stacksOf slots cache) (h .stacked z) (h .stacked));
+        held = h .held;
+      }
+
+-- a slot made
+pub one-made : {a b n m : ℕ} {v : Evicted} {t edits slots cache : List ℕ} → Fits a (b + 1) n t (record { evicted = v; made = m }) edits slots cache → Fits a b n t (record { evicted = v; made = m + 1 }) edits slots cache
+one-made h =
+    record { few = omega arith; most = h .most; put = h .put; own = omega arith; made = omega arith; stacked = h .stacked; held = h .held }
+
+-- the evicted register no longer held, and another one held
+module _ {a b n z : ℕ} {r : PhysReg} {s : SpillSlot} {t : List ℕ} {k : ScratchAllocator} {edits slots cache : List ℕ} where
+  pub let-go : k .evicted ≡ Held r s z → Fits a b n t k edits slots cache → Fits a b (n + 1) t (record { evicted = Nothing; made = k .made }) edits slots cache
+  let-go e h =
+      let q : owed (k .evicted) ≡ 1 = rw e in
+      record { few = omega arith; most = h .most; put = h .put; own = omega arith; made = omega arith; stacked = h .stacked; held = tt }
+
+  pub hold : k .evicted ≡ Nothing → HeldFits (T t) (Held r s z) → Fits a b (n + 1) t k edits slots cache → Fits a b n t (record { evicted = Held r s z; made = k .made }) edits slots cache
+  hold e f h =
+      let q : owed (k .evicted) ≡ 0 = rw e in
+      record { few = omega arith; most = h .most; put = h .put; own = omega arith; made = omega arith; stacked = h .stacked; held = f }
+
+  pub held-fits : k .evicted ≡ Held r s z → Fits a b n t k edits slots cache → HeldFits (T t) (Held r s z)
+  held-fits e h = rw e at (h .held)

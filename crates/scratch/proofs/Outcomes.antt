@@ -1,0 +1,246 @@
+-- What the methods return meets their contracts.
+use Prim.Native.Nat.{ℕ, _+_, _<_, _≤_}
+use mathlib.Core.Path.{_≡_, refl, sym, ap, _∙_}
+use mathlib.Core.Bool.{Bool, true, false}
+use mathlib.Core.List.{List, [], _∷_}
+use mathlib.Core.Option.{Option, some}
+use native.Mathlib.Omega.{arith}
+use Rattle.entity.specs.declared.AllocationKind.{AllocationKind}
+use Rattle.entity.specs.declared.AllocationKind.the-variants as kind
+use Rattle.entity.specs.declared.PhysReg.{PhysReg}
+use Rattle.entity.specs.declared.SpillSlot.{SpillSlot}
+use Rattle.entity.specs.declared.Allocation.{Allocation}
+use Rattle.entity.specs.Logic.{pick, and, has}
+use Rattle.entity.specs.Place.{Place, reg, slot, codeOf, placeAt, placeOf}
+use Rattle.entity.proofs.Laws.{place-there, code-there}
+use Rattle.reginfo.specs.RegInfo.{numRegs, numClasses, classMembers, allocationOrder, includesSpillslots, spillslotSize, stackToStackClass, lastInOrder, overlap, isMemory}
+use Rattle.reginfo.proofs.Accepted.{regs-fit, known-units, size-fits, ordered-fits, last-ordered}
+use Rattle.function.specs.Table.{functionOf}
+use Rattle.small_set.specs.Set.{setOf}
+use Rattle.rules.specs.Edit.{Move, EmergencySpill, EmergencyReload, find, andThen}
+use Rattle.rules.specs.Scratch as rules
+use Rattle.rules.specs.Scratch.{unevict, unevictAll, unevictForReg, slotScratch, evictLast, reuse, orScratch, getScratchReg, moveEdits, doMove, makeAvailable, makeUnavailable, releasePlace}
+use Rattle.search.specs.declared.Search.{Search}
+use Rattle.search.specs.declared.Search.the-variants as search
+use Rattle.search.specs.declared.Search.the-variants.{At}
+use Rattle.search.specs.Search.{searchOf, barredBy, usableIn, withUnits, withoutUnits}
+use Rattle.edit.specs.Buffer.{countOf, editsOf}
+use Rattle.slots.specs.declared.Popped.the-variants as popped
+use Rattle.slots.specs.Stacks.{stacksOf}
+use Rattle.slots.specs.Steps as slots
+use Rattle.scratch.specs.declared.Evicted.{Evicted}
+use Rattle.scratch.specs.declared.Evicted.the-variants.{Nothing, Held}
+use Rattle.scratch.specs.declared.ScratchAllocator.{ScratchAllocator}
+use Rattle.scratch.specs.declared.Scratch.{Scratch}
+use Rattle.scratch.specs.declared.Taken.{Taken}
+use Rattle.scratch.specs.State.{Checked, T, F, evictedOf, cacheIn, allocatorOf, Stocked, Fits, PlaceFits, Evictable}
+use Rattle.scratch.specs.Contracts.{Tables, tables, stateOf, Acquired, Brought, Found, Moved, Released}
+use Rattle.scratch.proofs.Bounds.{top-low, fewer, pushed, put-back, taken, one-made, let-go, hold, held-fits}
+use Rattle.scratch.proofs.Steps.{took, made, all-none, for-none, for-apart, for-met, reuse-member, reuse-stranger, find-has}
+
+-- a class without slots has a last register
+pub last-low : (t f : List ℕ) (b c : ℕ) → Evictable t f b c → (r : ℕ) → r ≡ lastInOrder (T t) c → r < numRegs (T t)
+last-low t f b c ok r e = rw e (ordered-fits (T t) (ok .checked .target) c (ok .class) _ (last-ordered (T t) (ok .checked .target) c (ok .class) (ok .slotless)))
+
+-- what a search finds is a register
+pub found-low : (t f : List ℕ) (c : ℕ) (p : ℕ → Bool) (s : Search) (r : PhysReg) → Checked t f → c < numClasses (T t) → searchOf s ≡ find p (allocationOrder (T t) c) → s ≡ At r → r .0 < numRegs (T t)
+found-low t f c p s r ok h e q = ordered-fits (T t) (ok .target) c h (r .0) (find-has p (allocationOrder (T t) c) (r .0) (sym e ∙ ap searchOf q))
+
+module _ (t f cache : List ℕ) where
+  -- a slot of the stack, and a new one
+  pub taken-top : (z : ℕ) (k : ScratchAllocator) (s s′ : List ℕ) (x : ℕ) → Stocked k s cache → slots.Taken s cache s′ z (popped.At x) → Acquired t f cache z k s (record { slot = record { 0 = x }; allocator = k }) s′
+  taken-top z k s s′ x h p =
+      record {
+        is = took (T t) (F f) z (cacheIn k s cache) (stacksOf s cache z) x (stacksOf s′ cache) (p .got) (p .stacks);
+        kept = refl;
+        small = top-low (stacksOf s cache z) x (h .stacked z) (p .got);
+        fits = λ a b n edits h. taken p (fewer (omega arith) (omega arith) (omega arith) h);
+      }
+
+  pub taken-new : (z : ℕ) (k : ScratchAllocator) (s s′ : List ℕ) (x : ℕ) → functionOf f .slots ≤ 4096 → Stocked k s cache → slots.Taken s cache s′ z popped.Empty → x ≡ functionOf f .slots + k .made → Acquired t f cache z k s (record { slot = record { 0 = x }; allocator = record { evicted = k .evicted; made = k .made + 1 } }) s′
+  taken-new z k s s′ x l h p e =
+      record {
+        is = rw e (made (T t) (F f) z (cacheIn k s cache) (stacksOf s cache z) (stacksOf s′ cache) (p .got) (p .stacks) (h .made));
+        kept = refl;
+        small = omega arith;
+        fits = λ a b n edits h. taken p (one-made h);
+      }
+
+  -- bringing back
+  pub brought-none : (k : ScratchAllocator) (w : Tables) → k .evicted ≡ Nothing → Brought t f cache k w k w (unevictAll (T t) (F f))
+  brought-none k w e = record { is = sym (all-none (T t) (F f) (stateOf t f cache k w) (ap evictedOf e)); fits = λ a b n h. h }
+
+  pub brought-held : (k : ScratchAllocator) (e e′ s s′ : List ℕ) (r : PhysReg) (x : SpillSlot) (z : ℕ) → Fits 0 0 0 t k e s cache → k .evicted ≡ Held r x z → (editsOf e′ ≡ EmergencySpill (x .0) (r .0) ∷ editsOf e) × (countOf e′ ≡ countOf e + 1) → slots.PutBack s s′ z (x .0) → (available : List Bool) → Brought t f cache k (tables e available s) (record { evicted = Nothing; made = k .made }) (tables e′ available s′) (unevictAll (T t) (F f))
+  unfolding unevict
+  brought-held k e e′ s s′ r x z ok v p q available =
+      record {
+        is = rw (p .0, q .stacks cache, v);
+        fits = λ a b n h. put-back q (held-fits v ok .1) (pushed (omega arith) (omega arith) (omega arith) (p .1) (let-go v h));
+      }
+
+  -- nothing is held then
+  none-left : (v : Evicted) (k : rules.ScratchAllocator) → unevict (T t) (F f) (evictedOf v) (rules.withEvicted [] k) .evicted ≡ []
+  unfolding unevict
+  none-left Nothing k = refl
+  none-left (Held r x z) k = refl
+
+  nothing : (v : Evicted) → evictedOf v ≡ [] → v ≡ Nothing
+  nothing Nothing e = refl
+  nothing (Held r x z) e = absurd (let z : _≡_ {A = ℕ} 0 1 = cc in omega arith)
+
+  pub brought-all : (k k′ : ScratchAllocator) (w w′ : Tables) → Brought t f cache k w k′ w′ (unevictAll (T t) (F f)) → k′ .evicted ≡ Nothing
+  brought-all k k′ w w′ h = nothing (k′ .evicted) (ap (λ (x : rules.ScratchAllocator). x .evicted) (h .is) ∙ none-left (k .evicted) (stateOf t f cache k w))
+
+  -- bringing back for a place
+  module _ (k : ScratchAllocator) (w : Tables) (p : Place) where
+    pub brought-for-none : k .evicted ≡ Nothing → Brought t f cache k w k w (unevictForReg (T t) (F f) p)
+    brought-for-none e = record { is = sym (for-none (T t) (F f) (stateOf t f cache k w) p (ap evictedOf e)); fits = λ a b n h. h }
+
+    module _ (r : PhysReg) (x : SpillSlot) (z : ℕ) (e : k .evicted ≡ Held r x z) where
+      pub brought-apart : (o : Bool) → o ≡ overlap (T t) p (reg (r .0)) → o ≡ false → Brought t f cache k w k w (unevictForReg (T t) (F f) p)
+      brought-apart o m n =
+          record {
+            is = sym (for-apart (T t) (F f) (stateOf t f cache k w) p (record { reg = r .0; slot = x .0; size = z }) (ap evictedOf e) (sym m ∙ n));
+            fits = λ a b n h. h;
+          }
+
+      pub brought-met : (k′ : ScratchAllocator) (w′ : Tables) (o : Bool) → o ≡ overlap (T t) p (reg (r .0)) → o ≡ true → Brought t f cache k w k′ w′ (unevictAll (T t) (F f)) → Brought t f cache k w k′ w′ (unevictForReg (T t) (F f) p)
+      brought-met k′ w′ o m n h =
+          record {
+            is = h .is ∙ sym (for-met (T t) (F f) (stateOf t f cache k w) p (record { reg = r .0; slot = x .0; size = z }) (ap evictedOf e) (sym m ∙ n));
+            fits = h .fits;
+          }
+
+  -- places found
+  slot-fits : (c s : ℕ) → c ≡ codeOf (slot s) → s < 8192 → PlaceFits t c
+  slot-fits c s q h = record { known = rw (q, place-there (slot s)) (omega arith); small = omega arith }
+
+  pub reg-fits : (c r : ℕ) → Checked t f → c ≡ codeOf (reg r) → r < numRegs (T t) → PlaceFits t c
+  reg-fits c r ok q h =
+      let few = regs-fit (T t) (ok .target) .1 in
+      record { known = rw (q, place-there (reg r)) (known-units (T t) (ok .target) r h); small = omega arith }
+
+  pub found-slot : (b z : ℕ) (k : ScratchAllocator) (e : List ℕ) (available : List Bool) (s s′ : List ℕ) (r : Taken) (p : Allocation) → z ≡ spillslotSize (T t) b → Acquired t f cache z k s r s′ → p .0 ≡ codeOf (slot (r .slot .0)) → Found t f cache k (tables e available s) (record { place = p; allocator = r .allocator }) (tables e available s′) (slotScratch (T t) (F f) b)
+  unfolding slotScratch andThen
+  found-slot b z k e available s s′ r p y h q =
+      let i = rw y at (h .is) in
+      record {
+        is = rw (i, q, place-there (slot (r .slot .0)), h .kept);
+        place = slot-fits (p .0) (r .slot .0) q (h .small);
+        fits = λ a b n g. fewer (omega arith) (omega arith) (omega arith) (h .fits a b (n + 2) e g);
+      }
+
+  pub found-last : (b c z y : ℕ) (k : ScratchAllocator) (e e′ : List ℕ) (available : List Bool) (s s′ : List ℕ) (r : Taken) (q : PhysReg) (p : Allocation) → Evictable t f b c → k .evicted ≡ Nothing → z ≡ spillslotSize (T t) b → Acquired t f cache z k s r s′ → q .0 ≡ lastInOrder (T t) c → (editsOf e′ ≡ EmergencyReload (q .0) (r .slot .0) ∷ editsOf e) × (countOf e′ ≡ countOf e + 1) → y ≡ z → p .0 ≡ codeOf (reg (q .0)) → Found t f cache k (tables e available s) (record { place = p; allocator = record { evicted = Held q (r .slot) y; made = r .allocator .made } }) (tables e′ available s′) (evictLast (T t) (F f) b c)
+  unfolding evictLast andThen
+  found-last b c z y k e e′ available s s′ r q p ok v u h l m d o =
+      let i = rw u at (h .is) in
+      let low = last-low t f b c ok (q .0) l in
+      let size = size-fits (T t) (ok .checked .target) b (ok .bank) in
+      record {
+        is = rw (i, o, place-there (reg (q .0)), m .0, d, u, v, l);
+        place = reg-fits (p .0) (q .0) (ok .checked) o low;
+        fits = λ a b n g. hold (h .kept ∙ v) (low, h .small, omega arith) (pushed (omega arith) (omega arith) (omega arith) (m .1) (h .fits a b (n + 2) e g));
+      }
+
+  pub found-evicted : (b c : ℕ) (k k′ : ScratchAllocator) (w w′ : Tables) (r : Scratch) (w″ : Tables) → Brought t f cache k w k′ w′ (unevictAll (T t) (F f)) → Found t f cache k′ w′ r w″ (evictLast (T t) (F f) b c) → Found t f cache k w r w″ (reuse (T t) (F f) [] b c)
+  unfolding reuse
+  found-evicted b c k k′ w w′ r w″ h g =
+      record { is = ap (evictLast (T t) (F f) b c) (sym (h .is)) ∙ g .is; place = g .place; fits = λ a b n i. g .fits a b n (h .fits a (b + 1) (n + 2) i) }
+
+  -- what another step of the rules gives too
+  found-as : (k : ScratchAllocator) (w : Tables) (r : Scratch) (w′ : Tables) (by by′ : rules.ScratchAllocator → Option rules.Found) → by′ (stateOf t f cache k w) ≡ by (stateOf t f cache k w) → Found t f cache k w r w′ by → Found t f cache k w r w′ by′
+  found-as k w r w′ by by′ e h = record { is = e ∙ h .is; place = h .place; fits = h .fits }
+
+  -- a register that changes nothing
+  found-reg : (k : ScratchAllocator) (w : Tables) (p : Allocation) (r : ℕ) (by : rules.ScratchAllocator → Option rules.Found) → Checked t f → p .0 ≡ codeOf (reg r) → r < numRegs (T t) → by (stateOf t f cache k w) ≡ some (record { place = reg r; scratch = stateOf t f cache k w }) → Found t f cache k w (record { place = p; allocator = k }) w by
+  found-reg k w p r by ok q h e =
+      record {
+        is = rw (q, place-there (reg r)) e;
+        place = reg-fits (p .0) r ok q h;
+        fits = λ a b n g. fewer (omega arith) (omega arith) (omega arith) g;
+      }
+
+  pub found-none : (b c : ℕ) (k : ScratchAllocator) (w : Tables) (r : Scratch) (w′ : Tables) → k .evicted ≡ Nothing → Found t f cache k w r w′ (reuse (T t) (F f) [] b c) → Found t f cache k w r w′ (reuse (T t) (F f) (evictedOf (k .evicted)) b c)
+  found-none b c k w r w′ e h =
+      found-as k w r w′ (reuse (T t) (F f) [] b c) (reuse (T t) (F f) (evictedOf (k .evicted)) b c) (ap (λ (v : Evicted). reuse (T t) (F f) (evictedOf v) b c (stateOf t f cache k w)) e) h
+
+  module _ (b c : ℕ) (k : ScratchAllocator) (w : Tables) (v : PhysReg) (x : SpillSlot) (z : ℕ) (e : k .evicted ≡ Held v x z) where
+    pub found-member : (p : Allocation) → Checked t f → v .0 < numRegs (T t) → p .0 ≡ codeOf (reg (v .0)) → (m : Bool) → m ≡ has (v .0) (classMembers (T t) c) → m ≡ true → Found t f cache k w (record { place = p; allocator = k }) w (reuse (T t) (F f) (evictedOf (k .evicted)) b c)
+    found-member p ok h q m n o =
+        found-reg k w p (v .0) (reuse (T t) (F f) (evictedOf (k .evicted)) b c) ok q h
+        (reuse-member (T t) (F f) b c (stateOf t f cache k w) (evictedOf (k .evicted)) (record { reg = v .0; slot = x .0; size = z }) (ap evictedOf e) (sym n ∙ o))
+
+    pub found-stranger : (r : Scratch) (w′ : Tables) (m : Bool) → m ≡ has (v .0) (classMembers (T t) c) → m ≡ false → Found t f cache k w r w′ (reuse (T t) (F f) [] b c) → Found t f cache k w r w′ (reuse (T t) (F f) (evictedOf (k .evicted)) b c)
+    found-stranger r w′ m n o h =
+        found-as k w r w′ (reuse (T t) (F f) [] b c) (reuse (T t) (F f) (evictedOf (k .evicted)) b c)
+        (reuse-stranger (T t) (F f) b c (stateOf t f cache k w) (evictedOf (k .evicted)) (record { reg = v .0; slot = x .0; size = z }) (ap evictedOf e) (sym n ∙ o)) h
+
+  -- a search
+  module _ (b c : ℕ) (k : ScratchAllocator) (w : Tables) (cycle : Bool) (sources : List Bool) where
+    abbrev searched : Option ℕ
+    searched = find (usableIn (T t) (w .available) sources cycle) (allocationOrder (T t) c)
+
+    pub found-first : (s : Search) (r : PhysReg) (p : Allocation) → Checked t f → c < numClasses (T t) → searchOf s ≡ searched → s ≡ At r → p .0 ≡ codeOf (reg (r .0)) → Found t f cache k w (record { place = p; allocator = k }) w (getScratchReg (T t) (F f) b c (barredBy cycle sources))
+    unfolding getScratchReg orScratch
+    found-first s r p ok h e d q =
+        found-reg k w p (r .0) (getScratchReg (T t) (F f) b c (barredBy cycle sources)) ok q
+        (found-low t f c (usableIn (T t) (w .available) sources cycle) s r ok h e d)
+        (ap (λ (o : Option ℕ). orScratch (T t) (F f) o b c (stateOf t f cache k w)) (sym e ∙ ap searchOf d))
+
+    module _ (s : Search) (r : Scratch) (w′ : Tables) (e : searchOf s ≡ searched) (d : s ≡ search.Nothing) (i : Bool) (j : i ≡ includesSpillslots (T t) c) where
+      none-found : (u : Bool) → i ≡ u → getScratchReg (T t) (F f) b c (barredBy cycle sources) (stateOf t f cache k w) ≡ pick u (slotScratch (T t) (F f) b (stateOf t f cache k w)) (reuse (T t) (F f) (evictedOf (k .evicted)) b c (stateOf t f cache k w))
+      unfolding getScratchReg orScratch
+      none-found u q =
+          ap (λ (o : Option ℕ). orScratch (T t) (F f) o b c (stateOf t f cache k w)) (sym e ∙ ap searchOf d)
+          ∙ ap (λ (u : Bool). pick u (slotScratch (T t) (F f) b (stateOf t f cache k w)) (reuse (T t) (F f) (evictedOf (k .evicted)) b c (stateOf t f cache k w))) (sym j ∙ q)
+
+      pub found-slotted : i ≡ true → Found t f cache k w r w′ (slotScratch (T t) (F f) b) → Found t f cache k w r w′ (getScratchReg (T t) (F f) b c (barredBy cycle sources))
+      found-slotted q h = found-as k w r w′ (slotScratch (T t) (F f) b) (getScratchReg (T t) (F f) b c (barredBy cycle sources)) (none-found true q) h
+
+      pub found-reused : i ≡ false → Found t f cache k w r w′ (reuse (T t) (F f) (evictedOf (k .evicted)) b c) → Found t f cache k w r w′ (getScratchReg (T t) (F f) b c (barredBy cycle sources))
+      found-reused q h = found-as k w r w′ (reuse (T t) (F f) (evictedOf (k .evicted)) b c) (getScratchReg (T t) (F f) b c (barredBy cycle sources)) (none-found false q) h
+
+  -- a move emitted
+  module _ (b : ℕ) (to from : Place) (v : ℕ) where
+    pub moved-through : (k : ScratchAllocator) (w : Tables) (r : Scratch) (w′ : Tables) (e e′ : List ℕ) (sources : List Bool) (c : ℕ) → and (isMemory (T t) to) (isMemory (T t) from) ≡ true → c ≡ stackToStackClass (T t) b → Found t f cache k w r w′ (getScratchReg (T t) (F f) b c (barredBy false sources)) → (editsOf e ≡ Move to (placeAt (r .place .0)) v ∷ editsOf (w′ .edits)) × (countOf e ≡ countOf (w′ .edits) + 1) → (editsOf e′ ≡ Move (placeAt (r .place .0)) from v ∷ editsOf e) × (countOf e′ ≡ countOf e + 1) → Moved t f cache k w (r .allocator) (tables e′ (w′ .available) (w′ .slots)) (moveEdits (T t) (F f) b to from v)
+    unfolding moveEdits andThen
+    moved-through k w r w′ e e′ sources c m d h p q =
+        let i = rw d at (h .is) in
+        record {
+          is = rw (m, i, q .0, p .0);
+          fits = λ a b n g.
+              let one : Fits (a + 1) (b + 1) (n + 1) t (r .allocator) e (w′ .slots) cache = pushed (omega arith) (omega arith) (omega arith) (p .1) (h .fits a b (n + 2) (fewer (omega arith) (omega arith) (omega arith) g)) in
+              pushed (omega arith) (omega arith) (omega arith) (q .1) one;
+        }
+
+    pub moved-at-once : (k : ScratchAllocator) (w : Tables) (e : List ℕ) → and (isMemory (T t) to) (isMemory (T t) from) ≡ false → (editsOf e ≡ Move to from v ∷ editsOf (w .edits)) × (countOf e ≡ countOf (w .edits) + 1) → Moved t f cache k w k (tables e (w .available) (w .slots)) (moveEdits (T t) (F f) b to from v)
+    unfolding moveEdits
+    moved-at-once k w e m p = record { is = rw (m, p .0); fits = λ a b n g. pushed (omega arith) (omega arith) (omega arith) (p .1) g }
+
+    pub moved-marked : (k k₁ k₂ k₃ k₄ k₅ : ScratchAllocator) (w w₁ w₂ w₃ : Tables) (a₁ a₂ : List Bool) → Brought t f cache k w k₁ w₁ (unevictForReg (T t) (F f) from) → Brought t f cache k₁ w₁ k₂ w₂ (unevictForReg (T t) (F f) to) → Moved t f cache k₂ w₂ k₃ w₃ (moveEdits (T t) (F f) b to from v) → k₄ ≡ k₃ → allocatorOf k₄ (w₃ .edits) a₁ (w₃ .slots) cache ≡ makeAvailable (T t) (F f) to (stateOf t f cache k₃ w₃) → k₅ ≡ k₄ → allocatorOf k₅ (w₃ .edits) a₂ (w₃ .slots) cache ≡ makeUnavailable (T t) (F f) from (allocatorOf k₄ (w₃ .edits) a₁ (w₃ .slots) cache) → Moved t f cache k w k₅ (tables (w₃ .edits) a₂ (w₃ .slots)) (doMove (T t) (F f) b to from v)
+    unfolding doMove andThen
+    moved-marked k k₁ k₂ k₃ k₄ k₅ w w₁ w₂ w₃ a₁ a₂ h g m p x q y =
+        record {
+          is = rw (← h .is, ← g .is, m .is) (ap some (sym (y ∙ ap (makeUnavailable (T t) (F f) from) x)));
+          fits = λ a b n i. rw (q ∙ p) (m .fits a b n (g .fits a (b + 1) (n + 4) (h .fits a (b + 1) (n + 4) i)));
+        }
+
+  -- units marked
+  pub units-available : (p : Place) (k : ScratchAllocator) (e s : List ℕ) (l l′ : List Bool) → setOf l′ ≡ withUnits (T t) p (setOf l) → allocatorOf k e l′ s cache ≡ makeAvailable (T t) (F f) p (allocatorOf k e l s cache)
+  units-available (reg r) k e s l l′ q = rw q
+  units-available (slot x) k e s l l′ q = rw q
+
+  pub units-unavailable : (p : Place) (k : ScratchAllocator) (e s : List ℕ) (l l′ : List Bool) → setOf l′ ≡ withoutUnits (T t) p (setOf l) → allocatorOf k e l′ s cache ≡ makeUnavailable (T t) (F f) p (allocatorOf k e l s cache)
+  units-unavailable (reg r) k e s l l′ q = rw q
+  units-unavailable (slot x) k e s l l′ q = rw q
+
+  -- a scratch put back
+  module _ (b c : ℕ) (k : ScratchAllocator) (e : List ℕ) (available : List Bool) (s : List ℕ) where
+    pub released-reg : (p : AllocationKind) (r : PhysReg) → placeOf p ≡ placeAt c → p ≡ kind.PhysReg r → Released t f cache k (tables e available s) k (tables e available s) (releasePlace (T t) (F f) (spillslotSize (T t) b) (placeAt c))
+    released-reg p r q d = record { is = rw (← q, d); fits = λ a b n g. fewer (omega arith) (omega arith) (omega arith) g }
+
+    pub released-slot : (s′ : List ℕ) (p : AllocationKind) (x : SpillSlot) (z : ℕ) → c < 16384 → placeOf p ≡ placeAt c → p ≡ kind.SpillSlot x → z ≡ spillslotSize (T t) b → slots.PutBack s s′ z (x .0) → Released t f cache k (tables e available s) k (tables e available s′) (releasePlace (T t) (F f) (spillslotSize (T t) b) (placeAt c))
+    released-slot s′ p x z h q d y u =
+        let at : slot (x .0) ≡ placeAt c = sym (ap placeOf d) ∙ q in
+        let low : x .0 < 8192 = omega (arith, ap codeOf at ∙ code-there c) in
+        record { is = rw (← at, ← y, u .stacks cache); fits = λ a b n g. put-back u low g }

@@ -1,0 +1,56 @@
+-- `scratch::ScratchAllocator::evict_last` meets its contract.
+use native.Mathlib.Omega.{arith}
+use Rattle.reginfo.proofs.Accepted.{known-bank, known-class, size-fits, order-some, order-fits, regs-fit}
+use Rattle.scratch.proofs.Bounds.{stocked}
+use Rattle.scratch.proofs.Outcomes.{last-low, found-last}
+use Rattle.scratch.proofs.ScratchAllocator.evict_last.Statement.{statement}
+use Rattle.scratch.proofs.ScratchAllocator.evict_last.Tie as tie
+
+spillslot-size-requires : tie.Need-spillslot-size-requires
+spillslot-size-requires c κs = known-bank _ (c .pre .0 .checked .target) _ (c .pre .0 .bank)
+
+acquire-requires : tie.Need-acquire-requires
+acquire-requires c κs =
+    let pre = c .before .before .pre in
+    (pre .0 .checked, omega (arith, c .before .spillslot-size .ensures, size-fits _ (pre .0 .checked .target) _ (pre .0 .bank)), stocked (pre .2))
+
+order-last-requires : tie.Need-order-last-requires
+order-last-requires c κs =
+    let ok = c .before .before .before .before .before .pre .0 in
+    let t = ok .checked .target in
+    (known-class _ t _ (ok .class), order-some _ t _ (ok .class) (ok .slotless), order-fits _ t _ (ok .class))
+
+push-reload-requires : tie.Need-push-reload-requires
+push-reload-requires c κs =
+    let pre = c .before .before .before .before .before .before .before .pre in
+    let got = c .before .before .before .before .acquire .ensures in
+    let low = last-low _ _ _ _ (pre .0) _ (c .before .order-last .ensures) in
+    (omega (arith, got .fits 0 0 2 _ (pre .2) .few), omega (arith, low, regs-fit _ (pre .0 .checked .target) .1), got .small)
+
+reg-requires : tie.Need-reg-requires
+reg-requires c κs =
+    let pre = c .before .before .before .before .before .before .before .before .pre in
+    let low = last-low _ _ _ _ (pre .0) _ (c .before .before .order-last .ensures) in
+    omega (arith, low, regs-fit _ (pre .0 .checked .target) .1)
+
+narrow-requires : tie.Need-narrow-requires
+narrow-requires c κs =
+    let ok = c .before .before .before .before .before .before .before .before .before .pre .0 in
+    omega (arith, c .before .before .before .before .before .before .before .before .spillslot-size .ensures, size-fits _ (ok .checked .target) _ (ok .bank))
+
+returns : tie.Need-returns
+returns c =
+    let pre = c .before .before .before .before .before .before .before .before .before .before .pre in
+    λ available. found-last _ _ _ _ _ _ _ _ _ _ _ _ _ _ _ _ (pre .0) (pre .1) (c .before .before .before .before .before .before .before .before .before .spillslot-size .ensures) (c .before .before .before .before .before .before .before .acquire .ensures) (c .before .before .before .before .order-last .ensures) (c .before .before .push-reload .ensures) (c .narrow .ensures) (c .before .reg .ensures)
+
+pub evict-last-spec : {M : Type 1} → statement M
+evict-last-spec =
+    tie.close
+    (tie.spec
+    spillslot-size-requires
+    acquire-requires
+    order-last-requires
+    push-reload-requires
+    reg-requires
+    narrow-requires
+    returns)

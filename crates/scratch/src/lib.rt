@@ -1,0 +1,538 @@
+// 01: the scratch keeper. It goes in by value and comes back; what changes at each step is lent beside it:
+// the edits made so far, the available units, and what the patch did to the cache's stacks of slots.
+use edit::Edits;
+use entity::Allocation;
+use entity::AllocationKind;
+use entity::PhysReg;
+use entity::RegBank;
+use entity::RegClass;
+use entity::SpillSlot;
+use entity::Value;
+use entity::narrow;
+use entity::wide;
+use function::Function;
+use reginfo::RegInfo;
+use search::Search;
+use slots::Popped;
+use slots::SlotCache;
+use slots::Slots;
+use small_set::RegUnitSet;
+ghost use mathlib.Core.Path.{_≡_};
+ghost use mathlib.Core.Bool.{Bool, true};
+ghost use mathlib.Core.List.{List, []};
+ghost use Prim.Native.Nat.{ℕ, _+_, _<_};
+ghost use Rattle.entity.specs.Logic.{and};
+ghost use Rattle.entity.specs.Place.{placeAt};
+ghost use Rattle.reginfo.specs.RegInfo.{numBanks, numClasses, spillslotSize, isMemory};
+ghost use Rattle.reginfo.specs.Known.{KnownPlace};
+ghost use Rattle.rules.specs.Scratch.{makeAvailable, makeUnavailable, unevictAll, unevictForReg, slotScratch, evictLast, reuse, getScratchReg, moveEdits, doMove, releasePlace};
+ghost use Rattle.search.specs.Search.{barredBy};
+ghost use Rattle.slots.specs.Stacks.{SlotsFit};
+ghost use lib.ListN.{length};
+ghost use Rattle.function.specs.Function.{numValues, valueBank};
+ghost use Rattle.function.specs.Table.{functionOf};
+ghost use Rattle.scratch.specs.Diversions.{countAt, allocAt, scratchAt, Noted, Diverts, Ended, Undiverts};
+ghost use Rattle.scratch.specs.State.{Checked, T, F, evictedOf, allocatorOf, Stocked, Fits, PlaceFits, Evictable, Movable};
+ghost use Rattle.scratch.specs.Contracts.{tables, Acquired, Brought, Found, Moved, Released};
+
+// The evicted register, its slot and the slot's size.
+pub enum Evicted {
+    Nothing,
+    Held(PhysReg, SpillSlot, u16),
+}
+
+pub struct ScratchAllocator {
+    pub evicted: Evicted,
+    pub made: u16,
+}
+
+// What a search found, and the allocator after it.
+pub struct Scratch {
+    pub place: Allocation,
+    pub allocator: ScratchAllocator,
+}
+
+pub struct Taken {
+    pub slot: SpillSlot,
+    pub allocator: ScratchAllocator,
+}
+
+// Whether both places are memory.
+fn both_memory(t: &RegInfo, p: Allocation, q: Allocation) -> bool
+    requires { ⌜ KnownPlace (T (now t)) (placeAt (p .0)) × KnownPlace (T (now t)) (placeAt (q .0)) ⌝ }
+    ensures { λ r. ⌜ r ≡ and (isMemory (T (now (t .entry))) (placeAt (p .0))) (isMemory (T (now (t .entry))) (placeAt (q .0))) ⌝ }
+{
+    if reginfo::is_memory(t, p) {
+        return reginfo::is_memory(t, q);
+    }
+    false
+}
+
+// The diversion of each value (specs/Diversions.antt).
+pub type Diverted = [u16; 12288];
+
+// It does nothing: a call tells the length of the table that is passed.
+fn told(d: [u16; 12288]) -> bool
+    ensures { λ _. ⌜ length d ≡ 12288 ⌝ }
+{
+    true
+}
+
+// The diversion of a value: how many moves need it, its scratch and its first source.
+pub fn ref_count(d: &Diverted, v: Value) -> usize
+    requires { ⌜ v .0 < 4096 ⌝ }
+    ensures { λ n. ⌜ n ≡ countAt (now (d .entry)) (v .0) ⌝ }
+{
+    let i = wide(v.0);
+    wide(d[i])
+}
+
+pub fn scratch_of(d: &Diverted, v: Value) -> Allocation
+    requires { ⌜ v .0 < 4096 ⌝ }
+    ensures { λ p. ⌜ p .0 ≡ scratchAt (now (d .entry)) (v .0) ⌝ }
+{
+    let i = wide(v.0);
+    Allocation(d[8192 + i])
+}
+
+pub fn first_of(d: &Diverted, v: Value) -> Allocation
+    requires { ⌜ v .0 < 4096 ⌝ }
+    ensures { λ p. ⌜ p .0 ≡ allocAt (now (d .entry)) (v .0) ⌝ }
+{
+    let i = wide(v.0);
+    Allocation(d[4096 + i])
+}
+
+pub fn set_count(d: &mut Diverted, v: Value, n: usize)
+    requires { ⌜ (v .0 < 4096) × (n < 65536) ⌝ }
+    ensures { λ _. ⌜ Noted (v .0) n (allocAt (now (d .entry)) (v .0)) (scratchAt (now (d .entry)) (v .0)) (now (d .entry)) (now (d .exit)) ⌝ }
+{
+    told(*d);
+    let i = wide(v.0);
+    d[i] = narrow(n);
+}
+
+fn note(d: &mut Diverted, v: Value, n: u16, source: Allocation, scratch: Allocation)
+    requires { ⌜ v .0 < 4096 ⌝ }
+    ensures { λ _. ⌜ Noted (v .0) n (source .0) (scratch .0) (now (d .entry)) (now (d .exit)) ⌝ }
+{
+    told(*d);
+    let i = wide(v.0);
+    d[i] = n;
+    d[4096 + i] = source.0;
+    d[8192 + i] = scratch.0;
+}
+
+impl ScratchAllocator {
+    // Makes the units of a register available; a slot has none.
+    pub fn make_available(mut self, t: &RegInfo, available: &mut RegUnitSet, p: Allocation) -> Self
+        requires { ⌜ KnownPlace (T (now t)) (placeAt (p .0)) ⌝ }
+        ensures { λ r. ⌜ (r ≡ self) × ((f cache edits slots : List ℕ) → allocatorOf r edits (now (available .exit)) slots cache ≡ makeAvailable (T (now (t .entry))) (F f) (placeAt (p .0)) (allocatorOf self edits (now (available .entry)) slots cache)) ⌝ }
+    {
+        search::insert_units(t, available, p);
+        self
+    }
+
+    // Makes them unavailable.
+    pub fn make_unavailable(
+        mut self,
+        t: &RegInfo,
+        available: &mut RegUnitSet,
+        p: Allocation,
+    ) -> Self
+        requires { ⌜ KnownPlace (T (now t)) (placeAt (p .0)) ⌝ }
+        ensures { λ r. ⌜ (r ≡ self) × ((f cache edits slots : List ℕ) → allocatorOf r edits (now (available .exit)) slots cache ≡ makeUnavailable (T (now (t .entry))) (F f) (placeAt (p .0)) (allocatorOf self edits (now (available .entry)) slots cache)) ⌝ }
+    {
+        search::remove_units(t, available, p);
+        self
+    }
+
+    // Takes the slot of a size last put back, else makes one.
+    fn acquire(
+        mut self,
+        t: &RegInfo,
+        f: &Function,
+        cache: &SlotCache,
+        slots: &mut Slots,
+        z: usize,
+    ) -> Taken
+        requires { ⌜ Checked (now t) (now f) × (z < 32) × Stocked self (now slots) (now cache) ⌝ }
+        ensures { λ r. ⌜ Acquired (now (t .entry)) (now (f .entry)) (now (cache .entry)) z self (now (slots .entry)) r (now (slots .exit)) ⌝ }
+    {
+        if let Popped::At(s) = slots::acquire(slots, cache, z) {
+            return Taken {
+                slot: SpillSlot(s),
+                allocator: self,
+            };
+        }
+        let n = function::num_slots(f) + wide(self.made);
+        self.made += 1;
+        Taken {
+            slot: SpillSlot(narrow(n)),
+            allocator: self,
+        }
+    }
+
+    // Brings back the evicted register: emits its save and puts its slot back.
+    pub fn unevict_all(
+        mut self,
+        t: &RegInfo,
+        f: &Function,
+        cache: &SlotCache,
+        edits: &mut Edits,
+        slots: &mut Slots,
+    ) -> Self
+        requires { ⌜ Checked (now t) (now f) × Fits 0 0 0 (now t) self (now edits) (now slots) (now cache) ⌝ }
+        ensures { λ r. ⌜ ((available : List Bool) → Brought (now (t .entry)) (now (f .entry)) (now (cache .entry)) self (tables (now (edits .entry)) available (now (slots .entry))) r (tables (now (edits .exit)) available (now (slots .exit))) (unevictAll (T (now (t .entry))) (F (now (f .entry))))) ⌝ }
+    {
+        let e = self.evicted;
+        let Evicted::Held(r, s, z) = e else {
+            return self;
+        };
+        edit::push_spill(edits, s, r);
+        slots::put_back(slots, wide(z), s);
+        ScratchAllocator {
+            evicted: Evicted::Nothing,
+            made: self.made,
+        }
+    }
+
+    // Brings back the evicted register if it overlaps the place.
+    pub fn unevict_for_reg(
+        mut self,
+        t: &RegInfo,
+        f: &Function,
+        cache: &SlotCache,
+        edits: &mut Edits,
+        slots: &mut Slots,
+        p: Allocation,
+    ) -> Self
+        requires { ⌜ Checked (now t) (now f) × KnownPlace (T (now t)) (placeAt (p .0)) × Fits 0 0 0 (now t) self (now edits) (now slots) (now cache) ⌝ }
+        ensures { λ r. ⌜ ((available : List Bool) → Brought (now (t .entry)) (now (f .entry)) (now (cache .entry)) self (tables (now (edits .entry)) available (now (slots .entry))) r (tables (now (edits .exit)) available (now (slots .exit))) (unevictForReg (T (now (t .entry))) (F (now (f .entry))) (placeAt (p .0)))) ⌝ }
+    {
+        let e = self.evicted;
+        let Evicted::Held(r, _, _) = e else {
+            return self;
+        };
+        if reginfo::overlaps_reg(t, p, r) {
+            return self.unevict_all(t, f, cache, edits, slots);
+        }
+        self
+    }
+
+    // An emergency slot as scratch.
+    fn slot_scratch(
+        mut self,
+        t: &RegInfo,
+        f: &Function,
+        cache: &SlotCache,
+        slots: &mut Slots,
+        b: RegBank,
+    ) -> Scratch
+        requires { ⌜ Checked (now t) (now f) × (b .0 < numBanks (T (now t))) × Stocked self (now slots) (now cache) ⌝ }
+        ensures { λ r. ⌜ ((edits : List ℕ) (available : List Bool) → Found (now (t .entry)) (now (f .entry)) (now (cache .entry)) self (tables edits available (now (slots .entry))) r (tables edits available (now (slots .exit))) (slotScratch (T (now (t .entry))) (F (now (f .entry))) (b .0))) ⌝ }
+    {
+        let got = self.acquire(t, f, cache, slots, reginfo::spillslot_size(t, b));
+        let s = got.slot;
+        let k = got.allocator;
+        Scratch {
+            place: Allocation::spillslot(s),
+            allocator: k,
+        }
+    }
+
+    // Evicts the last register of a class's order into a slot, and emits its reload.
+    fn evict_last(
+        mut self,
+        t: &RegInfo,
+        f: &Function,
+        cache: &SlotCache,
+        edits: &mut Edits,
+        slots: &mut Slots,
+        b: RegBank,
+        c: RegClass,
+    ) -> Scratch
+        requires { ⌜ Evictable (now t) (now f) (b .0) (c .0) × (self .evicted ≡ Evicted.Nothing) × Fits 0 1 2 (now t) self (now edits) (now slots) (now cache) ⌝ }
+        ensures { λ r. ⌜ ((available : List Bool) → Found (now (t .entry)) (now (f .entry)) (now (cache .entry)) self (tables (now (edits .entry)) available (now (slots .entry))) r (tables (now (edits .exit)) available (now (slots .exit))) (evictLast (T (now (t .entry))) (F (now (f .entry))) (b .0) (c .0))) ⌝ }
+    {
+        let z = reginfo::spillslot_size(t, b);
+        let got = self.acquire(t, f, cache, slots, z);
+        let s = got.slot;
+        let k = got.allocator;
+        let r = reginfo::order_last(t, c);
+        edit::push_reload(edits, r, s);
+        Scratch {
+            place: Allocation::reg(r),
+            allocator: ScratchAllocator {
+                evicted: Evicted::Held(r, s, narrow(z)),
+                made: k.made,
+            },
+        }
+    }
+
+    // Brings back the evicted register, and evicts the order's last.
+    fn evict(
+        mut self,
+        t: &RegInfo,
+        f: &Function,
+        cache: &SlotCache,
+        edits: &mut Edits,
+        slots: &mut Slots,
+        b: RegBank,
+        c: RegClass,
+    ) -> Scratch
+        requires { ⌜ Evictable (now t) (now f) (b .0) (c .0) × Fits 0 1 2 (now t) self (now edits) (now slots) (now cache) ⌝ }
+        ensures { λ r. ⌜ ((available : List Bool) → Found (now (t .entry)) (now (f .entry)) (now (cache .entry)) self (tables (now (edits .entry)) available (now (slots .entry))) r (tables (now (edits .exit)) available (now (slots .exit))) (reuse (T (now (t .entry))) (F (now (f .entry))) [] (b .0) (c .0))) ⌝ }
+    {
+        let k = self.unevict_all(t, f, cache, edits, slots);
+        k.evict_last(t, f, cache, edits, slots, b, c)
+    }
+
+    // The evicted register if it is a member of the class, else the order's last.
+    fn reuse(
+        mut self,
+        t: &RegInfo,
+        f: &Function,
+        cache: &SlotCache,
+        edits: &mut Edits,
+        slots: &mut Slots,
+        b: RegBank,
+        c: RegClass,
+    ) -> Scratch
+        requires { ⌜ Evictable (now t) (now f) (b .0) (c .0) × Fits 0 1 2 (now t) self (now edits) (now slots) (now cache) ⌝ }
+        ensures { λ r. ⌜ ((available : List Bool) → Found (now (t .entry)) (now (f .entry)) (now (cache .entry)) self (tables (now (edits .entry)) available (now (slots .entry))) r (tables (now (edits .exit)) available (now (slots .exit))) (reuse (T (now (t .entry))) (F (now (f .entry))) (evictedOf (self .evicted)) (b .0) (c .0))) ⌝ }
+    {
+        let e = self.evicted;
+        let Evicted::Held(r, _, _) = e else {
+            return self.evict(t, f, cache, edits, slots, b, c);
+        };
+        if reginfo::class_has_reg(t, c, r) {
+            return Scratch {
+                place: Allocation::reg(r),
+                allocator: self,
+            };
+        }
+        self.evict(t, f, cache, edits, slots, b, c)
+    }
+
+    // A scratch of a class: the first register of its order that is usable, failing that a slot or an evicted register.
+    // For a cycle no source unit of a kept move is used.
+    pub fn get_scratch_reg(
+        mut self,
+        t: &RegInfo,
+        f: &Function,
+        cache: &SlotCache,
+        available: &RegUnitSet,
+        sources: &RegUnitSet,
+        cycle: bool,
+        edits: &mut Edits,
+        slots: &mut Slots,
+        b: RegBank,
+        c: RegClass,
+    ) -> Scratch
+        requires { ⌜ Checked (now t) (now f) × (b .0 < numBanks (T (now t))) × (c .0 < numClasses (T (now t))) × Fits 0 1 2 (now t) self (now edits) (now slots) (now cache) ⌝ }
+        ensures { λ r. ⌜ Found (now (t .entry)) (now (f .entry)) (now (cache .entry)) self (tables (now (edits .entry)) (now (available .entry)) (now (slots .entry))) r (tables (now (edits .exit)) (now (available .entry)) (now (slots .exit))) (getScratchReg (T (now (t .entry))) (F (now (f .entry))) (b .0) (c .0) (barredBy cycle (now (sources .entry)))) ⌝ }
+    {
+        let found = search::first_usable(t, available, sources, cycle, c);
+        if let Search::At(r) = found {
+            return Scratch {
+                place: Allocation::reg(r),
+                allocator: self,
+            };
+        }
+        if reginfo::class_includes_spillslots(t, c) {
+            return self.slot_scratch(t, f, cache, slots, b);
+        }
+        self.reuse(t, f, cache, edits, slots, b, c)
+    }
+
+    // Memory to memory goes through a scratch of the stack class.
+    fn through_scratch(
+        mut self,
+        t: &RegInfo,
+        f: &Function,
+        cache: &SlotCache,
+        available: &RegUnitSet,
+        sources: &RegUnitSet,
+        edits: &mut Edits,
+        slots: &mut Slots,
+        b: RegBank,
+        to: Allocation,
+        from: Allocation,
+        v: Value,
+    ) -> Self
+        requires { ⌜ Movable (now t) (now f) (b .0) (to .0) (from .0) (v .0) × (and (isMemory (T (now t)) (placeAt (to .0))) (isMemory (T (now t)) (placeAt (from .0))) ≡ true) × Fits 0 1 4 (now t) self (now edits) (now slots) (now cache) ⌝ }
+        ensures { λ r. ⌜ Moved (now (t .entry)) (now (f .entry)) (now (cache .entry)) self (tables (now (edits .entry)) (now (available .entry)) (now (slots .entry))) r (tables (now (edits .exit)) (now (available .entry)) (now (slots .exit))) (moveEdits (T (now (t .entry))) (F (now (f .entry))) (b .0) (placeAt (to .0)) (placeAt (from .0)) (v .0)) ⌝ }
+    {
+        let c = reginfo::stack_to_stack_class(t, b);
+        let found = self.get_scratch_reg(
+            t,
+            f,
+            cache,
+            available,
+            sources,
+            false,
+            edits,
+            slots,
+            b,
+            c,
+        );
+        let p = found.place;
+        let k = found.allocator;
+        edit::push_move(edits, to, p, v);
+        edit::push_move(edits, p, from, v);
+        k
+    }
+
+    // The edit or edits of a move.
+    pub fn move_edits(
+        mut self,
+        t: &RegInfo,
+        f: &Function,
+        cache: &SlotCache,
+        available: &RegUnitSet,
+        sources: &RegUnitSet,
+        edits: &mut Edits,
+        slots: &mut Slots,
+        b: RegBank,
+        to: Allocation,
+        from: Allocation,
+        v: Value,
+    ) -> Self
+        requires { ⌜ Movable (now t) (now f) (b .0) (to .0) (from .0) (v .0) × Fits 0 1 4 (now t) self (now edits) (now slots) (now cache) ⌝ }
+        ensures { λ r. ⌜ Moved (now (t .entry)) (now (f .entry)) (now (cache .entry)) self (tables (now (edits .entry)) (now (available .entry)) (now (slots .entry))) r (tables (now (edits .exit)) (now (available .entry)) (now (slots .exit))) (moveEdits (T (now (t .entry))) (F (now (f .entry))) (b .0) (placeAt (to .0)) (placeAt (from .0)) (v .0)) ⌝ }
+    {
+        if both_memory(t, to, from) {
+            return self.through_scratch(
+                t,
+                f,
+                cache,
+                available,
+                sources,
+                edits,
+                slots,
+                b,
+                to,
+                from,
+                v,
+            );
+        }
+        edit::push_move(edits, to, from, v);
+        self
+    }
+
+    // Emits a move, and marks the units of its ends.
+    pub fn do_move(
+        mut self,
+        t: &RegInfo,
+        f: &Function,
+        cache: &SlotCache,
+        available: &mut RegUnitSet,
+        sources: &RegUnitSet,
+        edits: &mut Edits,
+        slots: &mut Slots,
+        b: RegBank,
+        to: Allocation,
+        from: Allocation,
+        v: Value,
+    ) -> Self
+        requires { ⌜ Movable (now t) (now f) (b .0) (to .0) (from .0) (v .0) × Fits 0 1 4 (now t) self (now edits) (now slots) (now cache) ⌝ }
+        ensures { λ r. ⌜ Moved (now (t .entry)) (now (f .entry)) (now (cache .entry)) self (tables (now (edits .entry)) (now (available .entry)) (now (slots .entry))) r (tables (now (edits .exit)) (now (available .exit)) (now (slots .exit))) (doMove (T (now (t .entry))) (F (now (f .entry))) (b .0) (placeAt (to .0)) (placeAt (from .0)) (v .0)) ⌝ }
+    {
+        let first = self.unevict_for_reg(t, f, cache, edits, slots, from);
+        let then = first.unevict_for_reg(t, f, cache, edits, slots, to);
+        let moved = then.move_edits(
+            t,
+            f,
+            cache,
+            available,
+            sources,
+            edits,
+            slots,
+            b,
+            to,
+            from,
+            v,
+        );
+        let marked = moved.make_available(t, available, to);
+        marked.make_unavailable(t, available, from)
+    }
+
+    // Puts a scratch back if it is a slot.
+    pub fn release_place(
+        mut self,
+        t: &RegInfo,
+        f: &Function,
+        slots: &mut Slots,
+        b: RegBank,
+        p: Allocation,
+    ) -> Self
+        requires { ⌜ Checked (now t) (now f) × (b .0 < numBanks (T (now t))) × PlaceFits (now t) (p .0) × SlotsFit 1023 (now slots) ⌝ }
+        ensures { λ r. ⌜ ((cache edits : List ℕ) (available : List Bool) → Released (now (t .entry)) (now (f .entry)) cache self (tables edits available (now (slots .entry))) r (tables edits available (now (slots .exit))) (releasePlace (T (now (t .entry))) (F (now (f .entry))) (spillslotSize (T (now (t .entry))) (b .0)) (placeAt (p .0)))) ⌝ }
+    {
+        let AllocationKind::SpillSlot(s) = p.kind() else {
+            return self;
+        };
+        slots::put_back(slots, reginfo::spillslot_size(t, b), s);
+        self
+    }
+
+    // A new diversion: the top-level class is searched as for a cycle, and the register found becomes unavailable.
+    fn divert_new(mut self, t: &RegInfo, f: &Function, cache: &SlotCache, available: &mut RegUnitSet, sources: &RegUnitSet, edits: &mut Edits, slots: &mut Slots, d: &mut Diverted, added: u16, v: Value, source: Allocation) -> Scratch
+        requires { ⌜ Checked (now t) (now f) × (v .0 < numValues (functionOf (now f))) × (countAt (now d) (v .0) ≡ 0) × Fits 0 1 2 (now t) self (now edits) (now slots) (now cache) ⌝ }
+        ensures { λ r. ⌜ Diverts (now (t .entry)) (now (f .entry)) (now (cache .entry)) (valueBank (functionOf (now (f .entry))) (v .0)) (barredBy true (now (sources .entry))) added (source .0) (v .0) (now (d .entry)) self (tables (now (edits .entry)) (now (available .entry)) (now (slots .entry))) (now (d .exit)) r (tables (now (edits .exit)) (now (available .exit)) (now (slots .exit))) ⌝ }
+    {
+        let b = function::value_bank(f, v);
+        let c = reginfo::top_level_class(t, b);
+        let found = self.get_scratch_reg(t, f, cache, available, sources, true, edits, slots, b, c);
+        let p = found.place;
+        let k = found.allocator;
+        note(d, v, added, source, p);
+        let marked = k.make_unavailable(t, available, p);
+        Scratch {
+            place: p,
+            allocator: marked,
+        }
+    }
+
+    // Diverts a value to a scratch; `added` more moves make the diversion needed. A live one keeps its scratch and its first source.
+    pub fn divert(mut self, t: &RegInfo, f: &Function, cache: &SlotCache, available: &mut RegUnitSet, sources: &RegUnitSet, edits: &mut Edits, slots: &mut Slots, d: &mut Diverted, added: u16, v: Value, source: Allocation) -> Scratch
+        requires { ⌜ Checked (now t) (now f) × (v .0 < numValues (functionOf (now f))) × (countAt (now d) (v .0) + added < 65536) × (0 < countAt (now d) (v .0) → PlaceFits (now t) (scratchAt (now d) (v .0))) × Fits 0 1 2 (now t) self (now edits) (now slots) (now cache) ⌝ }
+        ensures { λ r. ⌜ Diverts (now (t .entry)) (now (f .entry)) (now (cache .entry)) (valueBank (functionOf (now (f .entry))) (v .0)) (barredBy true (now (sources .entry))) added (source .0) (v .0) (now (d .entry)) self (tables (now (edits .entry)) (now (available .entry)) (now (slots .entry))) (now (d .exit)) r (tables (now (edits .exit)) (now (available .exit)) (now (slots .exit))) ⌝ }
+    {
+        let n = ref_count(d, v);
+        if n != 0 {
+            set_count(d, v, n + wide(added));
+            return Scratch {
+                place: scratch_of(d, v),
+                allocator: self,
+            };
+        }
+        self.divert_new(t, f, cache, available, sources, edits, slots, d, added, v, source)
+    }
+
+    // The copy from first source to scratch, and a slot put back.
+    fn end_diversion(mut self, t: &RegInfo, f: &Function, cache: &SlotCache, available: &mut RegUnitSet, sources: &RegUnitSet, edits: &mut Edits, slots: &mut Slots, d: &Diverted, v: Value) -> Self
+        requires { ⌜ Checked (now t) (now f) × (v .0 < numValues (functionOf (now f))) × PlaceFits (now t) (scratchAt (now d) (v .0)) × PlaceFits (now t) (allocAt (now d) (v .0)) × Fits 0 1 4 (now t) self (now edits) (now slots) (now cache) ⌝ }
+        ensures { λ r. ⌜ Ended (now (t .entry)) (now (f .entry)) (now (cache .entry)) (valueBank (functionOf (now (f .entry))) (v .0)) (v .0) (now (d .entry)) self (tables (now (edits .entry)) (now (available .entry)) (now (slots .entry))) r (tables (now (edits .exit)) (now (available .exit)) (now (slots .exit))) ⌝ }
+    {
+        let b = function::value_bank(f, v);
+        let p = scratch_of(d, v);
+        let from = first_of(d, v);
+        let moved = self.do_move(t, f, cache, available, sources, edits, slots, b, p, from, v);
+        moved.release_place(t, f, slots, b, p)
+    }
+
+    // One move less needs the diversion; at none it ends.
+    pub fn undivert(mut self, t: &RegInfo, f: &Function, cache: &SlotCache, available: &mut RegUnitSet, sources: &RegUnitSet, edits: &mut Edits, slots: &mut Slots, d: &mut Diverted, v: Value) -> Self
+        requires { ⌜ Checked (now t) (now f) × (v .0 < numValues (functionOf (now f))) × (0 < countAt (now d) (v .0)) × (countAt (now d) (v .0) < 65536) × PlaceFits (now t) (scratchAt (now d) (v .0)) × PlaceFits (now t) (allocAt (now d) (v .0)) × Fits 0 1 4 (now t) self (now edits) (now slots) (now cache) ⌝ }
+        ensures { λ r. ⌜ Undiverts (now (t .entry)) (now (f .entry)) (now (cache .entry)) (valueBank (functionOf (now (f .entry))) (v .0)) (v .0) (now (d .entry)) self (tables (now (edits .entry)) (now (available .entry)) (now (slots .entry))) (now (d .exit)) r (tables (now (edits .exit)) (now (available .exit)) (now (slots .exit))) ⌝ }
+    {
+        let left = ref_count(d, v) - 1;
+        set_count(d, v, left);
+        if left != 0 {
+            return self;
+        }
+        self.end_diversion(t, f, cache, available, sources, edits, slots, d, v)
+    }
+}
