@@ -1,14 +1,14 @@
 -- An entry added: which numbers it is refused by, and what is known afterwards.
-use Prim.Native.Nat.{ℕ, zero, suc, _+_, _*_, _<_, _≤_}
+use Prim.Native.Nat.{ℕ, suc, _+_, _*_, _<_, _≤_}
 use mathlib.Core.Path.{_≡_, refl, sym, ap, _∙_}
 use mathlib.Core.Bool.{Bool, true, false, true≢false, false≢true}
-use mathlib.Core.List.{List, [], _∷_, _++_, map}
+use mathlib.Core.List.{List, [], _∷_, map}
 use mathlib.Core.Option.{Option, none, some}
 use native.Mathlib.Omega.{arith}
-use lib.Dec.{eqb, ltb, leb}
+use lib.Dec.{eqb, ltb}
 use lib.ListN.{getD, length, length-append, length-map, List·getD-append, List·getD-map}
 use borrow.Author.Tests.{eqb-true, eqb-false, eq-eqb, lt-ltb, lt-leb, le-leb}
-use Rattle.entity.specs.Logic.{pick, and, or, no, any, has, meets}
+use Rattle.entity.specs.Logic.{pick, and, or, no, any, has}
 use Rattle.entity.specs.Place.{Place, reg, slot, samePlace, placeAt, codeOf}
 use Rattle.entity.proofs.Laws.{and-true, any-has, has-getD, code-there}
 use Rattle.reginfo.specs.RegInfo.{RegInfo, placeUnits, overlap, inClass, ofBank}
@@ -20,9 +20,9 @@ use Rattle.rules.specs.Order.{KeptMove, Remat, noMove, writerFrom}
 use Rattle.rules.specs.Patch.{Entry, move, remat, Sorted, destinations, needsScratch, becomesRemat, sameMove, dropped, addRemat, add, namesPlace, overlapsEarlier, entryConditions}
 use Rattle.rules.specs.Sorted.{SortedOk}
 use Rattle.rules.proofs.Accepted.{sorted-add}
-use Rattle.sparse.specs.Map.{mapOf, keysOf, known}
-use Rattle.entries.specs.Table.{moveAt, sortedOf, countedOne, isMove, isMoveOf, keptMove, rebuiltAs, withMove, withRemat, withDropped}
-use Rattle.entries.specs.Known.{Checked, Writable, NamedRemat, NamedMove, isWritten, Noted, Roomy, orRebuilt, rebuilds, writerOf, Tracked, PassedMove, EntriesOk}
+use Rattle.sparse.specs.Map.{mapOf, known}
+use Rattle.entries.specs.Table.{moveAt, sortedOf, isMoveOf, keptMove, rebuiltAs, withMove, withRemat, withDropped}
+use Rattle.entries.specs.Known.{Checked, Writable, NamedRemat, NamedMove, isWritten, Noted, Roomy, orRebuilt, writerOf, Tracked, PassedMove, EntriesOk}
 use Rattle.entries.specs.Answers.{AddedAs, RebuiltAs}
 use Rattle.entries.proofs.Lists.{both-ways, pick-none, any-true, any-where, any-only, meets-any}
 use Rattle.entries.proofs.Table.{kept-count, remats-count, scratch-count, entries-count, kept-is}
@@ -240,9 +240,9 @@ module _ (t f e w : List ℕ) (ok : Checked t f) (kept : EntriesOk t f e w) wher
       record {
         is = done .is ∙ sym given;
         yes = λ z. (let m = done .yes z in
-        let ok = rw q at (sorted-add T F x a (kept .sorted) (given ∙ sym (done .is) ∙ z)) in
-        let apart = overlaps-is (placeAt d) ∙ pick-none (any (isWritten w) (placeUnits T (placeAt d))) 12 (sym z ∙ done .is) in
-        (m .0 ∙ sym q, rw (m .0) (tracked-remat T F a (placeAt d) apart w w′ kept less (writes .few) b v (m .1) ok)));
+            let ok = rw q at (sorted-add T F x a (kept .sorted) (given ∙ sym (done .is) ∙ z)) in
+            let apart = overlaps-is (placeAt d) ∙ pick-none (any (isWritten w) (placeUnits T (placeAt d))) 12 (sym z ∙ done .is) in
+            (m .0 ∙ sym q, rw (m .0) (tracked-remat T F a (placeAt d) apart w w′ kept less (writes .few) b v (m .1) ok)));
         no = done .no;
       }
 
@@ -262,7 +262,7 @@ module _ (t f e w : List ℕ) (ok : Checked t f) (kept : EntriesOk t f e w) wher
     abbrev there : Bool
     there = isMoveOf e (mapOf w (getD (placeUnits T (placeAt d)) 0 0)) s d v
 
-    pub dest-writable : Writable T (placeAt d)
+    dest-writable : Writable T (placeAt d)
     dest-writable = writable t f ok (placeAt d) (p .dest-named)
 
     module _ (q : becomesRemat T F (placeAt s) (placeAt d) v ≡ false) where

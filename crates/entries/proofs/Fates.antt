@@ -5,17 +5,17 @@ use mathlib.Core.Bool.{Bool, true, false}
 use mathlib.Core.List.{List, [], _∷_}
 use mathlib.Core.Option.{Option, none, some}
 use native.Mathlib.Omega.{arith}
-use lib.Dec.{eqb, ltb}
-use lib.ListN.{getD, length}
+use lib.Dec.{ltb}
+use lib.ListN.{getD}
 use borrow.Author.Tests.{ltb-true}
 use Rattle.entity.specs.Logic.{pick, and, or, no, has}
 use Rattle.entity.specs.Place.{Place, reg, slot, names, placeAt, readPlace, codeOf}
 use Rattle.entity.proofs.Laws.{and-true, has-where, code-there}
-use Rattle.reginfo.specs.RegInfo.{RegInfo, numRegs, numClasses, placeUnits, isMemory, inClass}
+use Rattle.reginfo.specs.RegInfo.{RegInfo, numRegs, numClasses, isMemory, inClass}
 use Rattle.reginfo.specs.Known.{KnownMembers}
 use Rattle.reginfo.specs.Table.{regInfoOf}
 use Rattle.reginfo.proofs.Accepted.{regs-fit, width-fits, unit-low, known-place, known-members}
-use Rattle.function.specs.Function.{Function, numValues, rematCost, rematClass, canRematerialize}
+use Rattle.function.specs.Function.{Function, numValues, rematCost}
 use Rattle.function.specs.Known.{KnownValue}
 use Rattle.function.specs.Table.{functionOf}
 use Rattle.function.specs.Answers.{Rebuild, rematerialize}

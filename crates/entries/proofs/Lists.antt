@@ -1,13 +1,11 @@
 -- Laws of the tests of lists.
 use Prim.Native.Nat.{ℕ, zero, suc, _+_, _<_}
 use mathlib.Core.Path.{_≡_, refl, sym, ap, _∙_, fun-ext}
-use mathlib.Core.Bool.{Bool, true, false, true≢false, false≢true}
+use mathlib.Core.Bool.{Bool, true, false, false≢true}
 use mathlib.Core.List.{List, [], _∷_, _++_, map}
 use mathlib.Core.Option.{none, some}
 use native.Mathlib.Omega.{arith}
-use lib.Dec.{eqb}
 use lib.ListN.{getD, length, drop}
-use borrow.Author.Tests.{eqb-true, eqb-false}
 use Rattle.entity.specs.Logic.{pick, or, any, has, meets}
 use Rattle.entity.proofs.Laws.{never-true, drop-step}
 

@@ -1,14 +1,13 @@
 -- What the table holds after each store.
 use Prim.Native.Nat.{ℕ, zero, suc, _+_, _*_, _<_, _≤_}
-use mathlib.Core.Path.{_≡_, refl, sym, ap, _∙_}
-use mathlib.Core.Bool.{Bool, true, false}
+use mathlib.Core.Path.{_≡_, refl, ap, _∙_}
+use mathlib.Core.Bool.{true, false}
 use mathlib.Core.List.{List, [], _∷_, _++_, map}
 use native.Mathlib.Omega.{arith}
 use native.Mathlib.Numerals.{add-one}
 use lib.ListN.{getD, length, set, length-set}
 use lib.Seq.{getD-set-same, getD-set-other}
 use Rattle.entity.specs.Logic.{indices}
-use Rattle.entity.specs.Place.{placeAt}
 use Rattle.entity.proofs.Laws.{length-built, getD-built}
 use Rattle.rules.specs.Order.{KeptMove, Remat, noMove}
 use Rattle.rules.specs.Patch.{Sorted, nothingSorted}

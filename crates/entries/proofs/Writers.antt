@@ -1,23 +1,23 @@
 -- The writer of each unit, as entries are added.
-use Prim.Native.Nat.{ℕ, zero, suc, _+_, _*_, _<_, _≤_}
+use Prim.Native.Nat.{ℕ, suc, _+_, _<_, _≤_}
 use mathlib.Core.Path.{_≡_, refl, sym, ap, _∙_, fun-ext}
-use mathlib.Core.Bool.{Bool, true, false, true≢false, false≢true}
+use mathlib.Core.Bool.{Bool, true, false, true≢false}
 use mathlib.Core.List.{List, [], _∷_, _++_, map}
 use mathlib.Core.Option.{Option, none, some}
 use native.Mathlib.Omega.{arith}
-use lib.Dec.{eqb, ltb}
+use lib.Dec.{eqb}
 use lib.ListN.{getD, length, drop, length-append}
-use Rattle.entity.specs.Logic.{pick, and, or, any, has, meets}
-use Rattle.entity.specs.Place.{Place, samePlace}
+use Rattle.entity.specs.Logic.{pick, or, any, has}
+use Rattle.entity.specs.Place.{Place}
 use Rattle.entity.proofs.Laws.{any-has, meets-comm, drop-step}
 use Rattle.reginfo.specs.RegInfo.{RegInfo, placeUnits, overlap}
 use Rattle.function.specs.Function.{Function}
-use Rattle.rules.specs.Order.{KeptMove, Remat, noMove, writerFrom}
+use Rattle.rules.specs.Order.{KeptMove, Remat, writerFrom}
 use Rattle.rules.specs.Patch.{Sorted, nothingSorted, destinations, overlapsEarlier}
 use Rattle.rules.specs.Sorted.{SortedOk}
-use Rattle.sparse.specs.Map.{mapOf, keysOf, known, updated, foundOf, emptyMap, Emptied}
+use Rattle.sparse.specs.Map.{mapOf, known, updated, foundOf, emptyMap, Emptied}
 use Rattle.sparse.specs.declared.Found.{Found}
-use Rattle.entries.specs.Table.{withMove, withRemat, withDropped}
+use Rattle.entries.specs.Table.{withMove, withRemat}
 use Rattle.entries.specs.Known.{noted, Noted, orRebuilt, rebuilds, writerOf, places, Tracked}
 use Rattle.entries.proofs.Lists.{or-none, or-right, or-assoc, any-append, any-end, any-map, any-same, any-swap, meets-any}
 

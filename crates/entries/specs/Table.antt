@@ -6,8 +6,8 @@ use mathlib.Core.List.{List, [], _∷_, _++_, map}
 use mathlib.Core.Option.{Option, none, some}
 use lib.Dec.{eqb, ltb}
 use lib.ListN.{getD, set}
-use Rattle.entity.specs.Logic.{pick, and, indices}
-use Rattle.entity.specs.Place.{Place, placeAt}
+use Rattle.entity.specs.Logic.{and, indices}
+use Rattle.entity.specs.Place.{placeAt}
 use Rattle.rules.specs.Order.{KeptMove, Remat}
 use Rattle.rules.specs.Patch.{Sorted}
 

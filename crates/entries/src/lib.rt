@@ -4,10 +4,7 @@ use entity::Allocation;
 use entity::AllocationUnit;
 use entity::AllocationUnitKind;
 use entity::Named;
-use entity::PhysReg;
-use entity::RegBank;
 use entity::RegClass;
-use entity::RegUnit;
 use entity::Value;
 use entity::narrow;
 use entity::wide;
@@ -18,11 +15,11 @@ use small_set::RegUnitSet;
 use sparse::Found;
 use sparse::SparseMap;
 ghost use mathlib.Core.Path.{_≡_};
-ghost use mathlib.Core.Bool.{Bool, true, false};
+ghost use mathlib.Core.Bool.{true, false};
 ghost use mathlib.Core.List.{List};
 ghost use mathlib.Core.Option.{none, some};
 ghost use Prim.Native.Nat.{ℕ, _+_, _*_, _<_, _≤_};
-ghost use lib.Dec.{ltb};
+ghost use lib.Dec.{ltb, leb};
 ghost use lib.ListN.{length, getD};
 ghost use Rattle.entity.specs.Logic.{pick, and, no, any, has};
 ghost use Rattle.entity.specs.Place.{placeAt};
@@ -32,10 +29,10 @@ ghost use Rattle.reginfo.specs.Known.{KnownPlace, KnownMembers};
 ghost use Rattle.reginfo.specs.Table.{regInfoOf};
 ghost use Rattle.function.specs.Function.{numValues, rematClass};
 ghost use Rattle.function.specs.Table.{functionOf};
-ghost use Rattle.rules.specs.Patch.{move, remat, namesPlace, becomesRemat, needsScratch, nothingSorted, bound, lastOverlaps, patchConditions, Patch};
+ghost use Rattle.rules.specs.Patch.{move, remat, namesPlace, becomesRemat, needsScratch, nothingSorted, bound, freeDestination, lastOverlaps, patchConditions, Patch};
 ghost use Rattle.rules.specs.Sorted.{RematOk, SortedOk};
 ghost use Rattle.small_set.specs.Set.{setOf};
-ghost use Rattle.sparse.specs.Map.{mapOf, keysOf, known, Linked};
+ghost use Rattle.sparse.specs.Map.{mapOf, keysOf, Linked};
 ghost use Rattle.entries.specs.Table.{sortedOf, countedOne, storedMove, storedRemat, isMove, isMoveOf, keptMove, rebuiltAs, withMove, withRemat};
 ghost use Rattle.entries.specs.Known.{Checked, Writable, isWritten, Noted, Roomy, isFree, lastClashes, NamedRemat, NamedMove, PassedMove, EntriesOk};
 ghost use Rattle.entries.specs.Answers.{addedOf, rebuiltOf, AddedAs, RebuiltAs};
@@ -130,7 +127,14 @@ fn is_move(e: &Entries, m: u16, source: Allocation, dest: Allocation, v: Value) 
 }
 
 // Whether the writer of the destination's first unit is that very move.
-fn is_dropped(t: &RegInfo, e: &Entries, w: &SparseMap, source: Allocation, dest: Allocation, v: Value) -> bool
+fn is_dropped(
+    t: &RegInfo,
+    e: &Entries,
+    w: &SparseMap,
+    source: Allocation,
+    dest: Allocation,
+    v: Value,
+) -> bool
     requires { ⌜ Linked (now w) × Writable (regInfoOf (now t)) (placeAt (dest .0)) ⌝ }
     ensures { λ r. ⌜ r ≡ isMoveOf (now (e .entry)) (mapOf (now (w .entry)) (getD (placeUnits (regInfoOf (now (t .entry))) (placeAt (dest .0))) 0 0)) (source .0) (dest .0) (v .0) ⌝ }
 {
@@ -174,11 +178,18 @@ fn store_remat(e: &mut Entries, base: usize, counter: usize, dest: Allocation, v
 }
 
 // Keeps a move.
-fn keep(t: &RegInfo, e: &mut Entries, w: &mut SparseMap, source: Allocation, dest: Allocation, v: Value)
+fn keep(
+    t: &RegInfo,
+    e: &mut Entries,
+    w: &mut SparseMap,
+    source: Allocation,
+    dest: Allocation,
+    v: Value,
+)
     requires { ⌜ Roomy (now e) (now w) × Writable (regInfoOf (now t)) (placeAt (dest .0)) ⌝ }
     ensures { λ _. ⌜ (sortedOf (now (e .exit)) ≡ withMove (keptMove (source .0) (dest .0) (v .0)) (sortedOf (now (e .entry)))) × Noted (now (w .entry)) (now (w .exit)) (placeUnits (regInfoOf (now (t .entry))) (placeAt (dest .0))) (length (sortedOf (now (e .entry)) .moves)) ⌝ }
 {
-    let m = narrow(wide(e[1024]));
+    let m = e[1024];
     store_move(e, source, dest, v);
     count_entry(e);
     note_writes(t, w, dest, m);
@@ -199,7 +210,14 @@ fn put_remat(e: &mut Entries, scratch: bool, dest: Allocation, v: Value)
 }
 
 // Rebuilds a value, with scratch or without, unless a unit of the destination is written already.
-fn rebuild(t: &RegInfo, e: &mut Entries, w: &mut SparseMap, scratch: bool, dest: Allocation, v: Value) -> Added
+fn rebuild(
+    t: &RegInfo,
+    e: &mut Entries,
+    w: &mut SparseMap,
+    scratch: bool,
+    dest: Allocation,
+    v: Value,
+) -> Added
     requires { ⌜ Roomy (now e) (now w) × Writable (regInfoOf (now t)) (placeAt (dest .0)) ⌝ }
     ensures { λ r. ⌜ RebuiltAs (now (e .entry)) (now (w .entry)) (now (e .exit)) (now (w .exit)) (placeUnits (regInfoOf (now (t .entry))) (placeAt (dest .0))) scratch (rebuiltAs (dest .0) (v .0)) (addedOf r) ⌝ }
 {
@@ -229,7 +247,8 @@ fn move_fate(t: &RegInfo, f: &Function, source: Allocation, dest: Allocation, v:
             Fate::Kept
         }
         Remat::CheaperThanLoad(c) => {
-            if reginfo::is_memory(t, source) {
+            let memory = reginfo::is_memory(t, source);
+            if memory {
                 let direct = reginfo::class_has(t, c, dest);
                 return Fate::Rebuilt(!direct);
             }
@@ -239,7 +258,15 @@ fn move_fate(t: &RegInfo, f: &Function, source: Allocation, dest: Allocation, v:
 }
 
 // Keeps, rebuilds or drops a move that is not refused before 12.
-fn place_move(t: &RegInfo, f: &Function, e: &mut Entries, w: &mut SparseMap, source: Allocation, dest: Allocation, v: Value) -> Added
+fn place_move(
+    t: &RegInfo,
+    f: &Function,
+    e: &mut Entries,
+    w: &mut SparseMap,
+    source: Allocation,
+    dest: Allocation,
+    v: Value,
+) -> Added
     requires { ⌜ Checked (now t) (now f) × EntriesOk (now t) (now f) (now e) (now w) × PassedMove (regInfoOf (now t)) (functionOf (now f)) (sortedOf (now e)) (placeAt (source .0)) (placeAt (dest .0)) (v .0) ⌝ }
     ensures { λ r. ⌜ AddedAs (now (t .entry)) (now (f .entry)) (now (e .entry)) (now (w .entry)) (now (e .exit)) (now (w .exit)) (move (placeAt (source .0)) (placeAt (dest .0)) (v .0)) (addedOf r) ⌝ }
 {
@@ -285,7 +312,15 @@ fn names_remat(t: &RegInfo, f: &Function, dest: u32, value: u32) -> bool
 }
 
 // Tests a move from 9 on, and adds it.
-fn add_named_move(t: &RegInfo, f: &Function, e: &mut Entries, w: &mut SparseMap, source: Allocation, dest: Allocation, v: Value) -> Added
+fn add_named_move(
+    t: &RegInfo,
+    f: &Function,
+    e: &mut Entries,
+    w: &mut SparseMap,
+    source: Allocation,
+    dest: Allocation,
+    v: Value,
+) -> Added
     requires { ⌜ Checked (now t) (now f) × EntriesOk (now t) (now f) (now e) (now w) × NamedMove (regInfoOf (now t)) (functionOf (now f)) (sortedOf (now e)) (placeAt (source .0)) (placeAt (dest .0)) (v .0) ⌝ }
     ensures { λ r. ⌜ AddedAs (now (t .entry)) (now (f .entry)) (now (e .entry)) (now (w .entry)) (now (e .exit)) (now (w .exit)) (move (placeAt (source .0)) (placeAt (dest .0)) (v .0)) (addedOf r) ⌝ }
 {
@@ -302,12 +337,27 @@ fn add_named_move(t: &RegInfo, f: &Function, e: &mut Entries, w: &mut SparseMap,
     place_move(t, f, e, w, source, dest, v)
 }
 
+// 15: whether no entry can be added any more.
+fn is_full(e: &Entries) -> bool
+    ensures { λ r. ⌜ r ≡ leb 128 (sortedOf (now (e .entry)) .count) ⌝ }
+{
+    128 <= wide(e[1027])
+}
+
 // Adds a move, or answers the number by which it is refused and leaves the tables as they were.
-pub fn add_move(t: &RegInfo, f: &Function, e: &mut Entries, w: &mut SparseMap, source: u32, dest: u32, value: u32) -> Added
+pub fn add_move(
+    t: &RegInfo,
+    f: &Function,
+    e: &mut Entries,
+    w: &mut SparseMap,
+    source: u32,
+    dest: u32,
+    value: u32,
+) -> Added
     requires { ⌜ Checked (now t) (now f) × EntriesOk (now t) (now f) (now e) (now w) ⌝ }
     ensures { λ r. ⌜ AddedAs (now (t .entry)) (now (f .entry)) (now (e .entry)) (now (w .entry)) (now (e .exit)) (now (w .exit)) (move (placeAt source) (placeAt dest) value) (addedOf r) ⌝ }
 {
-    if 128 <= wide(e[1027]) {
+    if is_full(e) {
         return Added::Refused(15);
     }
     if !names_place(t, f, source) {
@@ -316,11 +366,26 @@ pub fn add_move(t: &RegInfo, f: &Function, e: &mut Entries, w: &mut SparseMap, s
     if !names_remat(t, f, dest, value) {
         return Added::Refused(2);
     }
-    add_named_move(t, f, e, w, Allocation(source as u16), Allocation(dest as u16), Value(value as u16))
+    add_named_move(
+        t,
+        f,
+        e,
+        w,
+        Allocation(source as u16),
+        Allocation(dest as u16),
+        Value(value as u16),
+    )
 }
 
 // Rebuilds a value of the class.
-fn rebuild_in(t: &RegInfo, e: &mut Entries, w: &mut SparseMap, c: RegClass, dest: Allocation, v: Value) -> Added
+fn rebuild_in(
+    t: &RegInfo,
+    e: &mut Entries,
+    w: &mut SparseMap,
+    c: RegClass,
+    dest: Allocation,
+    v: Value,
+) -> Added
     requires { ⌜ Roomy (now e) (now w) × Writable (regInfoOf (now t)) (placeAt (dest .0)) × KnownMembers (now t) (c .0) ⌝ }
     ensures { λ r. ⌜ RebuiltAs (now (e .entry)) (now (w .entry)) (now (e .exit)) (now (w .exit)) (placeUnits (regInfoOf (now (t .entry))) (placeAt (dest .0))) (no (inClass (regInfoOf (now (t .entry))) (c .0) (placeAt (dest .0)))) (rebuiltAs (dest .0) (v .0)) (addedOf r) ⌝ }
 {
@@ -329,7 +394,14 @@ fn rebuild_in(t: &RegInfo, e: &mut Entries, w: &mut SparseMap, c: RegClass, dest
 }
 
 // Tests a rebuild from 9 on, and adds it.
-fn add_named_remat(t: &RegInfo, f: &Function, e: &mut Entries, w: &mut SparseMap, dest: Allocation, v: Value) -> Added
+fn add_named_remat(
+    t: &RegInfo,
+    f: &Function,
+    e: &mut Entries,
+    w: &mut SparseMap,
+    dest: Allocation,
+    v: Value,
+) -> Added
     requires { ⌜ Checked (now t) (now f) × EntriesOk (now t) (now f) (now e) (now w) × NamedRemat (regInfoOf (now t)) (functionOf (now f)) (sortedOf (now e)) (placeAt (dest .0)) (v .0) ⌝ }
     ensures { λ r. ⌜ AddedAs (now (t .entry)) (now (f .entry)) (now (e .entry)) (now (w .entry)) (now (e .exit)) (now (w .exit)) (remat (placeAt (dest .0)) (v .0)) (addedOf r) ⌝ }
 {
@@ -345,11 +417,18 @@ fn add_named_remat(t: &RegInfo, f: &Function, e: &mut Entries, w: &mut SparseMap
 }
 
 // Adds a rebuild, or answers the number by which it is refused and leaves the tables as they were.
-pub fn add_remat(t: &RegInfo, f: &Function, e: &mut Entries, w: &mut SparseMap, dest: u32, value: u32) -> Added
+pub fn add_remat(
+    t: &RegInfo,
+    f: &Function,
+    e: &mut Entries,
+    w: &mut SparseMap,
+    dest: u32,
+    value: u32,
+) -> Added
     requires { ⌜ Checked (now t) (now f) × EntriesOk (now t) (now f) (now e) (now w) ⌝ }
     ensures { λ r. ⌜ AddedAs (now (t .entry)) (now (f .entry)) (now (e .entry)) (now (w .entry)) (now (e .exit)) (now (w .exit)) (remat (placeAt dest) value) (addedOf r) ⌝ }
 {
-    if 128 <= wide(e[1027]) {
+    if is_full(e) {
         return Added::Refused(15);
     }
     if !names_remat(t, f, dest, value) {
@@ -367,10 +446,10 @@ fn is_free(free: &RegUnitSet, u: AllocationUnit) -> bool
     }
 }
 
-// 13: whether a unit with a writer is a free register unit.
-fn free_destination(w: &SparseMap, free: &RegUnitSet) -> bool
+// 13: whether a free unit is a destination's: one that has a writer. It holds of every patch that has these free units.
+pub fn free_destination(w: &SparseMap, free: &RegUnitSet) -> bool
     requires { ⌜ Linked (now w) ⌝ }
-    ensures { λ r. ⌜ r ≡ any (isFree (now (free .entry))) (keysOf (now (w .entry))) ⌝ }
+    ensures { λ r. ⌜ ((t f e : List ℕ) → Checked t f → EntriesOk t f e (now (w .entry)) → (p : Patch) → ((u : ℕ) → has u (p .free) ≡ setOf (now (free .entry)) u) → r ≡ freeDestination (regInfoOf t) (functionOf f) p (sortedOf e)) ⌝ }
 {
     let n = sparse::len(w);
     let mut j: usize = 0;
@@ -407,7 +486,7 @@ fn remat_clashes(t: &RegInfo, f: &Function, dest: Allocation, v: Value) -> bool
 }
 
 // 14: whether a rebuild with scratch has a destination that the last of its class's order overlaps.
-fn last_overlaps(t: &RegInfo, f: &Function, e: &Entries) -> bool
+pub fn last_overlaps(t: &RegInfo, f: &Function, e: &Entries) -> bool
     requires { ⌜ Checked (now t) (now f) × SortedOk (regInfoOf (now t)) (functionOf (now f)) (sortedOf (now e)) × (length (sortedOf (now e) .rematsWithScratch) ≤ 128) ⌝ }
     ensures { λ r. ⌜ r ≡ lastOverlaps (regInfoOf (now (t .entry))) (functionOf (now (f .entry))) (sortedOf (now (e .entry))) ⌝ }
 {
@@ -425,7 +504,7 @@ fn last_overlaps(t: &RegInfo, f: &Function, e: &Entries) -> bool
 }
 
 // How many edits the patch can need.
-pub fn edit_bound(e: &Entries) -> usize
+fn edit_bound(e: &Entries) -> usize
     ensures { λ r. ⌜ r ≡ bound (sortedOf (now (e .entry))) ⌝ }
 {
     let kept = wide(e[1024]);
@@ -435,7 +514,14 @@ pub fn edit_bound(e: &Entries) -> usize
 }
 
 // 13, 14, 16: the number by which the patch is refused, of which `free` are the free units, where the lent list has `room`.
-pub fn refusal(t: &RegInfo, f: &Function, e: &Entries, w: &SparseMap, free: &RegUnitSet, room: usize) -> Added
+pub fn refusal(
+    t: &RegInfo,
+    f: &Function,
+    e: &Entries,
+    w: &SparseMap,
+    free: &RegUnitSet,
+    room: usize,
+) -> Added
     requires { ⌜ Checked (now t) (now f) × EntriesOk (now t) (now f) (now e) (now w) ⌝ }
     ensures { λ r. ⌜ ((p : Patch) → ((u : ℕ) → has u (p .free) ≡ setOf (now (free .entry)) u) → addedOf r ≡ firstOf (patchConditions (regInfoOf (now (t .entry))) (functionOf (now (f .entry))) p room (sortedOf (now (e .entry))))) ⌝ }
 {

@@ -1,8 +1,7 @@
 -- `add_named_remat` meets its contract: 9, then 11, then what the rebuild answers.
 use mathlib.Core.Path.{sym, ap, _∙_}
-use borrow.Author.Tests.{not-true, not-false}
 use Rattle.entity.specs.Place.{placeAt}
-use Rattle.reginfo.specs.Table.{regInfoOf}
+use borrow.Author.Tests.{not-true, not-false}
 use Rattle.function.specs.Table.{functionOf}
 use Rattle.function.specs.Answers.{rematOf}
 use Rattle.function.proofs.Laws.{never-rebuilt, rebuilt}
@@ -17,13 +16,15 @@ value-bank-requires : tie.Need-value-bank-requires
 value-bank-requires c κs = value-known (c .args .t .now) (c .args .f .now) (c .pre .0) (c .args .v .0) (c .pre .2 .value-named) .0
 
 of-bank-requires : tie.Need-of-bank-requires
-of-bank-requires c κs = let s = c .before in let t = s .args .t .now in let f = s .args .f .now in let e = s .args .e .now in let w = s .args .w .now in writable t f (s .pre .0) (placeAt (s .args .dest .0)) (s .pre .2 .dest-named) .known
+of-bank-requires c κs = let s = c .before in writable _ _ (s .pre .0) (placeAt (s .args .dest .0)) (s .pre .2 .dest-named) .known
 
 returns : tie.Need-returns
-returns c = let s = c .before .before .before in let t = s .args .t .now in let f = s .args .f .now in let e = s .args .e .now in let w = s .args .w .now in foreign-remat t f e w (s .pre .0) (s .pre .1) (placeAt (s .args .dest .0)) (s .args .v .0) (s .pre .2) (rw (← c .before .before .value-bank .ensures) (sym (c .before .of-bank .ensures) ∙ not-true _ (c .if1 .taken)))
+returns c =
+    let s = c .before .before .before in
+    foreign-remat _ _ _ _ (s .pre .0) (s .pre .1) _ _ (s .pre .2) (rw (← c .before .before .value-bank .ensures) (sym (c .before .of-bank .ensures) ∙ not-true _ (c .if1 .taken)))
 
 can-rematerialize-requires : tie.Need-can-rematerialize-requires
-can-rematerialize-requires c κs = let s = c .before .before .before in let t = s .args .t .now in let f = s .args .f .now in let e = s .args .e .now in let w = s .args .w .now in value-known t f (s .pre .0) (s .args .v .0) (s .pre .2 .value-named)
+can-rematerialize-requires c κs = let s = c .before .before .before in let t = s .args .t .now in let f = s .args .f .now in value-known t f (s .pre .0) (s .args .v .0) (s .pre .2 .value-named)
 
 enum-told : tie.Need-enum-told
 enum-told c = search needs
@@ -32,22 +33,41 @@ enum-known-c : tie.Need-enum-known-c
 enum-known-c c = search needs
 
 rebuild-in-requires : tie.Need-rebuild-in-requires
-rebuild-in-requires c κs = let s = c .before .before .before .before .before .before .before .before .before in let t = s .args .t .now in let f = s .args .f .now in let e = s .args .e .now in let w = s .args .w .now in (roomy t f e w (s .pre .1) (rw entries-count at (s .pre .2 .less)), writable t f (s .pre .0) (placeAt (s .args .dest .0)) (s .pre .2 .dest-named), class-known t f (s .pre .0) (s .args .v .0) (s .pre .2 .value-named) _ (sym (ap rematOf (c .before .before .before .c .given .1)) ∙ c .before .before .before .before .before .can-rematerialize .ensures))
+rebuild-in-requires c κs =
+    let s = c .before .before .before .before .before .before .before .before .before in
+    let t = s .args .t .now in
+    let f = s .args .f .now in
+    (roomy _ _ _ _ (s .pre .1) (rw entries-count at (s .pre .2 .less)), writable _ _ (s .pre .0) _ (s .pre .2 .dest-named), class-known t f (s .pre .0) (s .args .v .0) (s .pre .2 .value-named) _ (sym (ap rematOf (c .before .before .before .c .given .1)) ∙ c .before .before .before .before .before .can-rematerialize .ensures))
 
 enum-known-c-2 : tie.Need-enum-known-c-2
 enum-known-c-2 c = search needs
 
 rebuild-in-requires-2 : tie.Need-rebuild-in-requires-2
-rebuild-in-requires-2 c κs = let s = c .before .before .before .before .before .before .before .before .before in let t = s .args .t .now in let f = s .args .f .now in let e = s .args .e .now in let w = s .args .w .now in (roomy t f e w (s .pre .1) (rw entries-count at (s .pre .2 .less)), writable t f (s .pre .0) (placeAt (s .args .dest .0)) (s .pre .2 .dest-named), class-known t f (s .pre .0) (s .args .v .0) (s .pre .2 .value-named) _ (sym (ap rematOf (c .before .before .before .c2 .given .1)) ∙ c .before .before .before .before .before .can-rematerialize .ensures))
+rebuild-in-requires-2 c κs =
+    let s = c .before .before .before .before .before .before .before .before .before in
+    let t = s .args .t .now in
+    let f = s .args .f .now in
+    (roomy _ _ _ _ (s .pre .1) (rw entries-count at (s .pre .2 .less)), writable _ _ (s .pre .0) _ (s .pre .2 .dest-named), class-known t f (s .pre .0) (s .args .v .0) (s .pre .2 .value-named) _ (sym (ap rematOf (c .before .before .before .c2 .given .1)) ∙ c .before .before .before .before .before .can-rematerialize .ensures))
 
 returns-2 : tie.Need-returns-2
-returns-2 c = let s = c .before .before .before .before .before .before in let t = s .args .t .now in let f = s .args .f .now in let e = s .args .e .now in let w = s .args .w .now in not-rebuilt t f e w (s .pre .0) (s .pre .1) (placeAt (s .args .dest .0)) (s .args .v .0) (s .pre .2) (rw (← c .before .before .before .before .before .value-bank .ensures) (sym (c .before .before .before .before .of-bank .ensures) ∙ not-false _ (c .before .before .before .if1 .left))) (never-rebuilt (functionOf f) (s .args .v .0) (sym (ap rematOf (c .enum-told .given .1)) ∙ c .before .before .can-rematerialize .ensures))
+returns-2 c =
+    let s = c .before .before .before .before .before .before in
+    let f = s .args .f .now in
+    not-rebuilt _ _ _ _ (s .pre .0) (s .pre .1) _ _ (s .pre .2) (rw (← c .before .before .before .before .before .value-bank .ensures) (sym (c .before .before .before .before .of-bank .ensures) ∙ not-false _ (c .before .before .before .if1 .left))) (never-rebuilt (functionOf f) (s .args .v .0) (sym (ap rematOf (c .enum-told .given .1)) ∙ c .before .before .can-rematerialize .ensures))
 
 returns-3 : tie.Need-returns-3
-returns-3 c = let s = c .before .before .before .before .before .before .before .before .before .before in let t = s .args .t .now in let f = s .args .f .now in let e = s .args .e .now in let w = s .args .w .now in let q = rebuilt (functionOf f) (s .args .v .0) _ (sym (ap rematOf (c .before .before .before .before .c .given .1)) ∙ c .before .before .before .before .before .before .can-rematerialize .ensures) in added-remat t f e w (s .pre .0) (s .pre .1) _ (s .args .dest .0) (s .args .v .0) (s .pre .2) (rw (← c .before .before .before .before .before .before .before .before .before .value-bank .ensures) (sym (c .before .before .before .before .before .before .before .before .of-bank .ensures) ∙ not-false _ (c .before .before .before .before .before .before .before .if1 .left))) (q .0) (q .2) _ _ _ (c .rebuild-in .ensures)
+returns-3 c =
+    let s = c .before .before .before .before .before .before .before .before .before .before in
+    let f = s .args .f .now in
+    let q = rebuilt (functionOf f) (s .args .v .0) _ (sym (ap rematOf (c .before .before .before .before .c .given .1)) ∙ c .before .before .before .before .before .before .can-rematerialize .ensures) in
+    added-remat _ _ _ _ (s .pre .0) (s .pre .1) _ (s .args .dest .0) (s .args .v .0) (s .pre .2) (rw (← c .before .before .before .before .before .before .before .before .before .value-bank .ensures) (sym (c .before .before .before .before .before .before .before .before .of-bank .ensures) ∙ not-false _ (c .before .before .before .before .before .before .before .if1 .left))) (q .0) (q .2) _ _ _ (c .rebuild-in .ensures)
 
 returns-4 : tie.Need-returns-4
-returns-4 c = let s = c .before .before .before .before .before .before .before .before .before .before in let t = s .args .t .now in let f = s .args .f .now in let e = s .args .e .now in let w = s .args .w .now in let q = rebuilt (functionOf f) (s .args .v .0) _ (sym (ap rematOf (c .before .before .before .before .c2 .given .1)) ∙ c .before .before .before .before .before .before .can-rematerialize .ensures) in added-remat t f e w (s .pre .0) (s .pre .1) _ (s .args .dest .0) (s .args .v .0) (s .pre .2) (rw (← c .before .before .before .before .before .before .before .before .before .value-bank .ensures) (sym (c .before .before .before .before .before .before .before .before .of-bank .ensures) ∙ not-false _ (c .before .before .before .before .before .before .before .if1 .left))) (q .0) (q .2) _ _ _ (c .rebuild-in2 .ensures)
+returns-4 c =
+    let s = c .before .before .before .before .before .before .before .before .before .before in
+    let f = s .args .f .now in
+    let q = rebuilt (functionOf f) (s .args .v .0) _ (sym (ap rematOf (c .before .before .before .before .c2 .given .1)) ∙ c .before .before .before .before .before .before .can-rematerialize .ensures) in
+    added-remat _ _ _ _ (s .pre .0) (s .pre .1) _ (s .args .dest .0) (s .args .v .0) (s .pre .2) (rw (← c .before .before .before .before .before .before .before .before .before .value-bank .ensures) (sym (c .before .before .before .before .before .before .before .before .of-bank .ensures) ∙ not-false _ (c .before .before .before .before .before .before .before .if1 .left))) (q .0) (q .2) _ _ _ (c .rebuild-in2 .ensures)
 
 pub add-named-remat-spec : {M : Type 1} → statement M
 add-named-remat-spec =

@@ -35,7 +35,9 @@ add-result-2 : tie.Need-add-result-2
 add-result-2 c = search needs
 
 returns : tie.Need-returns
-returns c = let e = c .before .before .before .before .before .before .args .e .now in rw (c .before .before .before .before .wide .ensures .0, c .before .before .wide2 .ensures .0, c .wide3 .ensures .0, kept-count e, remats-count e, scratch-count e)
+returns c =
+    let e = c .before .before .before .before .before .before .args .e .now in
+    rw (c .before .before .before .before .wide .ensures .0, c .before .before .wide2 .ensures .0, c .wide3 .ensures .0, kept-count e, remats-count e, scratch-count e)
 
 pub edit-bound-spec : {M : Type 1} → statement M
 edit-bound-spec =

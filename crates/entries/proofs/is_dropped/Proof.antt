@@ -28,10 +28,14 @@ enum-told : tie.Need-enum-told
 enum-told c = search needs
 
 returns : tie.Need-returns
-returns c = let a = c .before .before .before .before .before .before .args in c .is-move .ensures ∙ rw (← c .before .before .before .before .before .place-unit .ensures) (by-found (λ (o : Option ℕ). isMoveOf (a .e .now) o (a .source .0) (a .dest .0) (a .v .0)) (c .before .before .before .before .get .ensures) (c .before .before .m .given .1))
+returns c =
+    let a = c .before .before .before .before .before .before .args in
+    c .is-move .ensures ∙ rw (← c .before .before .before .before .before .place-unit .ensures) (by-found (λ (o : Option ℕ). isMoveOf (a .e .now) o (a .source .0) (a .dest .0) (a .v .0)) (c .before .before .before .before .get .ensures) (c .before .before .m .given .1))
 
 returns-2 : tie.Need-returns-2
-returns-2 c = let a = c .before .before .before .before .args in rw (← c .before .before .before .place-unit .ensures) (by-found (λ (o : Option ℕ). isMoveOf (a .e .now) o (a .source .0) (a .dest .0) (a .v .0)) (c .before .before .get .ensures) (c .enum-told .given .1))
+returns-2 c =
+    let a = c .before .before .before .before .args in
+    rw (← c .before .before .before .place-unit .ensures) (by-found (λ (o : Option ℕ). isMoveOf (a .e .now) o (a .source .0) (a .dest .0) (a .v .0)) (c .before .before .get .ensures) (c .enum-told .given .1))
 
 pub is-dropped-spec : {M : Type 1} → statement M
 is-dropped-spec =

@@ -1,5 +1,4 @@
 -- `is_free` meets its contract: a slot is not free.
-use Prim.Native.Nat.{ℕ}
 use mathlib.Core.Path.{sym, ap, _∙_}
 use borrow.Author.Tests.{lt-ltb}
 use Rattle.entity.specs.Place.{unitOf}
@@ -21,7 +20,9 @@ enum-told : tie.Need-enum-told
 enum-told c = search needs
 
 returns : tie.Need-returns
-returns c = let q = reg-number (c .before .before .before .before .before .args .u .0) _ (sym (ap unitOf (c .before .before .r .given .1)) ∙ c .before .before .before .before .kind .ensures) in rw (lt-ltb _ 512 (q .1), ← q .0) (c .contains .ensures)
+returns c =
+    let q = reg-number (c .before .before .before .before .before .args .u .0) _ (sym (ap unitOf (c .before .before .r .given .1)) ∙ c .before .before .before .before .kind .ensures) in
+    rw (lt-ltb _ 512 (q .1), ← q .0) (c .contains .ensures)
 
 returns-2 : tie.Need-returns-2
 returns-2 c = rw (slot-number (c .before .before .before .args .u .0) _ (sym (ap unitOf (c .enum-told .given .1)) ∙ c .before .before .kind .ensures))

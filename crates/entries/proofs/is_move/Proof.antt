@@ -1,5 +1,4 @@
 -- `is_move` meets its contract: cell by cell.
-use native.Mathlib.Omega.{arith}
 use borrow.Author.Tests.{le-ltb, lt-ltb, ne-eqb, eq-eqb}
 use borrow.Author.Needs.{needs}
 use Rattle.entries.proofs.is_move.Statement.{statement}

@@ -1,5 +1,5 @@
 -- `is_written` meets its contract: whether a unit is written from the start equals whether one is from here.
-use Prim.Native.Nat.{ℕ, _≤_, _-_}
+use Prim.Native.Nat.{_≤_, _-_}
 use mathlib.Core.Path.{_≡_, refl, sym, ap, _∙_}
 use mathlib.Core.Bool.{true, false}
 use native.Mathlib.Omega.{arith}
@@ -31,10 +31,12 @@ place-unit-requires : tie.Need-place-unit-requires Inv-loop μ-loop
 place-unit-requires c κs = (c .before .before .before .pre .1 .known, omega arith)
 
 has-writer-requires : tie.Need-has-writer-requires Inv-loop μ-loop
-has-writer-requires c κs = let s = c .before .before .before .before in (s .pre .0, rw (c .place-unit .ensures) (s .pre .1 .low _ (has-getD (placeUnits (regInfoOf (s .args .t .now)) (placeAt (s .args .p .0))) (c .before .before .loop .j) (omega arith))))
+has-writer-requires c κs =
+    let s = c .before .before .before .before in
+    (s .pre .0, rw (c .place-unit .ensures) (s .pre .1 .low _ (has-getD (placeUnits (regInfoOf (s .args .t .now)) (placeAt (s .args .p .0))) (c .before .before .loop .j) (omega arith))))
 
 returns : tie.Need-returns Inv-loop μ-loop
-returns c = 
+returns c =
     let s = c .before .before .before .before .before .before in
     let l = c .before .before .before .before .loop in
     let us = placeUnits (regInfoOf (s .args .t .now)) (placeAt (s .args .p .0)) in
@@ -48,7 +50,7 @@ loop-less : tie.Need-loop-less Inv-loop μ-loop
 loop-less c = search needs
 
 loop-again : tie.Need-loop-again Inv-loop μ-loop
-loop-again c = 
+loop-again c =
     let s = c .before .before .before .before .before .before in
     let l = c .before .before .before .before .loop in
     let us = placeUnits (regInfoOf (s .args .t .now)) (placeAt (s .args .p .0)) in
@@ -57,7 +59,7 @@ loop-again c =
 
 returns-2 : tie.Need-returns-2 Inv-loop μ-loop
 unfolding any
-returns-2 c = 
+returns-2 c =
     let s = c .before .before .before in
     let l = c .before .loop in
     sym (l .inv .0 ∙ ap (any (isWritten (s .args .w .now))) (drop-of-length-le (placeUnits (regInfoOf (s .args .t .now)) (placeAt (s .args .p .0))) {i = l .j} (omega arith)))

@@ -1,41 +1,34 @@
 -- `keep` meets its contract: the move is stored and counted, and its writes noted.
-use mathlib.Core.Path.{_∙_, sym}
 use native.Mathlib.Omega.{arith}
 use Rattle.entries.proofs.Table.{move-count, kept-count, kept-done}
 use borrow.Author.Needs.{needs}
 use Rattle.entries.proofs.keep.Statement.{statement}
 use Rattle.entries.proofs.keep.Tie as tie
 
-element-copy-out-wide : tie.Need-element-copy-out-wide
-element-copy-out-wide c = search needs
-
-wide-requires : tie.Need-wide-requires
-wide-requires c κs = search needs
-
-narrow-requires : tie.Need-narrow-requires
-narrow-requires c κs = search needs
+element-copy-out-m : tie.Need-element-copy-out-m
+element-copy-out-m c = search needs
 
 store-move-requires : tie.Need-store-move-requires
 store-move-requires c κs = search needs
 
 count-entry-requires : tie.Need-count-entry-requires
-count-entry-requires c κs = let s = c .before .before .before .before .before .before in rw (c .before .store-move .ensures, move-count (s .args .e .now) (s .args .source .0) (s .args .dest .0) (s .args .v .0) (omega arith)) (s .pre .0 .count)
+count-entry-requires c κs =
+    let s = c .before .before .before .before in
+    rw (c .before .store-move .ensures, move-count (s .args .e .now) (s .args .source .0) (s .args .dest .0) (s .args .v .0) (omega arith)) (s .pre .0 .count)
 
 note-writes-requires : tie.Need-note-writes-requires
 note-writes-requires c κs = search needs
 
 returns : tie.Need-returns
-returns c = 
-    let s = c .before .before .before .before .before .before .before .before .before in
-    (kept-done (s .args .e .now) (s .pre .0 .few) _ _ (c .before .before .count-entry .ensures .1) (c .before .before .count-entry .ensures .0) (s .args .source .0) (s .args .dest .0) (s .args .v .0) (c .before .before .before .before .store-move .ensures), rw (kept-count (s .args .e .now), ← c .before .before .before .before .before .before .before .wide .ensures .0, ← c .before .before .before .before .before .before .narrow .ensures) (c .note-writes .ensures))
+returns c =
+    let s = c .before .before .before .before .before .before .before in
+    (kept-done (s .args .e .now) (s .pre .0 .few) _ _ (c .before .before .count-entry .ensures .1) (c .before .before .count-entry .ensures .0) (s .args .source .0) (s .args .dest .0) (s .args .v .0) (c .before .before .before .before .store-move .ensures), rw (kept-count (s .args .e .now)) (c .note-writes .ensures))
 
 pub keep-spec : {M : Type 1} → statement M
 keep-spec =
     tie.close
     (tie.spec
-    element-copy-out-wide
-    wide-requires
-    narrow-requires
+    element-copy-out-m
     store-move-requires
     count-entry-requires
     note-writes-requires

@@ -14,13 +14,24 @@ returns : tie.Need-returns
 returns c = rw (← c .before .class-includes-spillslots .ensures, c .if1 .taken)
 
 order-last-requires : tie.Need-order-last-requires
-order-last-requires c κs = let s = c .before .before in let T = regInfoOf (s .args .t .now) in let n = sym (c .before .class-includes-spillslots .ensures) ∙ c .if1 .left in (known-class T (s .pre .0) (s .args .c .0) (s .pre .1), order-some T (s .pre .0) (s .args .c .0) (s .pre .1) n, order-fits T (s .pre .0) (s .args .c .0) (s .pre .1))
+order-last-requires c κs =
+    let s = c .before .before in
+    let T = regInfoOf (s .args .t .now) in
+    let n = sym (c .before .class-includes-spillslots .ensures) ∙ c .if1 .left in
+    (known-class T (s .pre .0) (s .args .c .0) (s .pre .1), order-some T (s .pre .0) (s .args .c .0) (s .pre .1) n, order-fits T (s .pre .0) (s .args .c .0) (s .pre .1))
 
 overlaps-reg-requires : tie.Need-overlaps-reg-requires
-overlaps-reg-requires c κs = let s = c .before .before .before in let T = regInfoOf (s .args .t .now) in let n = sym (c .before .before .class-includes-spillslots .ensures) ∙ c .before .if1 .left in (s .pre .2, rw (c .order-last .ensures) (known-units T (s .pre .0) _ (ordered-fits T (s .pre .0) (s .args .c .0) (s .pre .1) _ (last-ordered T (s .pre .0) (s .args .c .0) (s .pre .1) n))))
+overlaps-reg-requires c κs =
+    let s = c .before .before .before in
+    let T = regInfoOf (s .args .t .now) in
+    let n = sym (c .before .before .class-includes-spillslots .ensures) ∙ c .before .if1 .left in
+    (s .pre .2, rw (c .order-last .ensures) (known-units T (s .pre .0) _ (ordered-fits T (s .pre .0) (s .args .c .0) (s .pre .1) _ (last-ordered T (s .pre .0) (s .args .c .0) (s .pre .1) n))))
 
 returns-2 : tie.Need-returns-2
-returns-2 c = let s = c .before .before .before .before in let T = regInfoOf (s .args .t .now) in rw (← c .before .before .before .class-includes-spillslots .ensures, c .before .before .if1 .left, ← c .before .order-last .ensures) (c .overlaps-reg .ensures ∙ overlap-comm T (placeAt (s .args .dest .0)) (reg (c .before .order-last .result .0)))
+returns-2 c =
+    let s = c .before .before .before .before in
+    let T = regInfoOf (s .args .t .now) in
+    rw (← c .before .before .before .class-includes-spillslots .ensures, c .before .before .if1 .left, ← c .before .order-last .ensures) (c .overlaps-reg .ensures ∙ overlap-comm T (placeAt (s .args .dest .0)) (reg (c .before .order-last .result .0)))
 
 pub last-clashes-spec : {M : Type 1} → statement M
 last-clashes-spec =

@@ -60,11 +60,14 @@ element-copy-out-t17-2 c = search needs
 
 remat-clashes-requires : tie.Need-remat-clashes-requires Inv-loop μ-loop
 unfolding rematAt
-remat-clashes-requires c κs = let s = c .before .before .before .before .before .before in let l = c .before .before .before .loop in (s .pre .0, rw (scratch-is (s .args .e .now) (l .i) (noRemat (regInfoOf (s .args .t .now)) (functionOf (s .args .f .now))) (omega arith)) at (s .pre .1 .rematsWithScratch (l .i) (omega arith)))
+remat-clashes-requires c κs =
+    let s = c .before .before .before .before .before .before in
+    let l = c .before .before .before .loop in
+    (s .pre .0, rw (scratch-is (s .args .e .now) (l .i) (noRemat (regInfoOf (s .args .t .now)) (functionOf (s .args .f .now))) (omega arith)) at (s .pre .1 .rematsWithScratch (l .i) (omega arith)))
 
 returns : tie.Need-returns Inv-loop μ-loop
 unfolding rematAt
-returns c = 
+returns c =
     let s = c .before .before .before .before .before .before .before .before in
     let l = c .before .before .before .before .before .loop in
     let h : lastClashes (regInfoOf (s .args .t .now)) (rematClass (functionOf (s .args .f .now)) (rematAt 768 (s .args .e .now) (l .i) .value)) (rematAt 768 (s .args .e .now) (l .i) .dest) ≡ true = sym (c .before .remat-clashes .ensures) ∙ c .if1 .taken in
@@ -78,7 +81,7 @@ loop-less c = search needs
 
 loop-again : tie.Need-loop-again Inv-loop μ-loop
 unfolding rematAt
-loop-again c = 
+loop-again c =
     let s = c .before .before .before .before .before .before .before .before in
     let l = c .before .before .before .before .before .loop in
     let h : lastClashes (regInfoOf (s .args .t .now)) (rematClass (functionOf (s .args .f .now)) (rematAt 768 (s .args .e .now) (l .i) .value)) (rematAt 768 (s .args .e .now) (l .i) .dest) ≡ false = sym (c .before .remat-clashes .ensures) ∙ c .if1 .left in
@@ -86,7 +89,7 @@ loop-again c =
 
 returns-2 : tie.Need-returns-2 Inv-loop μ-loop
 unfolding any
-returns-2 c = 
+returns-2 c =
     let s = c .before .before .before .before in
     let l = c .before .loop in
     sym (l .inv .0 ∙ ap (any (λ (r : Remat). lastClashes (regInfoOf (s .args .t .now)) (rematClass (functionOf (s .args .f .now)) (r .value)) (r .dest))) (drop-of-length-le (sortedOf (s .args .e .now) .rematsWithScratch) {i = l .i} (omega arith)))

@@ -32,13 +32,19 @@ enum-told-3 : tie.Need-enum-told-3
 enum-told-3 c = search needs
 
 returns : tie.Need-returns
-returns c = let s = c .before .before .before .before .before .before .before in rw (← c .before .before .before .before .before .before .num-regs .ensures, ← c .before .before .before .before .before .narrow .ensures, ← c .before .before .before .before .num-slots .ensures, ← c .before .before .before .narrow2 .ensures) (some-named _ _ (s .args .code) _ (sym (ap namedOf (c .enum-told .given .1)) ∙ c .before .before .read .ensures))
+returns c =
+    let s = c .before .before .before .before .before .before .before in
+    rw (← c .before .before .before .before .before .before .num-regs .ensures, ← c .before .before .before .before .before .narrow .ensures, ← c .before .before .before .before .num-slots .ensures, ← c .before .before .before .narrow2 .ensures) (some-named _ _ (s .args .code) _ (sym (ap namedOf (c .enum-told .given .1)) ∙ c .before .before .read .ensures))
 
 returns-2 : tie.Need-returns-2
-returns-2 c = let s = c .before .before .before .before .before .before .before in rw (← c .before .before .before .before .before .before .num-regs .ensures, ← c .before .before .before .before .before .narrow .ensures, ← c .before .before .before .before .num-slots .ensures, ← c .before .before .before .narrow2 .ensures) (some-named _ _ (s .args .code) _ (sym (ap namedOf (c .enum-told2 .given .1)) ∙ c .before .before .read .ensures))
+returns-2 c =
+    let s = c .before .before .before .before .before .before .before in
+    rw (← c .before .before .before .before .before .before .num-regs .ensures, ← c .before .before .before .before .before .narrow .ensures, ← c .before .before .before .before .num-slots .ensures, ← c .before .before .before .narrow2 .ensures) (some-named _ _ (s .args .code) _ (sym (ap namedOf (c .enum-told2 .given .1)) ∙ c .before .before .read .ensures))
 
 returns-3 : tie.Need-returns-3
-returns-3 c = let s = c .before .before .before .before .before .before .before in rw (← c .before .before .before .before .before .before .num-regs .ensures, ← c .before .before .before .before .before .narrow .ensures, ← c .before .before .before .before .num-slots .ensures, ← c .before .before .before .narrow2 .ensures) (none-named _ _ (s .args .code) (sym (ap namedOf (c .enum-told3 .given .1)) ∙ c .before .before .read .ensures))
+returns-3 c =
+    let s = c .before .before .before .before .before .before .before in
+    rw (← c .before .before .before .before .before .before .num-regs .ensures, ← c .before .before .before .before .before .narrow .ensures, ← c .before .before .before .before .num-slots .ensures, ← c .before .before .before .narrow2 .ensures) (none-named _ _ (s .args .code) (sym (ap namedOf (c .enum-told3 .given .1)) ∙ c .before .before .read .ensures))
 
 pub names-place-spec : {M : Type 1} → statement M
 names-place-spec =

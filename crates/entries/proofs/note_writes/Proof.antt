@@ -3,7 +3,7 @@ use Prim.Native.Nat.{ℕ, _+_, _≤_, _-_}
 use mathlib.Core.Path.{_≡_, refl, sym, ap, _∙_}
 use mathlib.Core.List.{List}
 use native.Mathlib.Omega.{arith}
-use lib.ListN.{getD, length, drop, drop-of-length-le}
+use lib.ListN.{length, drop, drop-of-length-le}
 use Rattle.entity.specs.Place.{placeAt}
 use Rattle.entity.proofs.Laws.{has-getD}
 use Rattle.reginfo.specs.RegInfo.{placeUnits}
@@ -32,7 +32,10 @@ place-unit-requires : tie.Need-place-unit-requires Inv-loop μ-loop
 place-unit-requires c κs = (c .before .before .before .before .pre .1 .known, omega arith)
 
 insert-requires : tie.Need-insert-requires Inv-loop μ-loop
-insert-requires c κs = let s = c .before .before .before .before .before in let l = c .before .before .before .loop in (l .inv .3, rw (c .place-unit .ensures) (s .pre .1 .low _ (has-getD (placeUnits (regInfoOf (s .args .t .now)) (placeAt (s .args .p .0))) (l .j) (omega arith))), omega (arith, s .pre .1 .few))
+insert-requires c κs =
+    let s = c .before .before .before .before .before in
+    let l = c .before .before .before .loop in
+    (l .inv .3, rw (c .place-unit .ensures) (s .pre .1 .low _ (has-getD (placeUnits (regInfoOf (s .args .t .now)) (placeAt (s .args .p .0))) (l .j) (omega arith))), omega (arith, s .pre .1 .few))
 
 add-j : tie.Need-add-j Inv-loop μ-loop
 add-j c = search needs
@@ -41,7 +44,7 @@ loop-less : tie.Need-loop-less Inv-loop μ-loop
 loop-less c = search needs
 
 loop-again : tie.Need-loop-again Inv-loop μ-loop
-loop-again c = 
+loop-again c =
     let s = c .before .before .before .before .before .before in
     let l = c .before .before .before .before .loop in
     let us = placeUnits (regInfoOf (s .args .t .now)) (placeAt (s .args .p .0)) in
@@ -50,7 +53,7 @@ loop-again c =
 
 returns : tie.Need-returns Inv-loop μ-loop
 unfolding noted
-returns c = 
+returns c =
     let s = c .before .before .before in
     let l = c .before .loop in
     let us = placeUnits (regInfoOf (s .args .t .now)) (placeAt (s .args .p .0)) in

@@ -1,5 +1,5 @@
 -- `rebuild` meets its contract: what is written already is refused.
-use mathlib.Core.Path.{refl, sym, _∙_}
+use mathlib.Core.Path.{sym, _∙_}
 use Rattle.entries.proofs.Adding.{rebuild-refused, rebuild-taken}
 use borrow.Author.Needs.{needs}
 use Rattle.entries.proofs.rebuild.Statement.{statement}

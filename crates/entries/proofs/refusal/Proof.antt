@@ -5,9 +5,8 @@ use borrow.Author.Tests.{lt-ltb, le-ltb}
 use Rattle.reginfo.specs.Refused.{firstOf}
 use Rattle.reginfo.specs.Table.{regInfoOf}
 use Rattle.function.specs.Table.{functionOf}
-use Rattle.rules.specs.Patch.{bound, freeDestination, lastOverlaps, patchConditions}
+use Rattle.rules.specs.Patch.{freeDestination, lastOverlaps, patchConditions}
 use Rattle.entries.specs.Table.{sortedOf}
-use Rattle.entries.proofs.Free.{free-is}
 use borrow.Author.Needs.{needs}
 use Rattle.entries.proofs.refusal.Statement.{statement}
 use Rattle.entries.proofs.refusal.Tie as tie
@@ -17,25 +16,52 @@ free-destination-requires c κs = search needs
 
 returns : tie.Need-returns
 unfolding patchConditions firstOf
-returns c = λ p same. (let s = c .before .before in let T = regInfoOf (s .args .t .now) in let F = functionOf (s .args .f .now) in let a = sortedOf (s .args .e .now) in let x : freeDestination T F p a ≡ true = sym (free-is T (s .pre .0 .target) F a (s .args .w .now) (s .pre .1) (s .args .free .now) p same) ∙ sym (c .before .free-destination .ensures) ∙ c .if1 .taken in rw x)
+returns c p same =
+    let s = c .before .before in
+    let T = regInfoOf (s .args .t .now) in
+    let F = functionOf (s .args .f .now) in
+    let a = sortedOf (s .args .e .now) in
+    let x : freeDestination T F p a ≡ true = sym (c .before .free-destination .ensures (s .args .t .now) (s .args .f .now) (s .args .e .now) (s .pre .0) (s .pre .1) p same) ∙ c .if1 .taken in
+    rw x
 
 last-overlaps-requires : tie.Need-last-overlaps-requires
 last-overlaps-requires c κs = search needs
 
 returns-2 : tie.Need-returns-2
 unfolding patchConditions firstOf
-returns-2 c = λ p same. (let s = c .before .before .before .before in let T = regInfoOf (s .args .t .now) in let F = functionOf (s .args .f .now) in let a = sortedOf (s .args .e .now) in let x : freeDestination T F p a ≡ false = sym (free-is T (s .pre .0 .target) F a (s .args .w .now) (s .pre .1) (s .args .free .now) p same) ∙ sym (c .before .before .before .free-destination .ensures) ∙ c .before .before .if1 .left in let y : lastOverlaps T F a ≡ true = sym (c .before .last-overlaps .ensures) ∙ c .if2 .taken in rw (x, y))
+returns-2 c p same =
+    let s = c .before .before .before .before in
+    let T = regInfoOf (s .args .t .now) in
+    let F = functionOf (s .args .f .now) in
+    let a = sortedOf (s .args .e .now) in
+    let x : freeDestination T F p a ≡ false = sym (c .before .before .before .free-destination .ensures (s .args .t .now) (s .args .f .now) (s .args .e .now) (s .pre .0) (s .pre .1) p same) ∙ c .before .before .if1 .left in
+    let y : lastOverlaps T F a ≡ true = sym (c .before .last-overlaps .ensures) ∙ c .if2 .taken in
+    rw (x, y)
 
 edit-bound-requires : tie.Need-edit-bound-requires
 edit-bound-requires c κs = search needs
 
 returns-3 : tie.Need-returns-3
 unfolding patchConditions firstOf
-returns-3 c = λ p same. (let s = c .before .before .before .before .before .before in let T = regInfoOf (s .args .t .now) in let F = functionOf (s .args .f .now) in let a = sortedOf (s .args .e .now) in let x : freeDestination T F p a ≡ false = sym (free-is T (s .pre .0 .target) F a (s .args .w .now) (s .pre .1) (s .args .free .now) p same) ∙ sym (c .before .before .before .before .before .free-destination .ensures) ∙ c .before .before .before .before .if1 .left in let y : lastOverlaps T F a ≡ false = sym (c .before .before .before .last-overlaps .ensures) ∙ c .before .before .if2 .left in rw (x, y, ← c .before .edit-bound .ensures, lt-ltb (s .args .room) _ (c .if3 .taken)))
+returns-3 c p same =
+    let s = c .before .before .before .before .before .before in
+    let T = regInfoOf (s .args .t .now) in
+    let F = functionOf (s .args .f .now) in
+    let a = sortedOf (s .args .e .now) in
+    let x : freeDestination T F p a ≡ false = sym (c .before .before .before .before .before .free-destination .ensures (s .args .t .now) (s .args .f .now) (s .args .e .now) (s .pre .0) (s .pre .1) p same) ∙ c .before .before .before .before .if1 .left in
+    let y : lastOverlaps T F a ≡ false = sym (c .before .before .before .last-overlaps .ensures) ∙ c .before .before .if2 .left in
+    rw (x, y, ← c .before .edit-bound .ensures, lt-ltb (s .args .room) _ (c .if3 .taken))
 
 returns-4 : tie.Need-returns-4
 unfolding patchConditions firstOf
-returns-4 c = λ p same. (let s = c .before .before .before .before .before .before in let T = regInfoOf (s .args .t .now) in let F = functionOf (s .args .f .now) in let a = sortedOf (s .args .e .now) in let x : freeDestination T F p a ≡ false = sym (free-is T (s .pre .0 .target) F a (s .args .w .now) (s .pre .1) (s .args .free .now) p same) ∙ sym (c .before .before .before .before .before .free-destination .ensures) ∙ c .before .before .before .before .if1 .left in let y : lastOverlaps T F a ≡ false = sym (c .before .before .before .last-overlaps .ensures) ∙ c .before .before .if2 .left in rw (x, y, ← c .before .edit-bound .ensures, le-ltb (s .args .room) _ (c .if3 .left)))
+returns-4 c p same =
+    let s = c .before .before .before .before .before .before in
+    let T = regInfoOf (s .args .t .now) in
+    let F = functionOf (s .args .f .now) in
+    let a = sortedOf (s .args .e .now) in
+    let x : freeDestination T F p a ≡ false = sym (c .before .before .before .before .before .free-destination .ensures (s .args .t .now) (s .args .f .now) (s .args .e .now) (s .pre .0) (s .pre .1) p same) ∙ c .before .before .before .before .if1 .left in
+    let y : lastOverlaps T F a ≡ false = sym (c .before .before .before .last-overlaps .ensures) ∙ c .before .before .if2 .left in
+    rw (x, y, ← c .before .edit-bound .ensures, le-ltb (s .args .room) _ (c .if3 .left))
 
 pub refusal-spec : {M : Type 1} → statement M
 refusal-spec =
