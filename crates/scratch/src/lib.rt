@@ -478,7 +478,20 @@ impl ScratchAllocator {
     }
 
     // A new diversion: the top-level class is searched as for a cycle, and the register found becomes unavailable.
-    fn divert_new(mut self, t: &RegInfo, f: &Function, cache: &SlotCache, available: &mut RegUnitSet, sources: &RegUnitSet, edits: &mut Edits, slots: &mut Slots, d: &mut Diverted, added: u16, v: Value, source: Allocation) -> Scratch
+    fn divert_new(
+        mut self,
+        t: &RegInfo,
+        f: &Function,
+        cache: &SlotCache,
+        available: &mut RegUnitSet,
+        sources: &RegUnitSet,
+        edits: &mut Edits,
+        slots: &mut Slots,
+        d: &mut Diverted,
+        added: u16,
+        v: Value,
+        source: Allocation,
+    ) -> Scratch
         requires { ⌜ Checked (now t) (now f) × (v .0 < numValues (functionOf (now f))) × (countAt (now d) (v .0) ≡ 0) × Fits 0 1 2 (now t) self (now edits) (now slots) (now cache) ⌝ }
         ensures { λ r. ⌜ Diverts (now (t .entry)) (now (f .entry)) (now (cache .entry)) (valueBank (functionOf (now (f .entry))) (v .0)) (barredBy true (now (sources .entry))) added (source .0) (v .0) (now (d .entry)) self (tables (now (edits .entry)) (now (available .entry)) (now (slots .entry))) (now (d .exit)) r (tables (now (edits .exit)) (now (available .exit)) (now (slots .exit))) ⌝ }
     {
@@ -496,7 +509,20 @@ impl ScratchAllocator {
     }
 
     // Diverts a value to a scratch; `added` more moves make the diversion needed. A live one keeps its scratch and its first source.
-    pub fn divert(mut self, t: &RegInfo, f: &Function, cache: &SlotCache, available: &mut RegUnitSet, sources: &RegUnitSet, edits: &mut Edits, slots: &mut Slots, d: &mut Diverted, added: u16, v: Value, source: Allocation) -> Scratch
+    pub fn divert(
+        mut self,
+        t: &RegInfo,
+        f: &Function,
+        cache: &SlotCache,
+        available: &mut RegUnitSet,
+        sources: &RegUnitSet,
+        edits: &mut Edits,
+        slots: &mut Slots,
+        d: &mut Diverted,
+        added: u16,
+        v: Value,
+        source: Allocation,
+    ) -> Scratch
         requires { ⌜ Checked (now t) (now f) × (v .0 < numValues (functionOf (now f))) × (countAt (now d) (v .0) + added < 65536) × (0 < countAt (now d) (v .0) → PlaceFits (now t) (scratchAt (now d) (v .0))) × Fits 0 1 2 (now t) self (now edits) (now slots) (now cache) ⌝ }
         ensures { λ r. ⌜ Diverts (now (t .entry)) (now (f .entry)) (now (cache .entry)) (valueBank (functionOf (now (f .entry))) (v .0)) (barredBy true (now (sources .entry))) added (source .0) (v .0) (now (d .entry)) self (tables (now (edits .entry)) (now (available .entry)) (now (slots .entry))) (now (d .exit)) r (tables (now (edits .exit)) (now (available .exit)) (now (slots .exit))) ⌝ }
     {
@@ -508,11 +534,34 @@ impl ScratchAllocator {
                 allocator: self,
             };
         }
-        self.divert_new(t, f, cache, available, sources, edits, slots, d, added, v, source)
+        self.divert_new(
+            t,
+            f,
+            cache,
+            available,
+            sources,
+            edits,
+            slots,
+            d,
+            added,
+            v,
+            source,
+        )
     }
 
     // The copy from first source to scratch, and a slot put back.
-    fn end_diversion(mut self, t: &RegInfo, f: &Function, cache: &SlotCache, available: &mut RegUnitSet, sources: &RegUnitSet, edits: &mut Edits, slots: &mut Slots, d: &Diverted, v: Value) -> Self
+    fn end_diversion(
+        mut self,
+        t: &RegInfo,
+        f: &Function,
+        cache: &SlotCache,
+        available: &mut RegUnitSet,
+        sources: &RegUnitSet,
+        edits: &mut Edits,
+        slots: &mut Slots,
+        d: &Diverted,
+        v: Value,
+    ) -> Self
         requires { ⌜ Checked (now t) (now f) × (v .0 < numValues (functionOf (now f))) × PlaceFits (now t) (scratchAt (now d) (v .0)) × PlaceFits (now t) (allocAt (now d) (v .0)) × Fits 0 1 4 (now t) self (now edits) (now slots) (now cache) ⌝ }
         ensures { λ r. ⌜ Ended (now (t .entry)) (now (f .entry)) (now (cache .entry)) (valueBank (functionOf (now (f .entry))) (v .0)) (v .0) (now (d .entry)) self (tables (now (edits .entry)) (now (available .entry)) (now (slots .entry))) r (tables (now (edits .exit)) (now (available .exit)) (now (slots .exit))) ⌝ }
     {
@@ -524,7 +573,18 @@ impl ScratchAllocator {
     }
 
     // One move less needs the diversion; at none it ends.
-    pub fn undivert(mut self, t: &RegInfo, f: &Function, cache: &SlotCache, available: &mut RegUnitSet, sources: &RegUnitSet, edits: &mut Edits, slots: &mut Slots, d: &mut Diverted, v: Value) -> Self
+    pub fn undivert(
+        mut self,
+        t: &RegInfo,
+        f: &Function,
+        cache: &SlotCache,
+        available: &mut RegUnitSet,
+        sources: &RegUnitSet,
+        edits: &mut Edits,
+        slots: &mut Slots,
+        d: &mut Diverted,
+        v: Value,
+    ) -> Self
         requires { ⌜ Checked (now t) (now f) × (v .0 < numValues (functionOf (now f))) × (0 < countAt (now d) (v .0)) × (countAt (now d) (v .0) < 65536) × PlaceFits (now t) (scratchAt (now d) (v .0)) × PlaceFits (now t) (allocAt (now d) (v .0)) × Fits 0 1 4 (now t) self (now edits) (now slots) (now cache) ⌝ }
         ensures { λ r. ⌜ Undiverts (now (t .entry)) (now (f .entry)) (now (cache .entry)) (valueBank (functionOf (now (f .entry))) (v .0)) (v .0) (now (d .entry)) self (tables (now (edits .entry)) (now (available .entry)) (now (slots .entry))) (now (d .exit)) r (tables (now (edits .exit)) (now (available .exit)) (now (slots .exit))) ⌝ }
     {

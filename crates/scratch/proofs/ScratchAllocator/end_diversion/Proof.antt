@@ -27,14 +27,16 @@ first-of-requires c κs = let pre = c .before .before .pre in omega (arith, pre 
 do-move-requires : tie.Need-do-move-requires
 do-move-requires c κs =
     let pre = c .before .before .before .before .before .before .pre in
-    let bank = c .before .before .before .before .before .value-bank .ensures in
-    (record {
-      checked = pre .0;
-      bank = rw bank (bank-there _ _ (pre .0 .function) _ (pre .1));
-      to-fits = rw (c .before .before .before .before .scratch-of .ensures) (pre .2);
-      from-fits = rw (c .before .before .before .first-of .ensures) (pre .3);
-      value = omega (arith, pre .1, few-values _ _ (pre .0 .function));
-    }, pre .4)
+    let bank = c .before .before .before .before .before .value-bank .ensures in (
+      record {
+        checked = pre .0;
+        bank = rw bank (bank-there _ _ (pre .0 .function) _ (pre .1));
+        to-fits = rw (c .before .before .before .before .scratch-of .ensures) (pre .2);
+        from-fits = rw (c .before .before .before .first-of .ensures) (pre .3);
+        value = omega (arith, pre .1, few-values _ _ (pre .0 .function));
+      },
+      pre .4,
+    )
 
 release-place-requires : tie.Need-release-place-requires
 release-place-requires c κs =
