@@ -35,8 +35,7 @@ returns-3 c =
 place-move-requires : tie.Need-place-move-requires
 place-move-requires c κs =
     let s = c .before .before .before .before .before .before .before .before .before .before in
-    let n = s .pre .2 in
-    (
+    let n = s .pre .2 in (
       s .pre .0,
       s .pre .1,
       record {
