@@ -34,7 +34,7 @@ same-self : (p : Place) → samePlace p p ≡ true
 same-self (reg r) = eq-eqb r r refl
 same-self (slot s) = eq-eqb s s refl
 
-pub same-is : (p q : Place) → samePlace p q ≡ true → p ≡ q
+same-is : (p q : Place) → samePlace p q ≡ true → p ≡ q
 same-is (reg a) (reg b) e = ap reg (eqb-true a b e)
 same-is (slot a) (slot b) e = ap slot (eqb-true a b e)
 same-is (reg a) (slot b) e = absurd (false≢true e)
@@ -140,11 +140,11 @@ module _ (t : RegInfo) (f : Function) where
   full a (remat d v) h = rw (le-leb 128 (a .count) h)
 
   -- the numbers an entry can still be refused by
-  pub move-conditions : (a : Sorted) (s d : Place) (v : ℕ) → PassedMove t f a s d v → firstOf (entryConditions t f a (move s d v)) ≡ orElse (and (overlapsEarlier t f a d) (no (dropped t f a s d v))) 12 none
+  move-conditions : (a : Sorted) (s d : Place) (v : ℕ) → PassedMove t f a s d v → firstOf (entryConditions t f a (move s d v)) ≡ orElse (and (overlapsEarlier t f a d) (no (dropped t f a s d v))) 12 none
   unfolding entryConditions firstOf
   move-conditions a s d v p = rw (lt-leb 128 (a .count) (p .less), p .source-named, p .dest-named, lt-ltb v (numValues f) (p .value-named), p .source-bank, p .dest-bank, p .differ)
 
-  pub remat-conditions : (a : Sorted) (d : Place) (v : ℕ) → a .count < 128 → namesPlace t f d ≡ true → v < numValues f → ofBank t (valueBank f v) d ≡ true → canRematerialize f v ≡ true → firstOf (entryConditions t f a (remat d v)) ≡ orElse (overlapsEarlier t f a d) 12 none
+  remat-conditions : (a : Sorted) (d : Place) (v : ℕ) → a .count < 128 → namesPlace t f d ≡ true → v < numValues f → ofBank t (valueBank f v) d ≡ true → canRematerialize f v ≡ true → firstOf (entryConditions t f a (remat d v)) ≡ orElse (overlapsEarlier t f a d) 12 none
   unfolding entryConditions firstOf
   remat-conditions a d v less n l b can = rw (lt-leb 128 (a .count) less, n, lt-ltb v (numValues f) l, b, can)
 
@@ -183,7 +183,7 @@ module _ (t f e w : List ℕ) (ok : Checked t f) (kept : EntriesOk t f e w) wher
     same-there = rw (kept .map) (at-writer (writerFrom T F (a .moves) 0 (a .moves) first) _ refl)
 
   -- a refused entry, and one that is taken
-  pub refused-by : (x : Entry) (n : ℕ) → firstOf (entryConditions T F a x) ≡ some n → AddedAs t f e w e w x (some n)
+  refused-by : (x : Entry) (n : ℕ) → firstOf (entryConditions T F a x) ≡ some n → AddedAs t f e w e w x (some n)
   refused-by x n h = record { is = sym h; yes = λ q. (let z : _≡_ {A = ℕ} 0 1 = cc in absurd (omega arith)); no = λ m q. (refl, refl) }
 
   -- 15 and 2
@@ -233,7 +233,7 @@ module _ (t f e w : List ℕ) (ok : Checked t f) (kept : EntriesOk t f e w) wher
   or-else-pick true n = refl
   or-else-pick false n = refl
 
-  pub added-rebuilt : (x : Entry) (b : Bool) (d v : ℕ) → firstOf (entryConditions T F a x) ≡ orElse (overlapsEarlier T F a (placeAt d)) 12 none → add T F x a ≡ withRemat b (rebuiltAs d v) a → Writable T (placeAt d) → a .count < 128
+  added-rebuilt : (x : Entry) (b : Bool) (d v : ℕ) → firstOf (entryConditions T F a x) ≡ orElse (overlapsEarlier T F a (placeAt d)) 12 none → add T F x a ≡ withRemat b (rebuiltAs d v) a → Writable T (placeAt d) → a .count < 128
       → (e′ w′ : List ℕ) (r : Option ℕ) → RebuiltAs e w e′ w′ (placeUnits T (placeAt d)) b (rebuiltAs d v) r → AddedAs t f e w e′ w′ x r
   added-rebuilt x b d v h q writes less e′ w′ r done =
       let given : firstOf (entryConditions T F a x) ≡ pick (any (isWritten w) (placeUnits T (placeAt d))) (some 12) none = h ∙ ap (λ (c : Bool). orElse c 12 none) (overlaps-is (placeAt d)) ∙ or-else-pick (any (isWritten w) (placeUnits T (placeAt d))) 12 in

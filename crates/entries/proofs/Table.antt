@@ -107,7 +107,7 @@ remat-count e base counter d v high below less =
 
 -- stores below the count of all entries
 module _ (e : List ℕ) (long : length e ≡ 1028) (few : getD e 1024 0 ≤ 128) (few-remats : getD e 1025 0 ≤ 128) (few-scratch : getD e 1026 0 ≤ 128) where
-  pub dropped-one : sortedOf (countedOne e) ≡ withDropped (sortedOf e)
+  dropped-one : sortedOf (countedOne e) ≡ withDropped (sortedOf e)
   unfolding sortedOf
   dropped-one =
       let u = countedOne e in
@@ -154,7 +154,7 @@ module _ (e : List ℕ) (long : length e ≡ 1028) (few : getD e 1024 0 ≤ 128)
         let c : getD (countedOne four) (2 + m * 4) 0 ≡ v = below-counts (2 + m * 4) (omega arith) ∙ getD-set-same two (2 + m * 4) v 0 (simp length-set (omega arith)) in
         rw (a, b, c)
 
-    pub kept-one : sortedOf (countedOne (storedMove e m s d v)) ≡ withMove (keptMove s d v) (sortedOf e)
+    kept-one : sortedOf (countedOne (storedMove e m s d v)) ≡ withMove (keptMove s d v) (sortedOf e)
     unfolding sortedOf
     kept-one =
         let u = countedOne four in
@@ -200,7 +200,7 @@ module _ (e : List ℕ) (long : length e ≡ 1028) (few : getD e 1024 0 ≤ 128)
     remats-more : map (rematAt base (countedOne third)) (indices 0 (getD (countedOne third) counter 0)) ≡ map (rematAt base e) (indices 0 i) ++ (rebuiltAs d v ∷ [])
     remats-more = built-more (rematAt base (countedOne third)) (rematAt base e) i (getD (countedOne third) counter 0) _ third-counter (λ k l. remat-same base (countedOne third) e k (λ x a h. third-other x (λ q. omega arith) (λ q. omega arith) (λ q. omega arith) (λ q. omega arith))) remat-new
 
-  pub rebuilt-one : (d v : ℕ) → getD e 1025 0 < 128 → sortedOf (countedOne (storedRemat e 512 1025 (getD e 1025 0) d v)) ≡ withRemat false (rebuiltAs d v) (sortedOf e)
+  rebuilt-one : (d v : ℕ) → getD e 1025 0 < 128 → sortedOf (countedOne (storedRemat e 512 1025 (getD e 1025 0) d v)) ≡ withRemat false (rebuiltAs d v) (sortedOf e)
   unfolding sortedOf
   rebuilt-one d v less =
       let u = countedOne (storedRemat e 512 1025 (getD e 1025 0) d v) in
@@ -211,7 +211,7 @@ module _ (e : List ℕ) (long : length e ≡ 1028) (few : getD e 1024 0 ≤ 128)
       (built-kept (rematAt 768 u) (rematAt 768 e) (getD e 1026 0) (getD u 1026 0) (other 1026 (λ q. omega arith) (λ q. omega arith) (λ q. omega arith) (λ q. omega arith)) (λ k l. remat-same 768 u e k (λ x a h. other x (λ q. omega arith) (λ q. omega arith) (λ q. omega arith) (λ q. omega arith))))
       (third-all 512 1025 d v (omega arith) (omega arith) (omega arith) (omega arith) less)
 
-  pub rebuilt-with-scratch : (d v : ℕ) → getD e 1026 0 < 128 → sortedOf (countedOne (storedRemat e 768 1026 (getD e 1026 0) d v)) ≡ withRemat true (rebuiltAs d v) (sortedOf e)
+  rebuilt-with-scratch : (d v : ℕ) → getD e 1026 0 < 128 → sortedOf (countedOne (storedRemat e 768 1026 (getD e 1026 0) d v)) ≡ withRemat true (rebuiltAs d v) (sortedOf e)
   unfolding sortedOf
   rebuilt-with-scratch d v less =
       let u = countedOne (storedRemat e 768 1026 (getD e 1026 0) d v) in

@@ -26,7 +26,7 @@ pub by-found : {A : Type 0} (g : Option ℕ → A) {r v : Found} {o : Option ℕ
 by-found g h e = ap g (sym (ap foundOf e) ∙ h)
 
 -- the map with each of the units at x
-pub noted-is : (g : ℕ → Option ℕ) (us : List ℕ) (x k : ℕ) → noted g us x k ≡ pick (has k us) (some x) (g k)
+noted-is : (g : ℕ → Option ℕ) (us : List ℕ) (x k : ℕ) → noted g us x k ≡ pick (has k us) (some x) (g k)
 unfolding noted updated has
 noted-is g [] x k = refl
 noted-is g (u ∷ us) x k = noted-is (updated g u x) us x k ∙ by (has k us) (eqb k u)
@@ -54,11 +54,6 @@ known-rebuilt (some m) b = refl
 pub known-none : (o : Option ℕ) → known o ≡ false → o ≡ none
 known-none none e = refl
 known-none (some m) e = absurd (true≢false e)
-
-rebuilt-none : (o : Option ℕ) (b : Bool) → orRebuilt o b ≡ none → (o ≡ none) × (b ≡ false)
-rebuilt-none none true e = let z : _≡_ {A = ℕ} 0 1 = cc in absurd (omega arith)
-rebuilt-none none false e = (refl, refl)
-rebuilt-none (some m) b e = let z : _≡_ {A = ℕ} 0 1 = cc in absurd (omega arith)
 
 -- a unit that had no writer gets one
 by-move : (o : Option ℕ) (b r : Bool) (k n : ℕ) → k ≡ n → (b ≡ true → orRebuilt o r ≡ none) → orRebuilt (orSome o (pick b (some k) none)) r ≡ pick b (some n) (orRebuilt o r)
