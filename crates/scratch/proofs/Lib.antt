@@ -2,3 +2,4 @@ pub mod Bounds
 pub mod Steps
 pub mod Outcomes
 pub mod Diversions
+pub mod Agree
