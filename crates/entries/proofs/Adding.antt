@@ -22,7 +22,8 @@ use Rattle.rules.specs.Sorted.{SortedOk}
 use Rattle.rules.proofs.Accepted.{sorted-add}
 use Rattle.sparse.specs.Map.{mapOf, known}
 use Rattle.entries.specs.Table.{moveAt, sortedOf, isMoveOf, keptMove, rebuiltAs, withMove, withRemat, withDropped}
-use Rattle.entries.specs.Known.{Checked, Writable, NamedRemat, NamedMove, isWritten, Noted, Roomy, orRebuilt, writerOf, Tracked, PassedMove, EntriesOk}
+use Rattle.function.specs.Known.{Checked}
+use Rattle.entries.specs.Known.{Writable, NamedRemat, NamedMove, isWritten, Noted, Roomy, orRebuilt, writerOf, Tracked, PassedMove, EntriesOk}
 use Rattle.entries.specs.Answers.{AddedAs, RebuiltAs}
 use Rattle.entries.proofs.Lists.{both-ways, pick-none, any-true, any-where, any-only, meets-any}
 use Rattle.entries.proofs.Table.{kept-count, remats-count, scratch-count, entries-count, kept-is}

@@ -21,7 +21,8 @@ use Rattle.function.specs.Table.{functionOf}
 use Rattle.function.specs.Answers.{Rebuild, rematerialize}
 use Rattle.function.proofs.Laws.{few-values, few-slots, known-value, cost-there, class-there, never-rebuilt, rebuilt}
 use Rattle.rules.specs.Patch.{namesPlace, needsScratch, becomesRemat}
-use Rattle.entries.specs.Known.{Checked, Writable}
+use Rattle.function.specs.Known.{Checked}
+use Rattle.entries.specs.Known.{Writable}
 use Rattle.entries.proofs.Lists.{pick-none, pick-some, or-right}
 
 -- what a code names

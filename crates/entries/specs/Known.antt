@@ -9,11 +9,9 @@ use lib.ListN.{length, getD}
 use Rattle.entity.specs.Logic.{pick, and, or, no, any, has}
 use Rattle.entity.specs.Place.{Place, reg, samePlace}
 use Rattle.reginfo.specs.RegInfo.{RegInfo, includesSpillslots, lastInOrder, placeUnits, overlap, ofBank}
-use Rattle.reginfo.specs.Refused as target
 use Rattle.reginfo.specs.Known.{KnownPlace}
-use Rattle.reginfo.specs.Table.{regInfoOf, Indexed}
+use Rattle.reginfo.specs.Table.{regInfoOf}
 use Rattle.function.specs.Function.{Function, numValues, valueBank}
-use Rattle.function.specs.Refused as function
 use Rattle.function.specs.Table.{functionOf}
 use Rattle.rules.specs.Order.{Remat, writerFrom}
 use Rattle.rules.specs.Patch.{Sorted, namesPlace}
@@ -21,12 +19,6 @@ use Rattle.rules.specs.Sorted.{SortedOk}
 use Rattle.small_set.specs.Set.{setOf}
 use Rattle.sparse.specs.Map.{mapOf, keysOf, known, updated, Linked}
 use Rattle.entries.specs.Table.{sortedOf}
-
--- the tables of an accepted target and function
-pub record Checked (t f : List ℕ) : Type 0 where
-  pub target : target.Accepted (regInfoOf t)
-  pub indexed : Indexed t
-  pub function : function.Accepted (regInfoOf t) (functionOf f)
 
 -- a place whose units can be looked up
 pub record Writable (t : RegInfo) (p : Place) : Type 0 where

@@ -34,7 +34,8 @@ ghost use Rattle.rules.specs.Sorted.{RematOk, SortedOk};
 ghost use Rattle.small_set.specs.Set.{setOf};
 ghost use Rattle.sparse.specs.Map.{mapOf, keysOf, Linked};
 ghost use Rattle.entries.specs.Table.{sortedOf, countedOne, storedMove, storedRemat, isMove, isMoveOf, keptMove, rebuiltAs, withMove, withRemat};
-ghost use Rattle.entries.specs.Known.{Checked, Writable, isWritten, Noted, Roomy, isFree, lastClashes, NamedRemat, NamedMove, PassedMove, EntriesOk};
+ghost use Rattle.function.specs.Known.{Checked};
+ghost use Rattle.entries.specs.Known.{Writable, isWritten, Noted, Roomy, isFree, lastClashes, NamedRemat, NamedMove, PassedMove, EntriesOk};
 ghost use Rattle.entries.specs.Answers.{addedOf, rebuiltOf, AddedAs, RebuiltAs};
 
 pub type Entries = [u16; 1028];

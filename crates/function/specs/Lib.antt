@@ -1,5 +1,5 @@
 pub mod Function
-pub mod Known
 pub mod Refused
 pub mod Table
+pub mod Known
 pub mod Answers

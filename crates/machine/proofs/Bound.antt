@@ -12,10 +12,10 @@ use lib.ListN.{length, getD}
 use Rattle.entity.specs.Logic.{pick, and, or, no, any, has, indices}
 use Rattle.entity.proofs.Laws.{and-true}
 use Rattle.entity.specs.Place.{Place, reg, slot}
-use Rattle.reginfo.specs.RegInfo.{bankForClass, RegInfo, allocationOrder, classMembers, includesSpillslots, isMemory, lastInOrder, spillslotSize, topLevelClass, stackToStackClass}
+use Rattle.reginfo.specs.RegInfo.{bankForClass, RegInfo, numBanks, numClasses, allocationOrder, classMembers, includesSpillslots, isMemory, lastInOrder, spillslotSize, topLevelClass, stackToStackClass}
 use Rattle.reginfo.specs.Refused as target
 use Rattle.reginfo.proofs.Accepted.{top-slots, last-memory}
-use Rattle.function.specs.Function.{Function, numValues, rematClass}
+use Rattle.function.specs.Function.{Function, numValues, valueBank, rematClass, canRematerialize}
 use Rattle.function.specs.Refused as function
 use Rattle.function.proofs.Laws.{bank-there, class-there}
 use Rattle.rules.specs.Edit.{Edit, Rematerialize, andThen, each, find, filter}
@@ -25,12 +25,12 @@ use Rattle.rules.specs.Patch.{Patch, Sorted, sorted, bound, run}
 use Rattle.rules.specs.Sorted.{MoveOk, RematOk, noRemat, SortedOk, Ran}
 use Rattle.rules.proofs.News.{news, news-all, news-open, news-close}
 use Rattle.rules.proofs.Writers.{writers-low}
-use Rattle.rules.proofs.Sum.{sum, sum-change, sum-zero}
+use Rattle.rules.proofs.Sum.{sum, sum-change, sum-part, sum-zero}
 use Rattle.rules.proofs.Steps.{All, all-then, all-after, all-map, branch, Every, every-getD, every-reverse, every-index, all-each, updated-same, updated-other}
 use Rattle.machine.proofs.Diversions.{occurs, Counted, Grown, carry-grown, was-live, lost-counted}
 
 -- the edits made, and those still owed: each evicted register will be saved
-abbrev owed : ScratchAllocator → ℕ
+abbrev pub owed : ScratchAllocator → ℕ
 owed k = length (k .edits) + length (k .evicted)
 
 split-length : {A : Type 0} (p : A → Bool) (l : List A) → length (filter p l) + length (filter (λ e. no (p e)) l) ≡ length l
@@ -62,6 +62,14 @@ sign-zero : (n : ℕ) → n ≡ 0 → sign n ≡ 0
 unfolding sign
 sign-zero zero h = refl
 sign-zero (suc n) h = absurd (omega arith)
+
+-- each value has a bank there is, and a class there is to be rebuilt in
+pub record Placed (t : RegInfo) (f : Function) : Type 0 where
+  pub bank : (v : ℕ) → v < numValues f → valueBank f v < numBanks t
+  pub class : (v : ℕ) → v < numValues f → canRematerialize f v ≡ true → rematClass f v < numClasses t
+
+pub placed : (t : RegInfo) (f : Function) → function.Accepted t f → Placed t f
+placed t f af = record { bank = λ v h. bank-there t f af v h; class = λ v h r. class-there t f af v h r }
 
 module _ (t : RegInfo) (f : Function) where
   unevict-edits : (l : List Evicted) (k : ScratchAllocator) → length (unevict t f l k .edits) ≡ length l + length (k .edits)
@@ -146,12 +154,12 @@ module _ (t : RegInfo) (f : Function) where
   release-owed z (reg r) k = refl
 
   -- a rebuild without scratch is one edit
-  remats-owed : (l : List Remat) (k : ScratchAllocator) → owed (remats t f l k) ≡ length l + owed k
+  pub remats-owed : (l : List Remat) (k : ScratchAllocator) → owed (remats t f l k) ≡ length l + owed k
   unfolding remats
   remats-owed [] k = omega arith
   remats-owed (r ∷ l) k = omega (arith, remats-owed l (doRemat t f r k))
 
-  module _ (at : target.Accepted t) (af : function.Accepted t f) where
+  module _ (at : target.Accepted t) (af : Placed t f) where
     -- a rebuild with scratch: a rebuild, two moves, a reload and its save; where its own search evicts, its scratch is no memory
     module _ (r : Remat) (ok : RematOk t f false r) where
       c : ℕ
@@ -162,9 +170,9 @@ module _ (t : RegInfo) (f : Function) where
 
       last-plain : (x : Found) → x .place ≡ reg (lastInOrder t c) → includesSpillslots t c ≡ false → isMemory t (x .place) ≡ false
       unfolding c
-      last-plain x e s = ap (isMemory t) e ∙ last-memory t at c (class-there t f af (r .value) (ok .value-named) (ok .can)) s
+      last-plain x e s = ap (isMemory t) e ∙ last-memory t at c (af .class (r .value) (ok .value-named) (ok .can)) s
 
-      scratch-owed : (k : ScratchAllocator) → All (λ k′. owed k′ ≤ owed k + 5) (rematWithScratch t f r k)
+      pub scratch-owed : (k : ScratchAllocator) → All (λ k′. owed k′ ≤ owed k + 5) (rematWithScratch t f r k)
       unfolding rematWithScratch b c
       scratch-owed k =
           all-then (Searched c (owed k)) (λ k′. owed k′ ≤ owed k + 5) (getScratchReg t f b c (nothingBarred t f) (unevictForReg t f (r .dest) k)) _
@@ -177,7 +185,7 @@ module _ (t : RegInfo) (f : Function) where
           (edit-owed b (r .dest) (x .place) (r .value) (owed k + 2) (x .scratch) (last-plain x (q .1) (q .2)) (q .0))
           (λ k′ h. omega (arith, release-owed (spillslotSize t b) (x .place) (push (Rematerialize (x .place) (r .value)) k′)))))
 
-    each-owed : (l : List Remat) → Every (RematOk t f false) l → (k : ScratchAllocator) → All (λ k′. owed k′ ≤ owed k + 5 * length l) (each (rematWithScratch t f) l k)
+    pub each-owed : (l : List Remat) → Every (RematOk t f false) l → (k : ScratchAllocator) → All (λ k′. owed k′ ≤ owed k + 5 * length l) (each (rematWithScratch t f) l k)
     unfolding each
     each-owed [] q k = omega arith
     each-owed (r ∷ l) q k =
@@ -186,12 +194,17 @@ module _ (t : RegInfo) (f : Function) where
         (each-owed l (q .1) k′))
 
     module _ (ms : List KeptMove) (ok : (i : ℕ) → i < length ms → MoveOk t f (getD ms i noMove)) where
-      abbrev n : ℕ
+      abbrev pub n : ℕ
       n = length ms
 
       -- the diversions that live
-      live : Diverted → ℕ
+      pub live : Diverted → ℕ
       live d = sum (λ v. sign (d .refCount v)) (numValues f)
+
+      -- a value that is carried is one of them
+      pub live-some : (d : Diverted) (v : ℕ) → v < numValues f → 0 < d .refCount v → 1 ≤ live d
+      unfolding live
+      live-some d v vl h = omega (arith, sum-part (λ x. sign (d .refCount x)) (numValues f) v vl, sign-pos (d .refCount v) h)
 
       live-grown : (v : ℕ) (state : ℕ → State) (d d′ : Diverted) → v < numValues f → Grown t f ms v state d d′ → live d′ ≤ suc (live d)
       unfolding live
@@ -218,14 +231,14 @@ module _ (t : RegInfo) (f : Function) where
         live-less z = omega (arith, live-change, sign-zero (pred (d .refCount v)) (sym (updated-same v (pred (d .refCount v)) (d .refCount)) ∙ z))
 
       -- edits made and owed, 4 for each diversion that lives and 8 for each move not visited
-      abbrev spent : ParallelMoves → ℕ
+      abbrev pub spent : ParallelMoves → ℕ
       spent w = owed (w .allocator) + (4 * live (w .diverted) + 8 * news n (w .state))
 
-      record Paid (a : ℕ) (w : ParallelMoves) : Type 0 where
-        paid : spent w ≤ a
-        counted : Counted t f ms (w .diverted)
+      pub record Paid (a : ℕ) (w : ParallelMoves) : Type 0 where
+        pub paid : spent w ≤ a
+        pub counted : Counted t f ms (w .diverted)
 
-      emit-paid : (a b i : ℕ) (from : Place) (w : ParallelMoves) → Paid a w → a + 4 ≤ b → All (Paid b) (emit t f ms i from w)
+      pub emit-paid : (a b i : ℕ) (from : Place) (w : ParallelMoves) → Paid a w → a + 4 ≤ b → All (Paid b) (emit t f ms i from w)
       emit-paid a b i from w p h =
           all-then (λ k. owed k ≤ owed (w .allocator) + 4) (Paid b) (doMove t f (bank t f ms (value t f ms i)) (dest t f ms i) from (value t f ms i) (w .allocator)) _
           (move-owed (bank t f ms (value t f ms i)) (dest t f ms i) from (value t f ms i) (owed (w .allocator)) (w .allocator) (omega arith))
@@ -246,10 +259,10 @@ module _ (t : RegInfo) (f : Function) where
             all-then (λ x. owed (x .scratch) ≤ owed (w .allocator)) (Paid b)
             (getScratchReg t f (bank t f ms (value t f ms i)) (topLevelClass t (bank t f ms (value t f ms i))) (cycleMoveSources t f ms) (w .allocator)) _
             (slots-owed (bank t f ms (value t f ms i)) (topLevelClass t (bank t f ms (value t f ms i))) (owed (w .allocator))
-            (top-slots t at (bank t f ms (value t f ms i)) (bank-there t f af (value t f ms i) named)) (cycleMoveSources t f ms) (w .allocator) (omega arith))
+            (top-slots t at (bank t f ms (value t f ms i)) (af .bank (value t f ms i) named)) (cycleMoveSources t f ms) (w .allocator) (omega arith))
             (λ x q. emit-paid a b i (x .place) (noted t f ms i x w) (record { paid = omega (arith, p .paid); counted = p .counted }) h)
 
-        lead-paid : (a b : ℕ) (w : ParallelMoves) → Paid a w → a + 8 ≤ b → All (Paid b) (lead t f ms i w)
+        pub lead-paid : (a b : ℕ) (w : ParallelMoves) → Paid a w → a + 8 ≤ b → All (Paid b) (lead t f ms i w)
         unfolding lead
         lead-paid a b w p h =
             branch (All (Paid b)) (any (λ m. isPending (w .state m)) (writers t f ms i)) _ _
@@ -260,10 +273,10 @@ module _ (t : RegInfo) (f : Function) where
 
         -- the copy of a diversion that ends is paid by its end
         module _ (a v : ℕ) (l : List ℕ) (w : ParallelMoves) (e : w .diverted .values i ≡ v ∷ l) (p : Paid a w) where
-          abbrev Left : ParallelMoves → Type 0
+          abbrev pub Left : ParallelMoves → Type 0
           Left w′ = Paid a w′ × (w′ .diverted .values i ≡ l)
 
-          undivert-paid : All Left (undivert t f ms i v l w)
+          pub undivert-paid : All Left (undivert t f ms i v l w)
           unfolding undivert
           undivert-paid =
               branch (All Left) (eqb (lost t f ms i v l (w .diverted) .refCount v) 0) _ _
@@ -281,26 +294,26 @@ module _ (t : RegInfo) (f : Function) where
                 updated-same i l (w .diverted .values),
               ))
 
-        undivertAll-paid : (a : ℕ) (l : List ℕ) (w : ParallelMoves) → w .diverted .values i ≡ l → Paid a w → All (Paid a) (undivertAll t f ms i l w)
+        pub undivertAll-paid : (a : ℕ) (l : List ℕ) (w : ParallelMoves) → w .diverted .values i ≡ l → Paid a w → All (Paid a) (undivertAll t f ms i l w)
         unfolding undivertAll
         undivertAll-paid a [] w e p = p
         undivertAll-paid a (v ∷ l) w e p =
             all-then (Left a v l w e p) (Paid a) (undivert t f ms i v l w) _ (undivert-paid a v l w e p) (λ w′ q. undivertAll-paid a l w′ (q .1) (q .0))
 
-        done-paid : (a : ℕ) (w : ParallelMoves) → Paid a w → Paid a (withState i Done w)
+        pub done-paid : (a : ℕ) (w : ParallelMoves) → Paid a w → Paid a (withState i Done w)
         done-paid a w p = record { paid = omega (arith, p .paid, news-close n i (w .state)); counted = p .counted }
 
-        close-paid : (a b : ℕ) (w : ParallelMoves) → Paid a w → a + 8 ≤ b → All (Paid b) (close t f ms i w)
+        pub close-paid : (a b : ℕ) (w : ParallelMoves) → Paid a w → a + 8 ≤ b → All (Paid b) (close t f ms i w)
         unfolding close
         close-paid a b w p h =
             all-then (Paid b) (Paid b) (lead t f ms i (withState i Done w)) _ (lead-paid a b (withState i Done w) (done-paid a w p) h)
             (λ w′ q. undivertAll-paid b (w′ .diverted .values i) w′ refl q)
 
         -- to open a move frees its 8
-        opened : (w : ParallelMoves) → isNew (w .state i) ≡ true → spent (withState i Pending w) + 8 ≤ spent w
+        pub opened : (w : ParallelMoves) → isNew (w .state i) ≡ true → spent (withState i Pending w) + 8 ≤ spent w
         opened w e = omega (arith, news-open n i (w .state) il e)
 
-      visit-paid : (fuel a i : ℕ) (w : ParallelMoves) → i < n → Paid a w → All (Paid a) (visit t f ms fuel i w)
+      pub visit-paid : (fuel a i : ℕ) (w : ParallelMoves) → i < n → Paid a w → All (Paid a) (visit t f ms fuel i w)
       unfolding visit
       visit-paid zero a i w il p = branch (All (Paid a)) (isNew (w .state i)) _ _ (λ _. tt) (λ _. p)
       visit-paid (suc fuel) a i w il p =
@@ -311,11 +324,11 @@ module _ (t : RegInfo) (f : Function) where
           (λ w′ q. close-paid i il (spent (withState i Pending w)) a w′ q (omega (arith, opened i il w e, p .paid))))
           (λ _. p)
 
-      first-paid : (a i : ℕ) (w : ParallelMoves) → i < n → Paid a w → All (Paid a) (visitUnlessMemory t f ms i w)
+      pub first-paid : (a i : ℕ) (w : ParallelMoves) → i < n → Paid a w → All (Paid a) (visitUnlessMemory t f ms i w)
       unfolding visitUnlessMemory
       first-paid a i w il p = branch (All (Paid a)) (or (isMemory t (source t f ms i)) (isMemory t (dest t f ms i))) _ _ (λ _. p) (λ _. visit-paid n a i w il p)
 
-      start-paid : (k : ScratchAllocator) → Paid (owed k + 8 * n) (start t f ms k)
+      pub start-paid : (k : ScratchAllocator) → Paid (owed k + 8 * n) (start t f ms k)
       unfolding start live sign occurs
       start-paid k = record { paid = omega (arith, sum-zero (λ v. 0) (numValues f) (λ v h. refl), news-all n (λ i. New)); counted = record { counts = λ v. sym (sum-zero (λ m. 0) n (λ m h. refl)); small = λ v h. absurd (omega arith) } }
 
@@ -355,5 +368,5 @@ pub bound-ok :
     → length es ≤ bound (sorted t f p)
 bound-ok t f at af p room c c′ es r =
     let few : All (λ k. length (k .edits) ≤ bound (sorted t f p)) (some (r .allocator)) =
-    subst (All (λ k. length (k .edits) ≤ bound (sorted t f p))) (r .ran) (run-few t f at af p c (r .ok)) in
+    subst (All (λ k. length (k .edits) ≤ bound (sorted t f p))) (r .ran) (run-few t f at (placed t f af) p c (r .ok)) in
     omega (arith, few, ap length (r .edits))

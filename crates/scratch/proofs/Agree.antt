@@ -42,12 +42,13 @@ module _ (t : RegInfo) (f : Function) (ms : List KeptMove) (w : ParallelMoves) w
       (ended (eqb (pred (w .diverted .refCount v)) 0) (doMove t f (valueBank f v) (w .scratch v) (w .alloc v) v (w .allocator)) (releasePlace t f (spillslotSize t (valueBank f v)) (w .scratch v)) _ (w .allocator)
       (λ k. withDiverted (lost t f ms i v rest (w .diverted)) (withAllocator k w)))
 
-  pub divert-is : (i added : ℕ) → w .diverted .refCount (value t f ms i) ≡ 0
+  -- of a diversion that does not live
+  pub divert-is : (i added : ℕ) (q : Diversion) → q .refCount ≡ 0
       → divert t f ms i w
-      ≡ andThen (divertBy t f (valueBank f (value t f ms i)) (cycleMoveSources t f ms) added (source t f ms i) (diversionIn w (value t f ms i)) (w .allocator))
+      ≡ andThen (divertBy t f (valueBank f (value t f ms i)) (cycleMoveSources t f ms) added (source t f ms i) q (w .allocator))
       (λ x. emit t f ms i (x .place) (record { allocator = x .allocator; state = w .state; alloc = updated (value t f ms i) (x .diversion .alloc) (w .alloc); scratch = updated (value t f ms i) (x .diversion .scratch) (w .scratch); diverted = w .diverted }))
   unfolding divert divertBy
-  divert-is i added z =
-      rw (eq-eqb (w .diverted .refCount (value t f ms i)) 0 z)
+  divert-is i added q z =
+      rw (eq-eqb (q .refCount) 0 z)
       (begun (getScratchReg t f (valueBank f (value t f ms i)) (topLevelClass t (valueBank f (value t f ms i))) (cycleMoveSources t f ms) (w .allocator)) (λ x. makeUnavailable t f (x .place) (x .scratch)) added (source t f ms i)
       (λ p k a s. emit t f ms i p (record { allocator = k; state = w .state; alloc = updated (value t f ms i) a (w .alloc); scratch = updated (value t f ms i) s (w .scratch); diverted = w .diverted })))

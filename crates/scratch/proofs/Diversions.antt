@@ -54,13 +54,15 @@ beside (some x) g k q e = let z : g x ≡ k = cc in rw z
 module _ (t f cache : List ℕ) (b v : ℕ) (d d′ : List ℕ) where
   module _ (barred : ℕ → Bool) (added source : ℕ) where
     -- a live diversion keeps its scratch
-    pub diverts-live : (k : ScratchAllocator) (w : Tables) (p : Allocation) → (countAt d v ≡ 0 → ⊥) → Noted v (countAt d v + added) (allocAt d v) (scratchAt d v) d d′ → p .0 ≡ scratchAt d′ v → PlaceFits t (scratchAt d v)
+    pub diverts-live : (k : ScratchAllocator) (w : Tables) (p : Allocation) → (countAt d v ≡ 0 → ⊥) → Noted v (countAt d v + added) (allocAt d v) (scratchAt d v) d d′ → p .0 ≡ scratchAt d v → PlaceFits t (scratchAt d v)
         → Diverts t f cache b barred added source v d k w d′ (record { place = p; allocator = k }) w
     unfolding divertBy
-    diverts-live k w p nz h e ok =
-        let q : p .0 ≡ scratchAt d v = e ∙ h .scratch-is in
+    diverts-live k w p nz h q ok =
         record {
           is = rw (ne-eqb (countAt d v) 0 nz, q, diversion-is v (countAt d v + added) (allocAt d v) (scratchAt d v) d d′ h);
+          count-is = h .count-is;
+          alloc-is = rw (ne-eqb (countAt d v) 0 nz) (h .alloc-is);
+          scratch-is = h .scratch-is ∙ sym q;
           others = h .others;
           place = rw q ok;
           fits = λ a b n g. fewer (omega arith) (omega arith) (omega arith) g;
@@ -74,6 +76,9 @@ module _ (t f cache : List ℕ) (b v : ℕ) (d d′ : List ℕ) where
     diverts-new k k′ w w₁ r l z g h e m =
         record {
           is = rw (eq-eqb (countAt d v) 0 z, g .is, diversion-is v added source (r .place .0) d d′ h, m);
+          count-is = omega (arith, h .count-is);
+          alloc-is = rw (eq-eqb (countAt d v) 0 z) (h .alloc-is);
+          scratch-is = h .scratch-is;
           others = h .others;
           place = g .place;
           fits = λ a b n i. rw e (g .fits a b n i);

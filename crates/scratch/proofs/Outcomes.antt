@@ -33,7 +33,8 @@ use Rattle.scratch.specs.declared.Evicted.the-variants.{Nothing, Held}
 use Rattle.scratch.specs.declared.ScratchAllocator.{ScratchAllocator}
 use Rattle.scratch.specs.declared.Scratch.{Scratch}
 use Rattle.scratch.specs.declared.Taken.{Taken}
-use Rattle.scratch.specs.State.{Checked, T, F, evictedOf, cacheIn, allocatorOf, Stocked, Fits, PlaceFits, Evictable}
+use Rattle.function.specs.Known.{Checked}
+use Rattle.scratch.specs.State.{T, F, evictedOf, cacheIn, allocatorOf, Stocked, Fits, PlaceFits, Evictable}
 use Rattle.scratch.specs.Contracts.{Tables, tables, stateOf, Acquired, Brought, Found, Moved, Released}
 use Rattle.scratch.proofs.Bounds.{top-low, fewer, pushed, put-back, taken, one-made, let-go, hold, held-fits}
 use Rattle.scratch.proofs.Steps.{took, made, all-none, for-none, for-apart, for-met, reuse-member, reuse-stranger, find-has}

@@ -6,11 +6,10 @@ use mathlib.Core.List.{List, [], _∷_}
 use Rattle.entity.specs.Logic.{has}
 use Rattle.entity.specs.Place.{placeAt}
 use Rattle.reginfo.specs.RegInfo.{RegInfo, numRegs, numBanks, numClasses, includesSpillslots}
-use Rattle.reginfo.specs.Refused.{Accepted}
 use Rattle.reginfo.specs.Known.{KnownPlace}
-use Rattle.reginfo.specs.Table.{regInfoOf, Indexed}
+use Rattle.reginfo.specs.Table.{regInfoOf}
 use Rattle.function.specs.Function.{Function}
-use Rattle.function.specs.Refused as refused
+use Rattle.function.specs.Known.{Checked}
 use Rattle.function.specs.Table.{functionOf}
 use Rattle.small_set.specs.Set.{setOf}
 use Rattle.rules.specs.Scratch as rules
@@ -19,12 +18,6 @@ use Rattle.slots.specs.Stacks.{stacksOf, SlotsFit}
 use Rattle.scratch.specs.declared.Evicted.{Evicted}
 use Rattle.scratch.specs.declared.Evicted.the-variants.{Nothing, Held}
 use Rattle.scratch.specs.declared.ScratchAllocator.{ScratchAllocator}
-
--- a target and a function that were accepted
-pub record Checked (t f : List ℕ) : Type 0 where
-  pub target : Accepted (regInfoOf t)
-  pub indexed : Indexed t
-  pub function : refused.Accepted (regInfoOf t) (functionOf f)
 
 abbrev pub T : List ℕ → RegInfo
 T t = regInfoOf t

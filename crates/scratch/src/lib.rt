@@ -32,7 +32,8 @@ ghost use lib.ListN.{length};
 ghost use Rattle.function.specs.Function.{numValues, valueBank};
 ghost use Rattle.function.specs.Table.{functionOf};
 ghost use Rattle.scratch.specs.Diversions.{countAt, allocAt, scratchAt, Noted, Diverts, Ended, Undiverts};
-ghost use Rattle.scratch.specs.State.{Checked, T, F, evictedOf, allocatorOf, Stocked, Fits, PlaceFits, Evictable, Movable};
+ghost use Rattle.function.specs.Known.{Checked};
+ghost use Rattle.scratch.specs.State.{T, F, evictedOf, allocatorOf, Stocked, Fits, PlaceFits, Evictable, Movable};
 ghost use Rattle.scratch.specs.Contracts.{tables, Acquired, Brought, Found, Moved, Released};
 
 // The evicted register, its slot and the slot's size.
@@ -528,9 +529,11 @@ impl ScratchAllocator {
     {
         let n = ref_count(d, v);
         if n != 0 {
-            set_count(d, v, n + wide(added));
+            let first = first_of(d, v);
+            let p = scratch_of(d, v);
+            note(d, v, narrow(n + wide(added)), first, p);
             return Scratch {
-                place: scratch_of(d, v),
+                place: p,
                 allocator: self,
             };
         }

@@ -1,11 +1,12 @@
 -- Laws of carrying: one writer, and the writers of a list of units.
 use Prim.Native.Nat.{ℕ, suc, _+_, _<_, _≤_}
 use mathlib.Core.Path.{_≡_, refl, sym, ap, subst, _∙_}
-use mathlib.Core.Bool.{Bool, true, false}
+use mathlib.Core.Bool.{Bool, true, false, false≢true}
 use mathlib.Core.List.{List, [], _∷_, _++_}
 use mathlib.Core.Option.{Option, none, some}
 use native.Mathlib.Omega.{arith}
 use lib.Dec.{eqb}
+use borrow.Author.Tests.{ne-eqb}
 use lib.ListN.{getD, length, drop, drop-of-length-le}
 use Rattle.entity.specs.Logic.{pick, no, has}
 use Rattle.entity.proofs.Laws.{drop-step}
@@ -36,7 +37,7 @@ module _ (s : ℕ → State) (v : ℕ) (c : List ℕ) where
   -- nothing is added
   pub nothing-more : (step : Diverted → Diverted) (most : ℕ) → ((d : Diverted) → RowsAgree s d c → d ≡ step d) → CarriedAs s v c c 0 most step
   nothing-more step most h =
-      record { count = add-zero (countOf c); few = omega arith; diverted = λ d a. subst (λ (d′ : Diverted). Counted s v d d′ c 0) (h d a) record { rows = a; more = add-zero (d .refCount v); others = λ x n. refl } }
+      record { count = add-zero (countOf c); few = omega arith; still = λ x n. refl; diverted = λ d a. subst (λ (d′ : Diverted). Counted s v d d′ c 0) (h d a) record { rows = a; more = add-zero (d .refCount v); others = λ x n. refl } }
 
   module _ (m : ℕ) where
     pub closed : isPending (s m) ≡ false → CarriedAs s v c c 0 1 (carryFor v s (some m))
@@ -54,6 +55,7 @@ module _ (s : ℕ → State) (v : ℕ) (c : List ℕ) where
         record {
           count = n;
           few = omega arith;
+          still = λ x q. rw (ne-eqb x m (λ x-is. false≢true (sym q ∙ ap (λ (y : ℕ). isPending (s y)) x-is ∙ e))) at (r x);
           diverted = λ d a. let same : d .values m ≡ carriedBy c m = a m (open-not-done (s m) e) in rw (e, same, h) record {
             rows = λ x o. rw (a x o) (sym (r x));
             more = updated-same v (suc (d .refCount v)) (d .refCount) ∙ omega arith;
@@ -105,6 +107,7 @@ module _ (s : ℕ → State) (v : ℕ) (w us c : List ℕ) where
         did = record {
           count = omega (arith, k .did .count, one .count);
           few = omega (arith, k .did .few, one .few);
+          still = λ x q. one .still x q ∙ k .did .still x q;
           diverted = λ d a. let first = k .did .diverted d a in let second = one .diverted (k .so-far d) (first .rows) in record {
             rows = second .rows;
             more = omega (arith, first .more, second .more);
@@ -121,5 +124,6 @@ module _ (s : ℕ → State) (v : ℕ) (w us c : List ℕ) where
       record {
         count = k .did .count;
         few = omega (arith, k .did .few, k .within);
+        still = k .did .still;
         diverted = λ d a. subst (λ (d′ : Diverted). Counted s v d d′ c′ added) (sym (k .rest d ∙ ap (λ (l : List ℕ). carryUnits v s w l (k .so-far d)) (drop-of-length-le us {i = j} h)) ∙ q d) (k .did .diverted d a);
       }

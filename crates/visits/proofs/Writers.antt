@@ -20,7 +20,8 @@ use Rattle.rules.specs.Scratch.{unitsOfReg}
 use Rattle.rules.specs.Order.{KeptMove, noMove, State, isPending, writerFrom, writersOf, writers, cycleMoveSources}
 use Rattle.search.specs.Search.{unitsOf, withUnits}
 use Rattle.entries.specs.Table.{sortedOf}
-use Rattle.entries.specs.Known.{Checked, Writable, orRebuilt, writerOf, Tracked, EntriesOk}
+use Rattle.function.specs.Known.{Checked}
+use Rattle.entries.specs.Known.{Writable, orRebuilt, writerOf, Tracked, EntriesOk}
 use Rattle.entries.proofs.Fates.{writable}
 use Rattle.entries.proofs.Lists.{any-same, any-step}
 use Rattle.visits.specs.declared.Writer.{Writer}

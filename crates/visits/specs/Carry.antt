@@ -4,7 +4,7 @@ use mathlib.Core.Path.{_≡_}
 use mathlib.Core.Bool.{false}
 use mathlib.Core.List.{List}
 use mathlib.Core.Option.{Option, none, some}
-use Rattle.rules.specs.Order.{State, Diverted, carryOne}
+use Rattle.rules.specs.Order.{State, isPending, Diverted, carryOne}
 use Rattle.carried.specs.Carried.{countOf, carriedBy}
 use Rattle.visits.specs.Marks.{isDone}
 
@@ -27,4 +27,5 @@ pub record Counted (s : ℕ → State) (v : ℕ) (d d′ : Diverted) (c : List �
 pub record CarriedAs (s : ℕ → State) (v : ℕ) (c c′ : List ℕ) (added most : ℕ) (step : Diverted → Diverted) : Type 0 where
   pub count : countOf c′ ≡ countOf c + added
   pub few : added ≤ most
+  pub still : (x : ℕ) → isPending (s x) ≡ false → carriedBy c′ x ≡ carriedBy c x
   pub diverted : (d : Diverted) → RowsAgree s d c → Counted s v d (step d) c′ added
