@@ -30,7 +30,7 @@ begun none g n s h = refl
 begun (some x) g n s h = refl
 
 -- the diversion of a value in the rules' state
-abbrev diversionIn : ParallelMoves → ℕ → Diversion
+abbrev pub diversionIn : ParallelMoves → ℕ → Diversion
 diversionIn w v = record { refCount = w .diverted .refCount v; alloc = w .alloc v; scratch = w .scratch v }
 
 module _ (t : RegInfo) (f : Function) (ms : List KeptMove) (w : ParallelMoves) where

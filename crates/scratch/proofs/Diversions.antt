@@ -60,10 +60,7 @@ module _ (t f cache : List ℕ) (b v : ℕ) (d d′ : List ℕ) where
     diverts-live k w p nz h q ok =
         record {
           is = rw (ne-eqb (countAt d v) 0 nz, q, diversion-is v (countAt d v + added) (allocAt d v) (scratchAt d v) d d′ h);
-          count-is = h .count-is;
-          alloc-is = rw (ne-eqb (countAt d v) 0 nz) (h .alloc-is);
-          scratch-is = h .scratch-is ∙ sym q;
-          others = h .others;
+          noted = rw (ne-eqb (countAt d v) 0 nz, q) h;
           place = rw q ok;
           fits = λ a b n g. fewer (omega arith) (omega arith) (omega arith) g;
         }
@@ -76,10 +73,7 @@ module _ (t f cache : List ℕ) (b v : ℕ) (d d′ : List ℕ) where
     diverts-new k k′ w w₁ r l z g h e m =
         record {
           is = rw (eq-eqb (countAt d v) 0 z, g .is, diversion-is v added source (r .place .0) d d′ h, m);
-          count-is = omega (arith, h .count-is);
-          alloc-is = rw (eq-eqb (countAt d v) 0 z) (h .alloc-is);
-          scratch-is = h .scratch-is;
-          others = h .others;
+          noted = let q : countAt d v + added ≡ added = omega arith in rw (eq-eqb (countAt d v) 0 z, q) h;
           place = g .place;
           fits = λ a b n i. rw e (g .fits a b n i);
         }
@@ -103,7 +97,7 @@ module _ (t f cache : List ℕ) (b v : ℕ) (d d′ : List ℕ) where
     undiverts-more k w nz =
         record {
           is = rw (less, ne-eqb left 0 nz, diversion-is v left (allocAt d v) (scratchAt d v) d d′ h);
-          others = h .others;
+          noted = rw less h;
           fits = λ a b n g. fewer (omega arith) (omega arith) (omega arith) g;
         }
 
@@ -115,6 +109,6 @@ module _ (t f cache : List ℕ) (b v : ℕ) (d d′ : List ℕ) where
               rw (less, eq-eqb left 0 z, diversion-is v left (allocAt d v) (scratchAt d v) d d′ h, z)
               (beside (doMove (T t) (F f) b (placeAt (scratchAt d v)) (placeAt (allocAt d v)) v (stateOf t f cache k w)) (releasePlace (T t) (F f) (spillslotSize (T t) b) (placeAt (scratchAt d v))) (stateOf t f cache k′ w′) _
               (rw (h .scratch-is, h .alloc-is) at (g .is)));
-          others = h .others;
+          noted = rw less h;
           fits = g .fits;
         }

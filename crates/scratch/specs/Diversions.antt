@@ -79,10 +79,7 @@ module _ (t f cache : List ℕ) where
     pub is :
         divertBy (T t) (F f) b barred added (placeAt source) (diversionAt d v) (stateOf t f cache k w)
         ≡ some (record { place = placeAt (r .place .0); allocator = stateOf t f cache (r .allocator) w′; diversion = diversionAt d′ v })
-    pub count-is : countAt d′ v ≡ countAt d v + added
-    pub alloc-is : allocAt d′ v ≡ pick (eqb (countAt d v) 0) source (allocAt d v)
-    pub scratch-is : scratchAt d′ v ≡ r .place .0
-    pub others : OthersStay v d d′
+    pub noted : Noted v (countAt d v + added) (pick (eqb (countAt d v) 0) source (allocAt d v)) (r .place .0) d d′
     pub place : PlaceFits t (r .place .0)
     pub fits : (a b n : ℕ) → FitsIn t f cache a (b + 1) (n + 2) k w → FitsIn t f cache a b n (r .allocator) w′
 
@@ -97,5 +94,5 @@ module _ (t f cache : List ℕ) where
     pub is :
         undivertBy (T t) (F f) b v (diversionAt d v) (stateOf t f cache k w)
         ≡ some (record { allocator = stateOf t f cache k′ w′; diversion = diversionAt d′ v })
-    pub others : OthersStay v d d′
+    pub noted : Noted v (pred (countAt d v)) (allocAt d v) (scratchAt d v) d d′
     pub fits : (a b n : ℕ) → FitsIn t f cache a (b + 1) (n + 4) k w → FitsIn t f cache a (b + 1) n k′ w′

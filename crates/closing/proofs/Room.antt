@@ -1,0 +1,63 @@
+-- The edits made and owed, and the room that they leave.
+use Prim.Native.Nat.{ℕ, zero, suc, _+_, _*_, _<_, _≤_}
+use mathlib.Core.Path.{_≡_, refl, ap, _∙_}
+use mathlib.Core.Bool.{Bool, true, false, false≢true}
+use mathlib.Core.List.{List, [], _∷_, map}
+use native.Mathlib.Omega.{arith}
+use lib.ListN.{length, length-map}
+use Rattle.entity.specs.Logic.{no}
+use Rattle.rules.specs.Edit.{Edit, updated}
+use Rattle.rules.specs.Order.{State, New, Pending, Done, ParallelMoves}
+use Rattle.rules.proofs.Steps.{updated-same, updated-other}
+use Rattle.rules.proofs.Sum.{bit, bit-yes, sum, sum-change}
+use Rattle.machine.proofs.Bound as bound
+use Rattle.edit.specs.Buffer.{newestFirst, countOf, wordsOf, orEdit, editsOf}
+use Rattle.edit.specs.Word.{editOf}
+use Rattle.scratch.specs.declared.Evicted.{Evicted}
+use Rattle.scratch.specs.declared.Evicted.the-variants.{Nothing, Held}
+use Rattle.scratch.specs.declared.ScratchAllocator.{ScratchAllocator}
+use Rattle.scratch.specs.State.{T, F, evictedOf, owed, Fits}
+use Rattle.scratch.specs.Contracts.{Tables, stateOf, FitsIn}
+use Rattle.visits.specs.Marks.{movesOf, isDone}
+use Rattle.closing.specs.State.{Work, Stands, unclosed}
+use Rattle.closing.specs.Steps.{PaidFor}
+
+length-newest : (t : List ℕ) (n : ℕ) → length (newestFirst t n) ≡ n
+unfolding newestFirst
+length-newest t zero = refl
+length-newest t (suc n) = ap suc (length-newest t n)
+
+pub length-edits : (edits : List ℕ) → length (editsOf edits) ≡ countOf edits
+unfolding editsOf
+length-edits edits = length-map (wordsOf edits) (λ w. orEdit (editOf w)) ∙ length-newest edits (countOf edits)
+
+length-evicted : (v : Evicted) → length (evictedOf v) ≡ owed v
+length-evicted Nothing = refl
+length-evicted (Held r s z) = refl
+
+module _ (t f cache : List ℕ) where
+  pub owed-is : (k : ScratchAllocator) (w : Tables) → bound.owed (stateOf t f cache k w) ≡ countOf (w .edits) + owed (k .evicted)
+  owed-is k w = omega (arith, length-edits (w .edits), length-evicted (k .evicted))
+
+  -- the same tables, with room for n edits
+  pub refit : {a b m : ℕ} (n : ℕ) (k : ScratchAllocator) (w : Tables) → FitsIn t f cache a b m k w → countOf (w .edits) + owed (k .evicted) + n ≤ 1024 → FitsIn t f cache a b n k w
+  refit n k w h few = record { few = few; most = h .most; put = h .put; own = h .own; made = h .made; stacked = h .stacked; held = h .held }
+
+  -- what is paid for leaves room
+  pub roomy : (e : List ℕ) (rows a n : ℕ) (p : ParallelMoves) (k : ScratchAllocator) (w : Work) → Stands t f cache e rows p k w → PaidFor t f cache e a p → a + n ≤ 1024 → FitsIn t f cache 0 2 n k (w .tables)
+  roomy e rows a n p k w s paid h = refit n k (w .tables) (s .fits) (omega (arith, paid .paid, ap bound.owed (s .allocator), owed-is k (w .tables)))
+
+open-bit : (s : State) → isDone s ≡ false → bit (no (isDone s)) ≡ 1
+unfolding bit
+open-bit s e = rw e
+
+-- to close a move leaves one less
+pub unclosed-done : (n i : ℕ) (s : ℕ → State) → i < n → isDone (s i) ≡ false → unclosed n s ≡ suc (unclosed n (updated i Done s))
+unfolding unclosed bit
+unclosed-done n i s il e =
+    omega (
+      arith,
+      sum-change (λ m. bit (no (isDone (updated i Done s m)))) (λ m. bit (no (isDone (s m)))) n i il (λ k d. ap (λ (z : State). bit (no (isDone z))) (updated-other i Done s k d)),
+      ap (λ (z : State). bit (no (isDone z))) (updated-same i Done s),
+      open-bit (s i) e,
+    )
