@@ -1,0 +1,144 @@
+-- Rebuilds with scratch, one after the other.
+use Prim.Native.Nat.{ℕ, zero, suc, _+_, _*_, _<_, _≤_}
+use mathlib.Core.Path.{_≡_, refl, sym, ap, subst, _∙_}
+use mathlib.Core.Bool.{Bool, false}
+use mathlib.Core.List.{List, _∷_}
+use mathlib.Core.Option.{Option, some}
+use native.Mathlib.Omega.{arith}
+use lib.ListN.{length, getD, drop, drop-of-length-le, length-map}
+use Rattle.entity.specs.Place.{placeAt}
+use Rattle.entity.proofs.Laws.{drop-step}
+use Rattle.reginfo.specs.RegInfo.{bankForClass, spillslotSize}
+use Rattle.function.specs.Function.{rematClass}
+use Rattle.function.specs.Known.{Checked}
+use Rattle.function.specs.Table.{functionOf}
+use Rattle.rules.specs.Edit.{andThen, each, Rematerialize}
+use Rattle.rules.specs.Scratch as rules
+use Rattle.rules.specs.Order.{Remat, rematWithScratch}
+use Rattle.rules.specs.Sorted.{RematOk}
+use Rattle.rules.proofs.Steps.{All}
+use Rattle.machine.proofs.Bound as bound
+use Rattle.edit.specs.Buffer.{newestFirst, countOf, wordsOf, orEdit, editsOf}
+use Rattle.edit.specs.Word.{editOf}
+use Rattle.search.specs.Search.{barredBy}
+use Rattle.scratch.specs.declared.Evicted.{Evicted}
+use Rattle.scratch.specs.declared.Evicted.the-variants.{Nothing, Held}
+use Rattle.scratch.specs.declared.ScratchAllocator.{ScratchAllocator}
+use Rattle.scratch.specs.declared.Scratch.{Scratch}
+use Rattle.scratch.specs.State.{T, F, evictedOf, allocatorOf, Fits, owed}
+use Rattle.scratch.specs.Contracts.{Tables, tables, stateOf, FitsIn, Brought, Found, Moved, Released}
+use Rattle.scratch.proofs.Bounds.{fewer, pushed}
+use Rattle.entries.specs.Table.{rebuiltAs}
+use Rattle.visits.specs.Marks.{noRebuild}
+use Rattle.rebuilds.specs.Rebuilds.{throughScratch, Through, Rebuilt}
+use Rattle.rebuilds.proofs.Known.{same-ok, same-class, all-placed}
+
+-- the edits counted are those there are
+newest-length : (t : List ℕ) (n : ℕ) → length (newestFirst t n) ≡ n
+unfolding newestFirst
+newest-length t zero = refl
+newest-length t (suc n) = ap suc (newest-length t n)
+
+pub edits-counted : (t : List ℕ) → length (editsOf t) ≡ countOf t
+unfolding editsOf
+edits-counted t = length-map (wordsOf t) (λ w. orEdit (editOf w)) ∙ newest-length t (countOf t)
+
+one-owed : (v : Evicted) → length (evictedOf v) ≡ owed v
+one-owed Nothing = refl
+one-owed (Held r s z) = refl
+
+-- what is made and owed is counted alike
+pub owed-is : (t f cache : List ℕ) (k : ScratchAllocator) (w : Tables) → bound.owed (stateOf t f cache k w) ≡ countOf (w .edits) + owed (k .evicted)
+owed-is t f cache k w = omega (arith, edits-counted (w .edits), one-owed (k .evicted))
+
+-- room that a sharper count leaves
+pub roomy : {a b n : ℕ} {t : List ℕ} {k : ScratchAllocator} {edits slots cache : List ℕ} (m : ℕ) → countOf edits + owed (k .evicted) + m ≤ 1024 → Fits a b n t k edits slots cache → Fits a b m t k edits slots cache
+roomy m l h = record { few = l; most = h .most; put = h .put; own = h .own; made = h .made; stacked = h .stacked; held = h .held }
+
+module _ (t f cache : List ℕ) where
+  -- the room after the move and the rebuild
+  rebuilt-fits : (a b n : ℕ) (k k₁ : ScratchAllocator) (w w₁ : Tables) (by : rules.ScratchAllocator → Option rules.ScratchAllocator) (e : List ℕ) → Moved t f cache k w k₁ w₁ by → countOf e ≡ countOf (w₁ .edits) + 1 → FitsIn t f cache a (b + 1) (n + 5) k w
+      → Fits (a + 2) (b + 3) n t k₁ e (w₁ .slots) cache
+  rebuilt-fits a b n k k₁ w w₁ by e moved q h =
+      let g : FitsIn t f cache a (b + 1) (n + 1 + 4) k w = fewer (omega arith) (omega arith) (omega arith) h in
+      pushed (omega arith) (omega arith) (omega arith) q (moved .fits a b (n + 1) g)
+
+  -- the scratch moved to the destination, rebuilt and put back
+  pub through : (b v to p : ℕ) (k k₁ k₂ k₃ : ScratchAllocator) (w w₁ : Tables) (e s : List ℕ) (l : List Bool)
+      → Moved t f cache k w k₁ w₁ (rules.moveEdits (T t) (F f) b (placeAt to) (placeAt p) v)
+      → (editsOf e ≡ Rematerialize (placeAt p) v ∷ editsOf (w₁ .edits)) × (countOf e ≡ countOf (w₁ .edits) + 1)
+      → Released t f cache k₁ (tables e (w₁ .available) (w₁ .slots)) k₂ (tables e (w₁ .available) s) (rules.releasePlace (T t) (F f) (spillslotSize (T t) b) (placeAt p))
+      → k₃ ≡ k₂ → allocatorOf k₃ e l s cache ≡ rules.makeAvailable (T t) (F f) (placeAt to) (allocatorOf k₂ e (w₁ .available) s cache)
+      → Through t f cache k w k₃ (tables e l s) (throughScratch (T t) (F f) b (placeAt to) (placeAt p) v)
+  unfolding throughScratch andThen
+  through b v to p k k₁ k₂ k₃ w w₁ e s l moved made released kept marked =
+      let put : stateOf t f cache k₁ (tables e (w₁ .available) (w₁ .slots)) ≡ rules.push (Rematerialize (placeAt p) v) (stateOf t f cache k₁ w₁) = rw (made .0) in
+      record {
+        is = rw (moved .is) (ap some (sym (marked ∙ ap (rules.makeAvailable (T t) (F f) (placeAt to)) (released .is ∙ ap (rules.releasePlace (T t) (F f) (spillslotSize (T t) b) (placeAt p)) put))));
+        fits = λ a b n h.
+            let g : FitsIn t f cache (a + 1 + 1) (b + 3) n k₁ (tables e (w₁ .available) (w₁ .slots)) = fewer (omega arith) (omega arith) (omega arith) (rebuilt-fits a b n k k₁ w w₁ _ e moved (made .1) h) in
+            rw kept (released .fits (a + 1) (b + 3) n g);
+      }
+
+  module _ (known : Checked t f) (r : Remat) (ok : RematOk (T t) (functionOf f) false r) where
+    -- five edits at most, made or owed
+    five-more : (k k′ : ScratchAllocator) (w w′ : Tables) → rematWithScratch (T t) (F f) r (stateOf t f cache k w) ≡ some (stateOf t f cache k′ w′) → countOf (w′ .edits) + owed (k′ .evicted) ≤ countOf (w .edits) + owed (k .evicted) + 5
+    five-more k k′ w w′ e =
+        let few : All (λ x. bound.owed x ≤ bound.owed (stateOf t f cache k w) + 5) (some (stateOf t f cache k′ w′)) =
+        subst (All (λ x. bound.owed x ≤ bound.owed (stateOf t f cache k w) + 5)) e (bound.scratch-owed (T t) (F f) (known .target) (all-placed t f known) r (same-ok t f false r ok) (stateOf t f cache k w)) in
+        omega (arith, few, owed-is t f cache k w, owed-is t f cache k′ w′)
+
+  -- a rebuild with scratch
+  pub rebuilt-one : Checked t f → (to v b c : ℕ) → RematOk (T t) (functionOf f) false (rebuiltAs to v) → (sources : List Bool) (k k₁ k₂ : ScratchAllocator) (w w₁ : Tables) (x : Scratch) (w₂ w₃ : Tables) → FitsIn t f cache 0 2 13 k w
+      → c ≡ rematClass (functionOf f) v → b ≡ bankForClass (T t) c
+      → Brought t f cache k w k₁ w₁ (rules.unevictForReg (T t) (F f) (placeAt to)) → Found t f cache k₁ w₁ x w₂ (rules.getScratchReg (T t) (F f) b c (barredBy false sources))
+      → Through t f cache (x .allocator) w₂ k₂ w₃ (throughScratch (T t) (F f) b (placeAt to) (placeAt (x .place .0)) v)
+      → Rebuilt t f cache 1 k w k₂ w₃ (rematWithScratch (T t) (F f) (rebuiltAs to v))
+  unfolding rematWithScratch throughScratch andThen
+  rebuilt-one known to v b c ok sources k k₁ k₂ w w₁ x w₂ w₃ h ec eb brought found on =
+      let i = rw (eb, ec) at (found .is) in
+      let j = rw (eb, ec) at (on .is) in
+      let is : rematWithScratch (T t) (F f) (rebuiltAs to v) (stateOf t f cache k w) ≡ some (stateOf t f cache k₂ w₃) = rw (same-class f v, ← brought .is, i) j in
+      let few = five-more known (rebuiltAs to v) ok k k₂ w w₃ is in
+      record {
+        is = is;
+        fits = fewer (omega arith) (omega arith) (omega arith) (roomy 8 (omega (arith, h .few)) (on .fits 0 0 6 (found .fits 0 1 11 (brought .fits 0 2 13 h))));
+        few = omega arith;
+      }
+
+  -- the first i of the rebuilds made, and the others left to do
+  pub record Rebuilding (l : List Remat) (k : ScratchAllocator) (w : Tables) (k′ : ScratchAllocator) (w′ : Tables) (i : ℕ) : Type 0 where
+    pub rest : each (rematWithScratch (T t) (F f)) l (stateOf t f cache k w) ≡ each (rematWithScratch (T t) (F f)) (drop i l) (stateOf t f cache k′ w′)
+    pub fits : FitsIn t f cache 0 2 8 k′ w′
+    pub few : countOf (w′ .edits) + owed (k′ .evicted) ≤ countOf (w .edits) + owed (k .evicted) + 5 * i
+    pub within : i ≤ length l
+
+  module _ (l : List Remat) (k : ScratchAllocator) (w : Tables) (first : FitsIn t f cache 0 2 (5 * length l + 8) k w) where
+    pub rebuilding-none : Rebuilding l k w k w 0
+    rebuilding-none = record { rest = refl; fits = fewer (omega arith) (omega arith) (omega arith) first; few = omega arith; within = omega arith }
+
+    module _ (i : ℕ) (k′ : ScratchAllocator) (w′ : Tables) (h : Rebuilding l k w k′ w′ i) where
+      -- room for one more
+      pub rebuilding-fits : i < length l → FitsIn t f cache 0 2 13 k′ w′
+      rebuilding-fits n = roomy 13 (omega (arith, first .few, h .few)) (h .fits)
+
+      pub rebuilding-step : (to v : ℕ) (k″ : ScratchAllocator) (w″ : Tables) → i < length l → placeAt to ≡ getD l i noRebuild .dest → v ≡ getD l i noRebuild .value
+          → Rebuilt t f cache 1 k′ w′ k″ w″ (rematWithScratch (T t) (F f) (rebuiltAs to v)) → Rebuilding l k w k″ w″ (i + 1)
+      unfolding each andThen
+      rebuilding-step to v k″ w″ n d u one =
+          let is : rematWithScratch (T t) (F f) (getD l i noRebuild) (stateOf t f cache k′ w′) ≡ some (stateOf t f cache k″ w″) = rw (d, u) at (one .is) in
+          record {
+            rest = h .rest ∙ ap (λ (m : List Remat). each (rematWithScratch (T t) (F f)) m (stateOf t f cache k′ w′)) (drop-step l i noRebuild n) ∙ rw is;
+            fits = one .fits;
+            few = omega (arith, h .few, one .few);
+            within = omega arith;
+          }
+
+      pub rebuilding-end : length l ≤ i → Rebuilt t f cache (length l) k w k′ w′ (each (rematWithScratch (T t) (F f)) l)
+      unfolding each
+      rebuilding-end n =
+          record {
+            is = h .rest ∙ ap (λ (m : List Remat). each (rematWithScratch (T t) (F f)) m (stateOf t f cache k′ w′)) (drop-of-length-le l {i = i} n);
+            fits = h .fits;
+            few = omega (arith, h .few, h .within);
+          }
