@@ -4,15 +4,16 @@ use mathlib.Core.Path.{_≡_, refl, ap, _∙_}
 use mathlib.Core.Bool.{Bool, true, false, false≢true}
 use mathlib.Core.List.{List, [], _∷_, map}
 use native.Mathlib.Omega.{arith}
-use lib.ListN.{length, length-map}
+use lib.ListN.{length}
 use Rattle.entity.specs.Logic.{no}
 use Rattle.rules.specs.Edit.{Edit, updated}
 use Rattle.rules.specs.Order.{State, New, Pending, Done, ParallelMoves}
 use Rattle.rules.proofs.Steps.{updated-same, updated-other}
 use Rattle.rules.proofs.Sum.{bit, bit-yes, sum, sum-change}
 use Rattle.machine.proofs.Bound as bound
-use Rattle.edit.specs.Buffer.{newestFirst, countOf, wordsOf, orEdit, editsOf}
-use Rattle.edit.specs.Word.{editOf}
+use Rattle.edit.specs.Buffer.{countOf}
+use Rattle.edit.proofs.Laws.{length-edits}
+use Rattle.scratch.proofs.Bounds as bounds
 use Rattle.scratch.specs.declared.Evicted.{Evicted}
 use Rattle.scratch.specs.declared.Evicted.the-variants.{Nothing, Held}
 use Rattle.scratch.specs.declared.ScratchAllocator.{ScratchAllocator}
@@ -21,15 +22,6 @@ use Rattle.scratch.specs.Contracts.{Tables, stateOf, FitsIn}
 use Rattle.visits.specs.Marks.{movesOf, isDone}
 use Rattle.closing.specs.State.{Work, Stands, unclosed}
 use Rattle.closing.specs.Steps.{PaidFor}
-
-length-newest : (t : List ℕ) (n : ℕ) → length (newestFirst t n) ≡ n
-unfolding newestFirst
-length-newest t zero = refl
-length-newest t (suc n) = ap suc (length-newest t n)
-
-pub length-edits : (edits : List ℕ) → length (editsOf edits) ≡ countOf edits
-unfolding editsOf
-length-edits edits = length-map (wordsOf edits) (λ w. orEdit (editOf w)) ∙ length-newest edits (countOf edits)
 
 length-evicted : (v : Evicted) → length (evictedOf v) ≡ owed v
 length-evicted Nothing = refl
@@ -41,7 +33,7 @@ module _ (t f cache : List ℕ) where
 
   -- the same tables, with room for n edits
   pub refit : {a b m : ℕ} (n : ℕ) (k : ScratchAllocator) (w : Tables) → FitsIn t f cache a b m k w → countOf (w .edits) + owed (k .evicted) + n ≤ 1024 → FitsIn t f cache a b n k w
-  refit n k w h few = record { few = few; most = h .most; put = h .put; own = h .own; made = h .made; stacked = h .stacked; held = h .held }
+  refit n k w h few = bounds.refit n few h
 
   -- what is paid for leaves room
   pub roomy : (e : List ℕ) (rows a n : ℕ) (p : ParallelMoves) (k : ScratchAllocator) (w : Work) → Stands t f cache e rows p k w → PaidFor t f cache e a p → a + n ≤ 1024 → FitsIn t f cache 0 2 n k (w .tables)

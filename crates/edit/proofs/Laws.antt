@@ -5,14 +5,14 @@ use mathlib.Core.List.{List, [], _∷_, _++_, map, append-assoc}
 use mathlib.Core.Option.{some}
 use native.Mathlib.Omega.{arith}
 use native.Mathlib.Numerals.{add-one}
-use lib.ListN.{set, getD, length, take, drop, length-set}
+use lib.ListN.{set, getD, length, take, drop, length-set, length-map}
 use lib.Seq.{getD-set-same, getD-set-other, drop-set-lt, take-suc-set}
 use borrow.Author.Tests.{eq-eqb}
 use Rattle.entity.specs.Place.{codeOf, placeAt}
 use Rattle.entity.proofs.Laws.{place-there, code-there}
 use Rattle.rules.specs.Edit.{Edit, Move, Rematerialize, EmergencySpill, EmergencyReload}
 use Rattle.edit.specs.Word.{packed, kindIn, toIn, fromIn, valueIn, wordOf, editOf, Small, InRange}
-use Rattle.edit.specs.Buffer.{newestFirst, countOf, wordsOf, orEdit, editsOf}
+use Rattle.edit.specs.Buffer.{newestFirst, countOf, wordsOf, orEdit, editsOf, Written}
 
 -- ---- words
 record Parts (w k t f v : ℕ) : Type 0 where
@@ -73,9 +73,9 @@ newest-step t n h =
     let m : n - 1 + 1 ≡ n = omega arith in
     ap (newestFirst t) l ∙ rw m
 
-pub cleared : (t : List ℕ) → countOf t ≡ 0 → (wordsOf t ≡ []) × (editsOf t ≡ []) × (countOf t ≡ 0)
+pub cleared : (t : List ℕ) → countOf t ≡ 0 → (wordsOf t ≡ []) × (editsOf t ≡ []) × (countOf t ≡ 0) × Written t
 unfolding newestFirst editsOf
-cleared t e = (rw e, rw e, e)
+cleared t e = (rw e, rw e, e, rw e)
 
 -- a word at the first free cell, and the count one more
 module _ (t : List ℕ) (w : ℕ) (len : length t ≡ 1025) (few : countOf t < 1024) where
@@ -100,6 +100,10 @@ pub as-edit : (t u : List ℕ) (w : ℕ) (e : Edit) → InRange e → w ≡ word
 unfolding editsOf
 as-edit t u w e r h q = ap (map (λ (x : ℕ). orEdit (editOf x))) q ∙ rw (h, there e r)
 
+-- so it is of every word
+pub written : (t u : List ℕ) (w : ℕ) (e : Edit) → InRange e → w ≡ wordOf e → wordsOf u ≡ w ∷ wordsOf t → Written t → Written u
+written t u w e r h q o = let x : editsOf u ≡ e ∷ editsOf t = as-edit t u w e r h q in rw (x, q, h, o)
+
 -- a place's code in range is that place in range
 pub move-range : (to from v : ℕ) → Small to from v → InRange (Move (placeAt to) (placeAt from) v)
 move-range to from v s = rw (code-there to, code-there from) s
@@ -111,3 +115,12 @@ remat-range to v s = rw (code-there to) s
 pub handed : (t l : List ℕ) (n at left : ℕ) → 0 < left → at < n → at < length l → take at l ++ (newestFirst t left ++ drop n l) ≡ take (at + 1) (set l at (getD t left 0)) ++ (newestFirst t (left - 1) ++ drop n (set l at (getD t left 0)))
 handed t l n at left h a b =
     rw (newest-step t left h, add-one at, take-suc-set l at (getD t left 0) b, drop-set-lt n l at (getD t left 0) a, append-assoc)
+
+length-newest : (t : List ℕ) (n : ℕ) → length (newestFirst t n) ≡ n
+unfolding newestFirst
+length-newest t zero = refl
+length-newest t (suc n) = ap suc (length-newest t n)
+
+pub length-edits : (t : List ℕ) → length (editsOf t) ≡ countOf t
+unfolding editsOf
+length-edits t = length-map (wordsOf t) (λ w. orEdit (editOf w)) ∙ length-newest t (countOf t)

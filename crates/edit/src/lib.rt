@@ -13,7 +13,7 @@ ghost use Rattle.entity.specs.Place.{placeAt};
 ghost use Rattle.rules.specs.Edit as rule;
 ghost use Rattle.edit.specs.Word.{packed, wordOf, editOf, isReg, isSlot, Small};
 ghost use Rattle.edit.specs.Read.{readOf};
-ghost use Rattle.edit.specs.Buffer.{countOf, wordsOf, editsOf};
+ghost use Rattle.edit.specs.Buffer.{countOf, wordsOf, editsOf, Written};
 
 // Cell 0 counts the edits; they stand from cell 1 on, in the order made.
 pub type Edits = [u64; 1025];
@@ -140,7 +140,7 @@ fn told(e: [u64; 1025]) -> bool
 
 // Forgets every edit.
 pub fn clear(e: &mut Edits)
-    ensures { λ _. ⌜ (wordsOf (now (e .exit)) ≡ []) × (editsOf (now (e .exit)) ≡ []) × (countOf (now (e .exit)) ≡ 0) ⌝ }
+    ensures { λ _. ⌜ (wordsOf (now (e .exit)) ≡ []) × (editsOf (now (e .exit)) ≡ []) × (countOf (now (e .exit)) ≡ 0) × Written (now (e .exit)) ⌝ }
 {
     told(*e);
     e[0] = 0;
@@ -165,28 +165,28 @@ pub fn push(e: &mut Edits, word: u64)
 
 pub fn push_move(e: &mut Edits, to: Allocation, from: Allocation, v: Value)
     requires { ⌜ (countOf (now e) < 1024) × Small (to .0) (from .0) (v .0) ⌝ }
-    ensures { λ _. ⌜ (editsOf (now (e .exit)) ≡ rule.Move (placeAt (to .0)) (placeAt (from .0)) (v .0) ∷ editsOf (now (e .entry))) × (countOf (now (e .exit)) ≡ countOf (now (e .entry)) + 1) ⌝ }
+    ensures { λ _. ⌜ (editsOf (now (e .exit)) ≡ rule.Move (placeAt (to .0)) (placeAt (from .0)) (v .0) ∷ editsOf (now (e .entry))) × (countOf (now (e .exit)) ≡ countOf (now (e .entry)) + 1) × (Written (now (e .entry)) → Written (now (e .exit))) ⌝ }
 {
     push(e, move_word(to, from, v));
 }
 
 pub fn push_remat(e: &mut Edits, to: Allocation, v: Value)
     requires { ⌜ (countOf (now e) < 1024) × Small (to .0) 0 (v .0) ⌝ }
-    ensures { λ _. ⌜ (editsOf (now (e .exit)) ≡ rule.Rematerialize (placeAt (to .0)) (v .0) ∷ editsOf (now (e .entry))) × (countOf (now (e .exit)) ≡ countOf (now (e .entry)) + 1) ⌝ }
+    ensures { λ _. ⌜ (editsOf (now (e .exit)) ≡ rule.Rematerialize (placeAt (to .0)) (v .0) ∷ editsOf (now (e .entry))) × (countOf (now (e .exit)) ≡ countOf (now (e .entry)) + 1) × (Written (now (e .entry)) → Written (now (e .exit))) ⌝ }
 {
     push(e, remat_word(to, v));
 }
 
 pub fn push_spill(e: &mut Edits, s: SpillSlot, r: PhysReg)
     requires { ⌜ (countOf (now e) < 1024) × (s .0 < 8192) × (r .0 < 8192) ⌝ }
-    ensures { λ _. ⌜ (editsOf (now (e .exit)) ≡ rule.EmergencySpill (s .0) (r .0) ∷ editsOf (now (e .entry))) × (countOf (now (e .exit)) ≡ countOf (now (e .entry)) + 1) ⌝ }
+    ensures { λ _. ⌜ (editsOf (now (e .exit)) ≡ rule.EmergencySpill (s .0) (r .0) ∷ editsOf (now (e .entry))) × (countOf (now (e .exit)) ≡ countOf (now (e .entry)) + 1) × (Written (now (e .entry)) → Written (now (e .exit))) ⌝ }
 {
     push(e, spill_word(s, r));
 }
 
 pub fn push_reload(e: &mut Edits, r: PhysReg, s: SpillSlot)
     requires { ⌜ (countOf (now e) < 1024) × (r .0 < 8192) × (s .0 < 8192) ⌝ }
-    ensures { λ _. ⌜ (editsOf (now (e .exit)) ≡ rule.EmergencyReload (r .0) (s .0) ∷ editsOf (now (e .entry))) × (countOf (now (e .exit)) ≡ countOf (now (e .entry)) + 1) ⌝ }
+    ensures { λ _. ⌜ (editsOf (now (e .exit)) ≡ rule.EmergencyReload (r .0) (s .0) ∷ editsOf (now (e .entry))) × (countOf (now (e .exit)) ≡ countOf (now (e .entry)) + 1) × (Written (now (e .entry)) → Written (now (e .exit))) ⌝ }
 {
     push(e, reload_word(r, s));
 }

@@ -18,7 +18,7 @@ use Rattle.rules.specs.Order.{Remat, rematWithScratch}
 use Rattle.rules.specs.Sorted.{RematOk}
 use Rattle.rules.proofs.Steps.{All}
 use Rattle.machine.proofs.Bound as bound
-use Rattle.edit.specs.Buffer.{newestFirst, countOf, wordsOf, orEdit, editsOf}
+use Rattle.edit.specs.Buffer.{newestFirst, countOf, wordsOf, orEdit, editsOf, Written}
 use Rattle.edit.specs.Word.{editOf}
 use Rattle.search.specs.Search.{barredBy}
 use Rattle.scratch.specs.declared.Evicted.{Evicted}
@@ -27,21 +27,12 @@ use Rattle.scratch.specs.declared.ScratchAllocator.{ScratchAllocator}
 use Rattle.scratch.specs.declared.Scratch.{Scratch}
 use Rattle.scratch.specs.State.{T, F, evictedOf, allocatorOf, Fits, owed}
 use Rattle.scratch.specs.Contracts.{Tables, tables, stateOf, FitsIn, Brought, Found, Moved, Released}
-use Rattle.scratch.proofs.Bounds.{fewer, pushed}
+use Rattle.edit.proofs.Laws.{length-edits}
+use Rattle.scratch.proofs.Bounds.{fewer, refit, pushed}
 use Rattle.entries.specs.Table.{rebuiltAs}
 use Rattle.visits.specs.Marks.{noRebuild}
 use Rattle.rebuilds.specs.Rebuilds.{throughScratch, Through, Rebuilt}
 use Rattle.rebuilds.proofs.Known.{same-ok, same-class, all-placed}
-
--- the edits counted are those there are
-newest-length : (t : List ℕ) (n : ℕ) → length (newestFirst t n) ≡ n
-unfolding newestFirst
-newest-length t zero = refl
-newest-length t (suc n) = ap suc (newest-length t n)
-
-pub edits-counted : (t : List ℕ) → length (editsOf t) ≡ countOf t
-unfolding editsOf
-edits-counted t = length-map (wordsOf t) (λ w. orEdit (editOf w)) ∙ newest-length t (countOf t)
 
 one-owed : (v : Evicted) → length (evictedOf v) ≡ owed v
 one-owed Nothing = refl
@@ -49,24 +40,20 @@ one-owed (Held r s z) = refl
 
 -- what is made and owed is counted alike
 pub owed-is : (t f cache : List ℕ) (k : ScratchAllocator) (w : Tables) → bound.owed (stateOf t f cache k w) ≡ countOf (w .edits) + owed (k .evicted)
-owed-is t f cache k w = omega (arith, edits-counted (w .edits), one-owed (k .evicted))
-
--- room that a sharper count leaves
-pub roomy : {a b n : ℕ} {t : List ℕ} {k : ScratchAllocator} {edits slots cache : List ℕ} (m : ℕ) → countOf edits + owed (k .evicted) + m ≤ 1024 → Fits a b n t k edits slots cache → Fits a b m t k edits slots cache
-roomy m l h = record { few = l; most = h .most; put = h .put; own = h .own; made = h .made; stacked = h .stacked; held = h .held }
+owed-is t f cache k w = omega (arith, length-edits (w .edits), one-owed (k .evicted))
 
 module _ (t f cache : List ℕ) where
   -- the room after the move and the rebuild
-  rebuilt-fits : (a b n : ℕ) (k k₁ : ScratchAllocator) (w w₁ : Tables) (by : rules.ScratchAllocator → Option rules.ScratchAllocator) (e : List ℕ) → Moved t f cache k w k₁ w₁ by → countOf e ≡ countOf (w₁ .edits) + 1 → FitsIn t f cache a (b + 1) (n + 5) k w
+  rebuilt-fits : (a b n : ℕ) (k k₁ : ScratchAllocator) (w w₁ : Tables) (by : rules.ScratchAllocator → Option rules.ScratchAllocator) (e : List ℕ) → Moved t f cache k w k₁ w₁ by → countOf e ≡ countOf (w₁ .edits) + 1 → (Written (w₁ .edits) → Written e) → FitsIn t f cache a (b + 1) (n + 5) k w
       → Fits (a + 2) (b + 3) n t k₁ e (w₁ .slots) cache
-  rebuilt-fits a b n k k₁ w w₁ by e moved q h =
+  rebuilt-fits a b n k k₁ w w₁ by e moved q o h =
       let g : FitsIn t f cache a (b + 1) (n + 1 + 4) k w = fewer (omega arith) (omega arith) (omega arith) h in
-      pushed (omega arith) (omega arith) (omega arith) q (moved .fits a b (n + 1) g)
+      pushed (omega arith) (omega arith) (omega arith) q o (moved .fits a b (n + 1) g)
 
   -- the scratch moved to the destination, rebuilt and put back
   pub through : (b v to p : ℕ) (k k₁ k₂ k₃ : ScratchAllocator) (w w₁ : Tables) (e s : List ℕ) (l : List Bool)
       → Moved t f cache k w k₁ w₁ (rules.moveEdits (T t) (F f) b (placeAt to) (placeAt p) v)
-      → (editsOf e ≡ Rematerialize (placeAt p) v ∷ editsOf (w₁ .edits)) × (countOf e ≡ countOf (w₁ .edits) + 1)
+      → (editsOf e ≡ Rematerialize (placeAt p) v ∷ editsOf (w₁ .edits)) × (countOf e ≡ countOf (w₁ .edits) + 1) × (Written (w₁ .edits) → Written e)
       → Released t f cache k₁ (tables e (w₁ .available) (w₁ .slots)) k₂ (tables e (w₁ .available) s) (rules.releasePlace (T t) (F f) (spillslotSize (T t) b) (placeAt p))
       → k₃ ≡ k₂ → allocatorOf k₃ e l s cache ≡ rules.makeAvailable (T t) (F f) (placeAt to) (allocatorOf k₂ e (w₁ .available) s cache)
       → Through t f cache k w k₃ (tables e l s) (throughScratch (T t) (F f) b (placeAt to) (placeAt p) v)
@@ -76,7 +63,7 @@ module _ (t f cache : List ℕ) where
       record {
         is = rw (moved .is) (ap some (sym (marked ∙ ap (rules.makeAvailable (T t) (F f) (placeAt to)) (released .is ∙ ap (rules.releasePlace (T t) (F f) (spillslotSize (T t) b) (placeAt p)) put))));
         fits = λ a b n h.
-            let g : FitsIn t f cache (a + 1 + 1) (b + 3) n k₁ (tables e (w₁ .available) (w₁ .slots)) = fewer (omega arith) (omega arith) (omega arith) (rebuilt-fits a b n k k₁ w w₁ _ e moved (made .1) h) in
+            let g : FitsIn t f cache (a + 1 + 1) (b + 3) n k₁ (tables e (w₁ .available) (w₁ .slots)) = fewer (omega arith) (omega arith) (omega arith) (rebuilt-fits a b n k k₁ w w₁ _ e moved (made .1) (made .2) h) in
             rw kept (released .fits (a + 1) (b + 3) n g);
       }
 
@@ -102,7 +89,7 @@ module _ (t f cache : List ℕ) where
       let few = five-more known (rebuiltAs to v) ok k k₂ w w₃ is in
       record {
         is = is;
-        fits = fewer (omega arith) (omega arith) (omega arith) (roomy 8 (omega (arith, h .few)) (on .fits 0 0 6 (found .fits 0 1 11 (brought .fits 0 2 13 h))));
+        fits = fewer (omega arith) (omega arith) (omega arith) (refit 8 (omega (arith, h .few)) (on .fits 0 0 6 (found .fits 0 1 11 (brought .fits 0 2 13 h))));
         few = omega arith;
       }
 
@@ -120,7 +107,7 @@ module _ (t f cache : List ℕ) where
     module _ (i : ℕ) (k′ : ScratchAllocator) (w′ : Tables) (h : Rebuilding l k w k′ w′ i) where
       -- room for one more
       pub rebuilding-fits : i < length l → FitsIn t f cache 0 2 13 k′ w′
-      rebuilding-fits n = roomy 13 (omega (arith, first .few, h .few)) (h .fits)
+      rebuilding-fits n = refit 13 (omega (arith, first .few, h .few)) (h .fits)
 
       pub rebuilding-step : (to v : ℕ) (k″ : ScratchAllocator) (w″ : Tables) → i < length l → placeAt to ≡ getD l i noRebuild .dest → v ≡ getD l i noRebuild .value
           → Rebuilt t f cache 1 k′ w′ k″ w″ (rematWithScratch (T t) (F f) (rebuiltAs to v)) → Rebuilding l k w k″ w″ (i + 1)

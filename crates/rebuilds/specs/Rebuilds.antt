@@ -15,7 +15,7 @@ use Rattle.rules.specs.Edit.{andThen, Rematerialize}
 use Rattle.rules.specs.Scratch as rules
 use Rattle.rules.specs.Order.{Remat, remats}
 use Rattle.rules.specs.Sorted.{RematOk}
-use Rattle.edit.specs.Buffer.{countOf}
+use Rattle.edit.specs.Buffer.{countOf, Written}
 use Rattle.scratch.specs.declared.ScratchAllocator.{ScratchAllocator}
 use Rattle.scratch.specs.State.{T, F, allocatorOf, owed}
 use Rattle.scratch.specs.Contracts.{Tables, stateOf, FitsIn}
@@ -42,6 +42,7 @@ pub record RematsOk (t f : List ℕ) (l : List Remat) : Type 0 where
 pub record Rematted (t : List ℕ) (l : List Remat) (k : ScratchAllocator) (edits : List ℕ) (available : List Bool) (k′ : ScratchAllocator) (edits′ : List ℕ) (available′ : List Bool) : Type 0 where
   pub kept : k′ ≡ k
   pub count : countOf edits′ ≡ countOf edits + length l
+  pub written : Written edits → Written edits′
   pub is : (f cache slots : List ℕ) → allocatorOf k′ edits′ available′ slots cache ≡ remats (T t) (F f) l (allocatorOf k edits available slots cache)
 
 module _ (t : RegInfo) (f : Function) where

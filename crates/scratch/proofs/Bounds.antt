@@ -12,7 +12,7 @@ use Rattle.entity.specs.declared.PhysReg.{PhysReg}
 use Rattle.entity.specs.declared.SpillSlot.{SpillSlot}
 use Rattle.entity.proofs.Laws.{has-getD}
 use Rattle.rules.specs.Edit.{updated}
-use Rattle.edit.specs.Buffer.{countOf}
+use Rattle.edit.specs.Buffer.{countOf, Written}
 use Rattle.slots.specs.declared.Popped.{Popped}
 use Rattle.slots.specs.Stacks.{stacksOf}
 use Rattle.slots.specs.Steps.{topOf, withoutTop, Taken, PutBack}
@@ -62,15 +62,19 @@ module _ {a b n : ℕ} {t : List ℕ} {k : ScratchAllocator} {edits slots cache 
   -- what a smaller step asks
   pub fewer : {a′ b′ n′ : ℕ} → a′ ≤ a → b′ ≤ b → n′ ≤ n → Fits a b n t k edits slots cache → Fits a′ b′ n′ t k edits slots cache
   fewer p q r h =
-      record { few = omega arith; most = h .most; put = h .put; own = omega arith; made = omega arith; stacked = h .stacked; held = h .held }
+      record { few = omega arith; most = h .most; put = h .put; own = omega arith; made = omega arith; stacked = h .stacked; held = h .held; written = h .written }
+
+  -- the room that a sharper count leaves
+  pub refit : (m : ℕ) → countOf edits + owed (k .evicted) + m ≤ 1024 → Fits a b n t k edits slots cache → Fits a b m t k edits slots cache
+  refit m l h = record { few = l; most = h .most; put = h .put; own = h .own; made = h .made; stacked = h .stacked; held = h .held; written = h .written }
 
   pub stocked : Fits a b n t k edits slots cache → Stocked k slots cache
   stocked h = record { put = fits-more (h .most) 1024 slots (omega arith) (h .put); made = omega arith; stacked = h .stacked }
 
   -- an edit made
-  pub pushed : {a′ b′ n′ : ℕ} {edits′ : List ℕ} → a′ ≤ a + 1 → b′ ≤ b + 1 → n′ + 1 ≤ n → countOf edits′ ≡ countOf edits + 1 → Fits a b n t k edits slots cache → Fits a′ b′ n′ t k edits′ slots cache
-  pushed p q r e h =
-      record { few = omega arith; most = h .most; put = h .put; own = omega arith; made = omega arith; stacked = h .stacked; held = h .held }
+  pub pushed : {a′ b′ n′ : ℕ} {edits′ : List ℕ} → a′ ≤ a + 1 → b′ ≤ b + 1 → n′ + 1 ≤ n → countOf edits′ ≡ countOf edits + 1 → (Written edits → Written edits′) → Fits a b n t k edits slots cache → Fits a′ b′ n′ t k edits′ slots cache
+  pushed p q r e o h =
+      record { few = omega arith; most = h .most; put = h .put; own = omega arith; made = omega arith; stacked = h .stacked; held = h .held; written = o (h .written) }
 
   -- a slot put back
   pub put-back : {slots′ : List ℕ} {z s : ℕ} → PutBack slots slots′ z s → s < 8192 → Fits (a + 1) b n t k edits slots cache → Fits a b n t k edits slots′ cache
@@ -83,6 +87,7 @@ module _ {a b n : ℕ} {t : List ℕ} {k : ScratchAllocator} {edits slots cache 
         made = omega arith;
         stacked = rw (p .stacks cache) (stacked-updated (stacksOf slots cache) z (s ∷ stacksOf slots cache z) (low-more s _ l (h .stacked z)) (h .stacked));
         held = h .held;
+        written = h .written;
       }
 
   -- a slot taken from a stack
@@ -96,24 +101,25 @@ module _ {a b n : ℕ} {t : List ℕ} {k : ScratchAllocator} {edits slots cache 
         made = omega arith;
         stacked = rw (p .stacks) (stacked-without (stacksOf slots cache z) z (stacksOf slots cache) (h .stacked z) (h .stacked));
         held = h .held;
+        written = h .written;
       }
 
 -- a slot made
 pub one-made : {a b n m : ℕ} {v : Evicted} {t edits slots cache : List ℕ} → Fits a (b + 1) n t (record { evicted = v; made = m }) edits slots cache → Fits a b n t (record { evicted = v; made = m + 1 }) edits slots cache
 one-made h =
-    record { few = omega arith; most = h .most; put = h .put; own = omega arith; made = omega arith; stacked = h .stacked; held = h .held }
+    record { few = omega arith; most = h .most; put = h .put; own = omega arith; made = omega arith; stacked = h .stacked; held = h .held; written = h .written }
 
 -- the evicted register no longer held, and another one held
 module _ {a b n z : ℕ} {r : PhysReg} {s : SpillSlot} {t : List ℕ} {k : ScratchAllocator} {edits slots cache : List ℕ} where
   pub let-go : k .evicted ≡ Held r s z → Fits a b n t k edits slots cache → Fits a b (n + 1) t (record { evicted = Nothing; made = k .made }) edits slots cache
   let-go e h =
       let q : owed (k .evicted) ≡ 1 = rw e in
-      record { few = omega arith; most = h .most; put = h .put; own = omega arith; made = omega arith; stacked = h .stacked; held = tt }
+      record { few = omega arith; most = h .most; put = h .put; own = omega arith; made = omega arith; stacked = h .stacked; held = tt; written = h .written }
 
   pub hold : k .evicted ≡ Nothing → HeldFits (T t) (Held r s z) → Fits a b (n + 1) t k edits slots cache → Fits a b n t (record { evicted = Held r s z; made = k .made }) edits slots cache
   hold e f h =
       let q : owed (k .evicted) ≡ 0 = rw e in
-      record { few = omega arith; most = h .most; put = h .put; own = omega arith; made = omega arith; stacked = h .stacked; held = f }
+      record { few = omega arith; most = h .most; put = h .put; own = omega arith; made = omega arith; stacked = h .stacked; held = f; written = h .written }
 
   pub held-fits : k .evicted ≡ Held r s z → Fits a b n t k edits slots cache → HeldFits (T t) (Held r s z)
   held-fits e h = rw e at (h .held)

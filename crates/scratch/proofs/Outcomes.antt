@@ -24,7 +24,7 @@ use Rattle.search.specs.declared.Search.{Search}
 use Rattle.search.specs.declared.Search.the-variants as search
 use Rattle.search.specs.declared.Search.the-variants.{At}
 use Rattle.search.specs.Search.{searchOf, barredBy, usableIn, withUnits, withoutUnits}
-use Rattle.edit.specs.Buffer.{countOf, editsOf}
+use Rattle.edit.specs.Buffer.{countOf, editsOf, Written}
 use Rattle.slots.specs.declared.Popped.the-variants as popped
 use Rattle.slots.specs.Stacks.{stacksOf}
 use Rattle.slots.specs.Steps as slots
@@ -71,12 +71,12 @@ module _ (t f cache : List ℕ) where
   pub brought-none : (k : ScratchAllocator) (w : Tables) → k .evicted ≡ Nothing → Brought t f cache k w k w (unevictAll (T t) (F f))
   brought-none k w e = record { is = sym (all-none (T t) (F f) (stateOf t f cache k w) (ap evictedOf e)); fits = λ a b n h. h }
 
-  pub brought-held : (k : ScratchAllocator) (e e′ s s′ : List ℕ) (r : PhysReg) (x : SpillSlot) (z : ℕ) → Fits 0 0 0 t k e s cache → k .evicted ≡ Held r x z → (editsOf e′ ≡ EmergencySpill (x .0) (r .0) ∷ editsOf e) × (countOf e′ ≡ countOf e + 1) → slots.PutBack s s′ z (x .0) → (available : List Bool) → Brought t f cache k (tables e available s) (record { evicted = Nothing; made = k .made }) (tables e′ available s′) (unevictAll (T t) (F f))
+  pub brought-held : (k : ScratchAllocator) (e e′ s s′ : List ℕ) (r : PhysReg) (x : SpillSlot) (z : ℕ) → Fits 0 0 0 t k e s cache → k .evicted ≡ Held r x z → (editsOf e′ ≡ EmergencySpill (x .0) (r .0) ∷ editsOf e) × (countOf e′ ≡ countOf e + 1) × (Written e → Written e′) → slots.PutBack s s′ z (x .0) → (available : List Bool) → Brought t f cache k (tables e available s) (record { evicted = Nothing; made = k .made }) (tables e′ available s′) (unevictAll (T t) (F f))
   unfolding unevict
   brought-held k e e′ s s′ r x z ok v p q available =
       record {
         is = rw (p .0, q .stacks cache, v);
-        fits = λ a b n h. put-back q (held-fits v ok .1) (pushed (omega arith) (omega arith) (omega arith) (p .1) (let-go v h));
+        fits = λ a b n h. put-back q (held-fits v ok .1) (pushed (omega arith) (omega arith) (omega arith) (p .1) (p .2) (let-go v h));
       }
 
   -- nothing is held then
@@ -131,7 +131,7 @@ module _ (t f cache : List ℕ) where
         fits = λ a b n g. fewer (omega arith) (omega arith) (omega arith) (h .fits a b (n + 2) e g);
       }
 
-  pub found-last : (b c z y : ℕ) (k : ScratchAllocator) (e e′ : List ℕ) (available : List Bool) (s s′ : List ℕ) (r : Taken) (q : PhysReg) (p : Allocation) → Evictable t f b c → k .evicted ≡ Nothing → z ≡ spillslotSize (T t) b → Acquired t f cache z k s r s′ → q .0 ≡ lastInOrder (T t) c → (editsOf e′ ≡ EmergencyReload (q .0) (r .slot .0) ∷ editsOf e) × (countOf e′ ≡ countOf e + 1) → y ≡ z → p .0 ≡ codeOf (reg (q .0)) → Found t f cache k (tables e available s) (record { place = p; allocator = record { evicted = Held q (r .slot) y; made = r .allocator .made } }) (tables e′ available s′) (evictLast (T t) (F f) b c)
+  pub found-last : (b c z y : ℕ) (k : ScratchAllocator) (e e′ : List ℕ) (available : List Bool) (s s′ : List ℕ) (r : Taken) (q : PhysReg) (p : Allocation) → Evictable t f b c → k .evicted ≡ Nothing → z ≡ spillslotSize (T t) b → Acquired t f cache z k s r s′ → q .0 ≡ lastInOrder (T t) c → (editsOf e′ ≡ EmergencyReload (q .0) (r .slot .0) ∷ editsOf e) × (countOf e′ ≡ countOf e + 1) × (Written e → Written e′) → y ≡ z → p .0 ≡ codeOf (reg (q .0)) → Found t f cache k (tables e available s) (record { place = p; allocator = record { evicted = Held q (r .slot) y; made = r .allocator .made } }) (tables e′ available s′) (evictLast (T t) (F f) b c)
   unfolding evictLast andThen
   found-last b c z y k e e′ available s s′ r q p ok v u h l m d o =
       let i = rw u at (h .is) in
@@ -140,7 +140,7 @@ module _ (t f cache : List ℕ) where
       record {
         is = rw (i, o, place-there (reg (q .0)), m .0, d, u, v, l);
         place = reg-fits (p .0) (q .0) (ok .checked) o low;
-        fits = λ a b n g. hold (h .kept ∙ v) (low, h .small, omega arith) (pushed (omega arith) (omega arith) (omega arith) (m .1) (h .fits a b (n + 2) e g));
+        fits = λ a b n g. hold (h .kept ∙ v) (low, h .small, omega arith) (pushed (omega arith) (omega arith) (omega arith) (m .1) (m .2) (h .fits a b (n + 2) e g));
       }
 
   pub found-evicted : (b c : ℕ) (k k′ : ScratchAllocator) (w w′ : Tables) (r : Scratch) (w″ : Tables) → Brought t f cache k w k′ w′ (unevictAll (T t) (F f)) → Found t f cache k′ w′ r w″ (evictLast (T t) (F f) b c) → Found t f cache k w r w″ (reuse (T t) (F f) [] b c)
@@ -203,20 +203,20 @@ module _ (t f cache : List ℕ) where
 
   -- a move emitted
   module _ (b : ℕ) (to from : Place) (v : ℕ) where
-    pub moved-through : (k : ScratchAllocator) (w : Tables) (r : Scratch) (w′ : Tables) (e e′ : List ℕ) (sources : List Bool) (c : ℕ) → and (isMemory (T t) to) (isMemory (T t) from) ≡ true → c ≡ stackToStackClass (T t) b → Found t f cache k w r w′ (getScratchReg (T t) (F f) b c (barredBy false sources)) → (editsOf e ≡ Move to (placeAt (r .place .0)) v ∷ editsOf (w′ .edits)) × (countOf e ≡ countOf (w′ .edits) + 1) → (editsOf e′ ≡ Move (placeAt (r .place .0)) from v ∷ editsOf e) × (countOf e′ ≡ countOf e + 1) → Moved t f cache k w (r .allocator) (tables e′ (w′ .available) (w′ .slots)) (moveEdits (T t) (F f) b to from v)
+    pub moved-through : (k : ScratchAllocator) (w : Tables) (r : Scratch) (w′ : Tables) (e e′ : List ℕ) (sources : List Bool) (c : ℕ) → and (isMemory (T t) to) (isMemory (T t) from) ≡ true → c ≡ stackToStackClass (T t) b → Found t f cache k w r w′ (getScratchReg (T t) (F f) b c (barredBy false sources)) → (editsOf e ≡ Move to (placeAt (r .place .0)) v ∷ editsOf (w′ .edits)) × (countOf e ≡ countOf (w′ .edits) + 1) × (Written (w′ .edits) → Written e) → (editsOf e′ ≡ Move (placeAt (r .place .0)) from v ∷ editsOf e) × (countOf e′ ≡ countOf e + 1) × (Written e → Written e′) → Moved t f cache k w (r .allocator) (tables e′ (w′ .available) (w′ .slots)) (moveEdits (T t) (F f) b to from v)
     unfolding moveEdits andThen
     moved-through k w r w′ e e′ sources c m d h p q =
         let i = rw d at (h .is) in
         record {
           is = rw (m, i, q .0, p .0);
           fits = λ a b n g.
-              let one : Fits (a + 1) (b + 1) (n + 1) t (r .allocator) e (w′ .slots) cache = pushed (omega arith) (omega arith) (omega arith) (p .1) (h .fits a b (n + 2) (fewer (omega arith) (omega arith) (omega arith) g)) in
-              pushed (omega arith) (omega arith) (omega arith) (q .1) one;
+              let one : Fits (a + 1) (b + 1) (n + 1) t (r .allocator) e (w′ .slots) cache = pushed (omega arith) (omega arith) (omega arith) (p .1) (p .2) (h .fits a b (n + 2) (fewer (omega arith) (omega arith) (omega arith) g)) in
+              pushed (omega arith) (omega arith) (omega arith) (q .1) (q .2) one;
         }
 
-    pub moved-at-once : (k : ScratchAllocator) (w : Tables) (e : List ℕ) → and (isMemory (T t) to) (isMemory (T t) from) ≡ false → (editsOf e ≡ Move to from v ∷ editsOf (w .edits)) × (countOf e ≡ countOf (w .edits) + 1) → Moved t f cache k w k (tables e (w .available) (w .slots)) (moveEdits (T t) (F f) b to from v)
+    pub moved-at-once : (k : ScratchAllocator) (w : Tables) (e : List ℕ) → and (isMemory (T t) to) (isMemory (T t) from) ≡ false → (editsOf e ≡ Move to from v ∷ editsOf (w .edits)) × (countOf e ≡ countOf (w .edits) + 1) × (Written (w .edits) → Written e) → Moved t f cache k w k (tables e (w .available) (w .slots)) (moveEdits (T t) (F f) b to from v)
     unfolding moveEdits
-    moved-at-once k w e m p = record { is = rw (m, p .0); fits = λ a b n g. pushed (omega arith) (omega arith) (omega arith) (p .1) g }
+    moved-at-once k w e m p = record { is = rw (m, p .0); fits = λ a b n g. pushed (omega arith) (omega arith) (omega arith) (p .1) (p .2) g }
 
     pub moved-marked : (k k₁ k₂ k₃ k₄ k₅ : ScratchAllocator) (w w₁ w₂ w₃ : Tables) (a₁ a₂ : List Bool) → Brought t f cache k w k₁ w₁ (unevictForReg (T t) (F f) from) → Brought t f cache k₁ w₁ k₂ w₂ (unevictForReg (T t) (F f) to) → Moved t f cache k₂ w₂ k₃ w₃ (moveEdits (T t) (F f) b to from v) → k₄ ≡ k₃ → allocatorOf k₄ (w₃ .edits) a₁ (w₃ .slots) cache ≡ makeAvailable (T t) (F f) to (stateOf t f cache k₃ w₃) → k₅ ≡ k₄ → allocatorOf k₅ (w₃ .edits) a₂ (w₃ .slots) cache ≡ makeUnavailable (T t) (F f) from (allocatorOf k₄ (w₃ .edits) a₁ (w₃ .slots) cache) → Moved t f cache k w k₅ (tables (w₃ .edits) a₂ (w₃ .slots)) (doMove (T t) (F f) b to from v)
     unfolding doMove andThen

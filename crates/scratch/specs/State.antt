@@ -13,7 +13,7 @@ use Rattle.function.specs.Known.{Checked}
 use Rattle.function.specs.Table.{functionOf}
 use Rattle.small_set.specs.Set.{setOf}
 use Rattle.rules.specs.Scratch as rules
-use Rattle.edit.specs.Buffer.{countOf, editsOf}
+use Rattle.edit.specs.Buffer.{countOf, editsOf, Written}
 use Rattle.slots.specs.Stacks.{stacksOf, SlotsFit}
 use Rattle.scratch.specs.declared.Evicted.{Evicted}
 use Rattle.scratch.specs.declared.Evicted.the-variants.{Nothing, Held}
@@ -69,6 +69,7 @@ pub record Fits (a b n : ℕ) (t : List ℕ) (k : ScratchAllocator) (edits slots
   pub made : k .made + b ≤ 2050 + countOf edits
   pub stacked : Stacked (stacksOf slots cache)
   pub held : HeldFits (T t) (k .evicted)
+  pub written : Written edits
 
 -- a place that an edit can name
 pub record PlaceFits (t : List ℕ) (code : ℕ) : Type 0 where

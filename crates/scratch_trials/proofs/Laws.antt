@@ -15,7 +15,7 @@ use Rattle.function.specs.Table.{functionOf}
 use Rattle.small_set.specs.Set.{setOf, emptySet}
 use Rattle.rules.specs.Edit.{andThen, Rematerialize}
 use Rattle.rules.specs.Scratch as rules
-use Rattle.edit.specs.Buffer.{countOf, editsOf}
+use Rattle.edit.specs.Buffer.{countOf, editsOf, Written}
 use Rattle.slots.specs.Stacks.{stacksOf}
 use Rattle.slots.specs.Steps.{Cleared, Begun}
 use Rattle.scratch.specs.declared.Evicted.the-variants.{Nothing}
@@ -24,6 +24,7 @@ use Rattle.scratch.specs.declared.Scratch.{Scratch}
 use Rattle.scratch.specs.State.{T, F, Stacked, PlaceFits, allocatorOf}
 use Rattle.scratch.specs.Contracts.{Tables, tables, stateOf, FitsIn, Brought, Found, Moved, Released}
 use Rattle.scratch.specs.Diversions.{Diversion, Diverting, countAt, allocAt, scratchAt, diversionAt, divertBy, Diverts, Undiverts}
+use Rattle.scratch.proofs.Bounds.{fewer}
 use Rattle.scratch_trials.specs.Steps.{Started, Ends, slotToSlot, slotsSwapped, rebuilt}
 
 pub never : {A : Type 0} → false ≡ true → A
@@ -33,12 +34,12 @@ none-stacked : Stacked (λ z. [])
 unfolding has
 none-stacked z s e = absurd (let x : _≡_ {A = ℕ} 0 1 = cc in omega arith)
 
-pub started : (available : List Bool) (edits slots cache : List ℕ) → setOf available ≡ emptySet → editsOf edits ≡ [] → countOf edits ≡ 0 → Cleared cache → Begun cache slots → Started (record { evicted = Nothing; made = 0 }) available edits slots cache
-started available edits slots cache a e n cleared begun =
+pub started : (available : List Bool) (edits slots cache : List ℕ) → setOf available ≡ emptySet → editsOf edits ≡ [] → countOf edits ≡ 0 → Written edits → Cleared cache → Begun cache slots → Started (record { evicted = Nothing; made = 0 }) available edits slots cache
+started available edits slots cache a e n o cleared begun =
     let stacks : stacksOf slots cache ≡ (λ z. []) = begun .stacks ∙ ap (λ c. c .stacks) (cleared .empty) in
     record {
       is = rw (a, e, stacks);
-      fits = λ t. record { few = omega (arith, n); most = 0; put = begun .fits; own = omega arith; made = omega arith; stacked = rw stacks none-stacked; held = tt };
+      fits = λ t. record { few = omega (arith, n); most = 0; put = begun .fits; own = omega arith; made = omega arith; stacked = rw stacks none-stacked; held = tt; written = o };
     }
 
 pub slot-zero : (t : List ℕ) → PlaceFits t 0
@@ -73,7 +74,7 @@ module _ (t f cache : List ℕ) where
   moved-and-brought b v to from k k₁ k₂ w w₁ w₂ e h m a =
       record {
         is = rw (same-bank v, ← e, m .is) (ap some (sym (a .is)));
-        few = omega (arith, a .fits 0 0 0 (record { few = omega (arith, m .fits 0 0 0 h .few); most = m .fits 0 0 0 h .most; put = m .fits 0 0 0 h .put; own = omega (arith, m .fits 0 0 0 h .own); made = omega (arith, m .fits 0 0 0 h .made); stacked = m .fits 0 0 0 h .stacked; held = m .fits 0 0 0 h .held }) .few);
+        few = omega (arith, a .fits 0 0 0 (fewer (omega arith) (omega arith) (omega arith) (m .fits 0 0 0 h)) .few);
       }
 
   module _ (b v w : ℕ) (barred : ℕ → Bool) (p q : ℕ) (d d₁ : List ℕ) (k : ScratchAllocator) (x : Tables) (r : Scratch) (x₁ : Tables) (z : countAt d w ≡ 0) (div : Diverts t f cache b barred 1 q w d k x d₁ r x₁) where

@@ -63,7 +63,7 @@ unevict-all-requires : tie.Need-unevict-all-requires
 unevict-all-requires c κs =
     let pre = c .before .before .before .before .before .before .before .before .before .before .before .before .before .before .before .before .before .before .before .before .before .before .pre in
     let left = c .before .before .before .before .before .before .before .before .move-edits .ensures .fits 0 0 2 (c .before .before .before .before .before .before .before .before .before .before .before .before .before .before .get-scratch-reg .ensures .fits 0 1 6 (c .before .before .before .before .before .before .before .before .before .before .before .before .before .before .before .before .before .before .unevict-for-reg .ensures [] .fits 0 2 8 (pre .4))) in
-    let then = c .before .before .before .before .release-place .ensures (c .before .before .before .before .before .before .before .before .before .before .before .before .before .before .before .before .before .before .before .before .before .before .args .cache .now) (c .before .before .before .before .before .before .push-remat .last .0) [] .fits 0 0 0 (pushed (omega arith) (omega arith) (omega arith) (c .before .before .before .before .before .before .push-remat .ensures .1) left) in
+    let then = c .before .before .before .before .release-place .ensures (c .before .before .before .before .before .before .before .before .before .before .before .before .before .before .before .before .before .before .before .before .before .before .args .cache .now) (c .before .before .before .before .before .before .push-remat .last .0) [] .fits 0 0 0 (pushed (omega arith) (omega arith) (omega arith) (c .before .before .before .before .before .before .push-remat .ensures .1) (c .before .before .before .before .before .before .push-remat .ensures .2) left) in
     (pre .0, rw (c .before .before .make-available .ensures .0) then)
 
 returns : tie.Need-returns
@@ -79,7 +79,7 @@ returns c =
     let marked = c .before .before .before .make-available in
     let l′ = marked .last .1 .1 .0 in
     let left = moved .ensures .fits 0 0 2 (found .ensures .fits 0 1 6 (before .ensures l .fits 0 2 8 (pre .4))) in
-    let then = released .ensures (a .cache .now) e l .fits 0 0 0 (pushed (omega arith) (omega arith) (omega arith) (c .before .before .before .before .before .before .before .push-remat .ensures .1) left) in
+    let then = released .ensures (a .cache .now) e l .fits 0 0 0 (pushed (omega arith) (omega arith) (omega arith) (c .before .before .before .before .before .before .before .push-remat .ensures .1) (c .before .before .before .before .before .before .before .push-remat .ensures .2) left) in
     through-rebuilt _ _ _ _ _ _ _ _ _ (before .result) (moved .result) (released .result) (marked .result) _ _ (tables (before .last .1 .1 .1 .1 .0) l (before .last .1 .1 .1 .1 .1 .0)) (found .result) (tables (found .last .1 .1 .1 .1 .1 .1 .1 .0) l (found .last .1 .1 .1 .1 .1 .1 .1 .1 .0)) (tables (moved .last .1 .1 .1 .1 .1 .1 .0) l (moved .last .1 .1 .1 .1 .1 .1 .1 .0)) e (tables e l (released .last .1 .1 .1 .0)) l′ _ (c .before .before .before .before .before .before .before .before .before .before .before .before .before .before .before .before .before .before .before .before .before .before .value-bank .ensures)
     (before .ensures l) (found .ensures) (moved .ensures) (c .before .before .before .before .before .before .before .push-remat .ensures .0) (released .ensures (a .cache .now) e l) (marked .ensures .1 (a .f .now) (a .cache .now) e (released .last .1 .1 .1 .0)) (c .unevict-all .ensures l′)
     (omega (arith, c .unevict-all .ensures [] .fits 0 0 0 (rw (marked .ensures .0) then) .few))

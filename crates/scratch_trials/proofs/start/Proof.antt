@@ -23,7 +23,7 @@ begin-requires : tie.Need-begin-requires
 begin-requires c κs = search needs
 
 returns : tie.Need-returns
-returns c = started _ _ _ _ (c .before .before .before .before .before .before .before .clear .ensures .0) (c .before .before .before .before .before .clear2 .ensures .1) (c .before .before .before .before .before .clear2 .ensures .2) (c .before .before .before .clear3 .ensures) (c .begin .ensures)
+returns c = started _ _ _ _ (c .before .before .before .before .before .before .before .clear .ensures .0) (c .before .before .before .before .before .clear2 .ensures .1) (c .before .before .before .before .before .clear2 .ensures .2) (c .before .before .before .before .before .clear2 .ensures .3) (c .before .before .before .clear3 .ensures) (c .begin .ensures)
 
 pub start-spec : {M : Type 1} → statement M
 start-spec =
