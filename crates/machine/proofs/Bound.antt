@@ -348,18 +348,15 @@ module _ (t : RegInfo) (f : Function) where
           below : Every (λ i. i < n) (indices 0 n)
           below = every-index n 0 n (omega arith)
 
-    run-few : (p : Patch) (c : Cache) → SortedOk t f (sorted t f p) → All (λ k. length (k .edits) ≤ bound (sorted t f p)) (run t f p (sorted t f p) c)
+    pub run-few : (p : Patch) (a : Sorted) (c : Cache) → SortedOk t f a → All (λ k. length (k .edits) ≤ bound a) (run t f p a c)
     unfolding run
-    run-few p c ok =
+    run-few p a c ok =
         all-then (λ k. owed k ≤ length (a .remats) + 5 * length (a .rematsWithScratch)) (λ k. length (k .edits) ≤ bound a) (each (rematWithScratch t f) (a .rematsWithScratch) (remats t f (a .remats) k₀)) _
         (all-map (λ k. owed k ≤ owed (remats t f (a .remats) k₀) + 5 * length (a .rematsWithScratch)) (λ k. owed k ≤ length (a .remats) + 5 * length (a .rematsWithScratch))
         (each (rematWithScratch t f) (a .rematsWithScratch) (remats t f (a .remats) k₀)) (λ k h. omega (arith, remats-owed (a .remats) k₀))
         (each-owed (a .rematsWithScratch) (every-getD (RematOk t f false) (noRemat t f) (a .rematsWithScratch) (ok .rematsWithScratch)) (remats t f (a .remats) k₀)))
         (λ k h. all-map (λ k′. length (k′ .edits) ≤ owed k + 8 * length (a .moves)) (λ k′. length (k′ .edits) ≤ bound a) (moves t f (a .moves) k) (λ k′ q. omega arith) (moves-few (a .moves) (ok .moves) k))
       where
-        a : Sorted
-        a = sorted t f p
-
         k₀ : ScratchAllocator
         k₀ = record { edits = []; available = λ u. has u (p .free); evicted = []; cache = c }
 
@@ -369,5 +366,5 @@ pub bound-ok :
     → length es ≤ bound (sorted t f p)
 bound-ok t f at af p room c c′ es r =
     let few : All (λ k. length (k .edits) ≤ bound (sorted t f p)) (some (r .allocator)) =
-    subst (All (λ k. length (k .edits) ≤ bound (sorted t f p))) (r .ran) (run-few t f at (placed t f af) p c (r .ok)) in
+    subst (All (λ k. length (k .edits) ≤ bound (sorted t f p))) (r .ran) (run-few t f at (placed t f af) p (sorted t f p) c (r .ok)) in
     omega (arith, few, ap length (r .edits))

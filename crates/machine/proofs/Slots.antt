@@ -1,5 +1,5 @@
 -- Between patches every slot made lies in exactly one stack, once: all through a run each is counted in a stack, with an evicted register or as a live scratch.
-use Prim.Native.Nat.{ℕ, zero, suc, pred, _+_, _<_, _≤_}
+use Prim.Native.Nat.{ℕ, zero, suc, pred, _+_, _-_, _<_, _≤_}
 use mathlib.Core.Path.{_≡_, refl, sym, ap, subst, _∙_}
 use mathlib.Core.Bool.{Bool, true, false, false≢true}
 use mathlib.Core.List.{List, [], _∷_, reverse}
@@ -10,7 +10,7 @@ use lib.Dec.{eqb, ltb}
 use lib.ListN.{length, getD}
 use borrow.Author.Tests.{eq-eqb, ne-eqb, eqb-true, eqb-false, ltb-true, ltb-false}
 use Rattle.entity.specs.Logic.{pick, and, or, no, any, has, twice, indices}
-use Rattle.entity.proofs.Laws.{or-false, never-true}
+use Rattle.entity.proofs.Laws.{or-false, never-true, has-getD}
 use Rattle.entity.specs.Place.{Place, reg, slot}
 use Rattle.reginfo.specs.RegInfo.{RegInfo, numBanks, bankForClass, allocationOrder, classMembers, includesSpillslots, isMemory, spillslotSize, topLevelClass, stackToStackClass}
 use Rattle.reginfo.specs.Refused as target
@@ -28,7 +28,7 @@ use Rattle.machine.specs.Slots.{InStacks, Stays, SlotsClaim, SlotsLie}
 use Rattle.rules.proofs.Steps.{All, all-then, branch, same?, Every, every-getD, every-reverse, every-index, all-each, updated-at, updated-same, updated-other}
 use Rattle.machine.proofs.Bound.{unevict-evicted}
 use Rattle.rules.proofs.Writers.{writers-low}
-use Rattle.rules.proofs.Sum.{bit, sum, sum-change, sum-zero}
+use Rattle.rules.proofs.Sum.{bit, sum, sum-change, sum-zero, sum-ones, sum-le}
 use Rattle.machine.proofs.Diversions.{occurs, occurs-head, occurs-tail, has-occurs, Counted, Grown, carry-grown, was-live, lost-counted}
 
 positive : (a : ℕ) → (a ≡ 0 → ⊥) → 0 < a
@@ -551,17 +551,14 @@ module _ (t : RegInfo) (f : Function) (c₀ : Cache) where
           saved : (k : ScratchAllocator) → Kept (λ s y. 0) k → Good (stacked (unevictAll t f k .cache)) (unevictAll t f k .cache .made)
           saved k h = good-cong _ _ (unevictAll t f k .cache .made) (λ s z. omega (arith, ap (λ l. waits l s z) (unevict-evicted t f (k .evicted) (withEvicted [] k)))) (all-good k (λ s y. 0) h)
 
-    run-good : InStacks f c₀ → (p : Patch) → SortedOk t f (sorted t f p) → All (λ k. Good (stacked (k .cache)) (k .cache .made)) (run t f p (sorted t f p) c₀)
+    run-good : InStacks f c₀ → (p : Patch) (a : Sorted) → SortedOk t f a → All (λ k. Good (stacked (k .cache)) (k .cache .made)) (run t f p a c₀)
     unfolding run Kept waits
-    run-good ins p ok =
+    run-good ins p a ok =
         all-then (Kept (λ s y. 0)) (λ k. Good (stacked (k .cache)) (k .cache .made)) (each (rematWithScratch t f) (a .rematsWithScratch) (remats t f (a .remats) k₀)) _
         (all-each (Kept (λ s y. 0)) (RematOk t f false) (rematWithScratch t f) (λ r k q g. scratch-good r q (λ s y. 0) k g) (a .rematsWithScratch)
         (every-getD (RematOk t f false) (noRemat t f) (a .rematsWithScratch) (ok .rematsWithScratch)) (remats t f (a .remats) k₀) (remats-good (a .remats) k₀ (λ s y. 0) begin))
         (λ k g. moves-good (a .moves) (ok .moves) k g)
       where
-        a : Sorted
-        a = sorted t f p
-
         k₀ : ScratchAllocator
         k₀ = record { edits = []; available = λ u. has u (p .free); evicted = []; cache = c₀ }
 
@@ -618,6 +615,43 @@ unfolding has twice
 slots-empty f =
     record { listed = λ s lo hi. absurd (omega arith); once = λ z. refl; sole = λ s y z a b. absurd (false≢true a); low = λ s z a. absurd (false≢true a); below = λ s z a. absurd (false≢true a) }
 
+-- so it is after every run
+pub run-stacks :
+    (t : RegInfo) (f : Function) → target.Accepted t → function.Accepted t f → (p : Patch) (a : Sorted) (c : Cache) (k : ScratchAllocator) → SortedOk t f a → InStacks f c → run t f p a c ≡ some k
+    → InStacks f (k .cache)
+run-stacks t f at af p a c k ok ins e = in-stacks t f c ins (k .cache) (subst (All (λ k. Good t f c (stacked (k .cache)) (k .cache .made))) e (run-good t f c at af ins p a ok))
+
+-- no stack is deeper than slots were made
+module _ (a : ℕ) where
+  count-range : (l : List ℕ) (n : ℕ) → ((s : ℕ) → has s l ≡ true → (a ≤ s) × (s < a + n)) → length l ≡ sum (λ k. occurs (a + k) l) n
+  unfolding occurs
+  count-range [] n h = sym (sum-zero (λ k. 0) n (λ k l. refl))
+  count-range (x ∷ l) n h =
+      let q = h x (has-getD (x ∷ l) 0 (omega arith)) in
+      let i : ℕ = x - a in
+      let at : a + i ≡ x = omega (arith, q .0) in
+      omega (
+        arith,
+        count-range l n (λ s e. h s (later s e)),
+        sum-change (λ k. occurs (a + k) (x ∷ l)) (λ k. occurs (a + k) l) n i (omega (arith, q .0, q .1)) (λ k d. occurs-tail (a + k) x l (λ e. d (omega arith))),
+        occurs-head (a + i) x l at,
+      )
+    where
+      later : (s : ℕ) → has s l ≡ true → has s (x ∷ l) ≡ true
+      later s e = occurs-has s (x ∷ l) (omega (arith, has-occurs s l e, more s))
+        where
+          more : (s : ℕ) → occurs s l ≤ occurs s (x ∷ l)
+          more s = ⊎-elim (λ e. omega (arith, occurs-head s x l e)) (λ d. omega (arith, occurs-tail s x l d)) (same? s x)
+
+pub stack-few : (f : Function) (c : Cache) → InStacks f c → (z : ℕ) → length (c .stacks z) ≤ c .made
+stack-few f c ins z =
+    omega (
+      arith,
+      count-range (f .slots) (c .stacks z) (c .made) (λ s e. (ins .low s z e, ins .below s z e)),
+      sum-le (λ k. occurs (f .slots + k) (c .stacks z)) (λ k. 1) (c .made) (λ k h. once-most (c .stacks z) (ins .once z) (f .slots + k)),
+      sum-ones (c .made),
+    )
+
 -- from call to call every slot made lies in exactly one stack, and where it lay
 pub slots-ok :
     (t : RegInfo) (f : Function) → target.Accepted t → function.Accepted t f → (p : Patch) (room : ℕ) (c c′ : Cache) (es : List Edit) → Ran t f p room c es c′ → InStacks f c
@@ -626,7 +660,7 @@ slots-ok t f at af p room c c′ es r ins =
     subst (λ x. InStacks f x × Stays c x) (sym (r .cache)) (in-stacks t f c ins (r .allocator .cache) good, stays t f c ins (r .allocator .cache) good)
   where
     good : Good t f c (stacked (r .allocator .cache)) (r .allocator .cache .made)
-    good = subst (All (λ k. Good t f c (stacked (k .cache)) (k .cache .made))) (r .ran) (run-good t f c at af ins p (r .ok))
+    good = subst (All (λ k. Good t f c (stacked (k .cache)) (k .cache .made))) (r .ran) (run-good t f c at af ins p (sorted t f p) (r .ok))
 
 pub slots-lie : SlotsLie
 slots-lie t f at af calls = claim calls emptyCache (slots-empty f)

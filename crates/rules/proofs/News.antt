@@ -16,6 +16,11 @@ module _ (n : ℕ) where
   unfolding news bit
   news-all s = omega (arith, sum-le (λ k. bit (isNew (s k))) (λ k. 1) n (λ k l. bit-le (isNew (s k)) true (λ _. refl)), sum-ones n)
 
+  -- where no move is new that was not
+  pub news-fewer : (s s′ : ℕ → State) → ((k : ℕ) → isNew (s′ k) ≡ true → isNew (s k) ≡ true) → news s′ ≤ news s
+  unfolding news
+  news-fewer s s′ h = sum-le _ _ n (λ k l. bit-le (isNew (s′ k)) (isNew (s k)) (h k))
+
   -- to open a move leaves one fewer, to close one no more
   pub news-open : (i : ℕ) (s : ℕ → State) → i < n → isNew (s i) ≡ true → news s ≡ suc (news (updated i Pending s))
   unfolding news bit
@@ -28,5 +33,4 @@ module _ (n : ℕ) where
       )
 
   pub news-close : (i : ℕ) (s : ℕ → State) → news (updated i Done s) ≤ news s
-  unfolding news
-  news-close i s = sum-le _ _ n (λ k l. bit-le _ _ (updated-at (λ z. isNew z ≡ true → isNew (s k) ≡ true) i Done s k (λ _ e. absurd (false≢true e)) (λ _ e. e)))
+  news-close i s = news-fewer s (updated i Done s) (λ k. updated-at (λ z. isNew z ≡ true → isNew (s k) ≡ true) i Done s k (λ _ e. absurd (false≢true e)) (λ _ e. e))

@@ -16,7 +16,7 @@ module _ (t : RegInfo) (f : Function) (ms : List KeptMove) where
   n = length ms
 
   -- a writer is a kept move
-  writer-low : (i : ℕ) (l : List KeptMove) (u : ℕ) → All (λ m. m < i + length l) (writerFrom t f ms i l u)
+  pub writer-low : (i : ℕ) (l : List KeptMove) (u : ℕ) → All (λ m. m < i + length l) (writerFrom t f ms i l u)
   unfolding writerFrom
   writer-low i [] u = tt
   writer-low i (m ∷ l) u =
