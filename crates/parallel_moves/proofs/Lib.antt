@@ -1,0 +1,4 @@
+pub mod Running
+pub mod Resolving
+pub mod Adding
+pub mod Claimed

@@ -1,0 +1,103 @@
+-- The run of a patch.
+use Prim.Native.Nat.{ℕ, zero, suc, _+_, _*_, _<_, _≤_}
+use mathlib.Core.Path.{_≡_, refl, sym, ap, subst, _∙_, fun-ext}
+use mathlib.Core.Bool.{Bool, true, false}
+use mathlib.Core.List.{List, [], _∷_}
+use mathlib.Core.Option.{Option, none, some}
+use native.Mathlib.Omega.{arith}
+use lib.Dec.{eqb}
+use lib.ListN.{length, getD}
+use borrow.Author.Tests.{eq-eqb, ne-eqb}
+use Rattle.entity.specs.Logic.{or, has}
+use Rattle.function.specs.Known.{Checked}
+use Rattle.function.specs.Table.{functionOf}
+use Rattle.function.proofs.Laws.{few-slots, low-limit}
+use Rattle.small_set.specs.Set.{setOf}
+use Rattle.rules.specs.Edit.{andThen, each}
+use Rattle.rules.specs.Scratch as rules
+use Rattle.rules.specs.Order.{remats, rematWithScratch, moves}
+use Rattle.rules.specs.Patch.{Patch, run}
+use Rattle.edit.specs.Buffer.{countOf, editsOf, Written}
+use Rattle.slots.specs.Stacks.{cacheOf, stacksOf}
+use Rattle.slots.specs.Steps.{Begun}
+use Rattle.scratch.specs.declared.Evicted.the-variants.{Nothing}
+use Rattle.scratch.specs.declared.ScratchAllocator.{ScratchAllocator}
+use Rattle.scratch.specs.State.{T, F, Fits, Stacked, owed}
+use Rattle.scratch.specs.Contracts.{Tables, tables, stateOf, FitsIn}
+use Rattle.scratch.proofs.Bounds.{fewer, refit}
+use Rattle.entries.specs.Table.{sortedOf}
+use Rattle.entries.specs.Known.{EntriesOk}
+use Rattle.visits.specs.Marks.{movesOf, rematsOf, rematsWithScratchOf}
+use Rattle.rebuilds.specs.Rebuilds.{Rematted, Rebuilt}
+use Rattle.rebuilds.proofs.Direct.{rematted-fits}
+use Rattle.visiting.specs.Steps.{Moves}
+use Rattle.parallel_moves.specs.Given.{freeFrom, freeOf, CacheOk}
+use Rattle.parallel_moves.specs.Steps.{Ran}
+
+-- a unit is listed as free exactly where its flag is set
+free-below : (x b : ℕ) (l : List Bool) → x < b → has x (freeFrom b l) ≡ false
+unfolding freeFrom has
+free-below x b [] h = refl
+free-below x b (true ∷ l) h = rw (ne-eqb x b (λ e. omega arith)) (free-below x (b + 1) l (omega arith))
+free-below x b (false ∷ l) h = free-below x (b + 1) l (omega arith)
+
+free-at : (i b : ℕ) (l : List Bool) → has (b + i) (freeFrom b l) ≡ getD l i false
+unfolding freeFrom has
+free-at i b [] = refl
+free-at zero b (true ∷ l) = let q : eqb (b + 0) b ≡ true = eq-eqb (b + 0) b (omega arith) in rw q
+free-at zero b (false ∷ l) = free-below (b + 0) (b + 1) l (omega arith)
+free-at (suc i) b (true ∷ l) = let q : b + suc i ≡ b + 1 + i = omega arith in rw (ne-eqb (b + suc i) b (λ e. omega arith), q) (free-at i (b + 1) l)
+free-at (suc i) b (false ∷ l) = let q : b + suc i ≡ b + 1 + i = omega arith in rw q (free-at i (b + 1) l)
+
+pub free-is : (free : List Bool) (u : ℕ) → has u (freeOf free) ≡ setOf free u
+unfolding setOf
+free-is free u = let q : 0 + u ≡ u = omega arith in rw q at (free-at u 0 free)
+
+module _ (t f cache e w : List ℕ) (known : Checked t f) (ok : EntriesOk t f e w) (cached : CacheOk f cache) where
+  -- the tables as a run begins
+  module _ (edits slots : List ℕ) (made : ℕ) (none : editsOf edits ≡ []) (nil : countOf edits ≡ 0) (written : Written edits) (begun : Begun cache slots) (is : made ≡ cacheOf cache .made) where
+    abbrev k₀ : ScratchAllocator
+    k₀ = record { evicted = Nothing; made = made }
+
+    low : Stacked (stacksOf slots cache)
+    low = rw (begun .stacks) (λ z s h. omega (arith, cached .stacks .below s z h, cached .made, few-slots (T t) (functionOf f) (known .function), low-limit (T t) (functionOf f) (known .function)))
+
+    fits₀ : Fits 0 2 1024 t k₀ edits slots cache
+    fits₀ =
+        record {
+          few = omega (arith, nil);
+          most = 0;
+          put = begun .fits;
+          own = omega arith;
+          made = omega (arith, is, cached .made, low-limit (T t) (functionOf f) (known .function));
+          stacked = low;
+          held = tt;
+          written = written;
+        }
+
+    few-places : length (movesOf e) + (length (rematsOf e) + length (rematsWithScratchOf e)) ≤ 128
+    few-places = omega (arith, ok .few, ok .most)
+
+    pub remats-room : countOf edits + length (rematsOf e) ≤ 1024
+    remats-room = omega (arith, nil, few-places)
+
+    module _ (free : List Bool) (k₁ : ScratchAllocator) (edits₁ : List ℕ) (available₁ : List Bool) (direct : Rematted t (rematsOf e) k₀ edits free k₁ edits₁ available₁) where
+      pub scratch-room : Fits 0 2 (5 * length (rematsWithScratchOf e) + 8) t k₁ edits₁ slots cache
+      scratch-room =
+          fewer (omega arith) (omega arith) (omega arith)
+          (rematted-fits {a = 0} {b = 2} {n = 5 * length (rematsWithScratchOf e) + 8} direct (fewer {n′ = 5 * length (rematsWithScratchOf e) + 8 + length (rematsOf e)} (omega arith) (omega arith) (omega (arith, few-places)) fits₀))
+
+      module _ (k₂ : ScratchAllocator) (x₂ : Tables) (rebuilt : Rebuilt t f cache (length (rematsWithScratchOf e)) k₁ (tables edits₁ available₁ slots) k₂ x₂ (each (rematWithScratch (T t) (F f)) (rematsWithScratchOf e))) where
+        pub moves-room : Fits 0 2 (8 * length (movesOf e)) t k₂ (x₂ .edits) (x₂ .slots) cache
+        moves-room =
+            refit (8 * length (movesOf e))
+            (let q : owed (k₁ .evicted) ≡ 0 = rw (direct .kept) in omega (arith, rebuilt .few, direct .count, nil, few-places)) (rebuilt .fits)
+
+        begin-is : (p : Patch) → p .free ≡ freeOf free → stateOf t f cache k₀ (tables edits free slots) ≡ record { edits = []; available = λ u. has u (p .free); evicted = []; cache = cacheOf cache }
+        begin-is p q =
+            let a : setOf free ≡ (λ u. has u (p .free)) = fun-ext (λ u. sym (free-is free u) ∙ ap (has u) (sym q)) in
+            rw (none, begun .stacks, is, a)
+
+        pub ran : (k₃ : ScratchAllocator) (x₃ : Tables) → Moves t f cache e k₂ x₂ k₃ x₃ → Ran t f cache e free k₃ x₃
+        unfolding run andThen sortedOf
+        ran k₃ x₃ m = record { is = λ p q. rw (← begin-is p q, ← direct .is f cache slots, rebuilt .is) (m .is); fits = m .fits }

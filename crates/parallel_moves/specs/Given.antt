@@ -1,0 +1,46 @@
+-- What a call is given: free units as a set of flags, entries as numbers, and the cache that the last call left.
+use Prim.Native.Nat.{ℕ, _+_, _≤_}
+use mathlib.Core.Bool.{Bool, true, false}
+use mathlib.Core.List.{List, [], _∷_}
+use lib.Dec.{eqb}
+use Rattle.entity.specs.Logic.{pick}
+use Rattle.entity.specs.Place.{placeAt}
+use Rattle.function.specs.Table.{functionOf}
+use Rattle.rules.specs.Patch.{Entry, move, remat, Patch}
+use Rattle.machine.specs.Slots.{InStacks}
+use Rattle.slots.specs.Stacks.{cacheOf, CacheFits}
+
+-- the units whose flag is set, rising, the first flag being that of unit u
+unfoldable pub freeFrom : ℕ → List Bool → List ℕ
+freeFrom u [] = []
+freeFrom u (true ∷ l) = u ∷ freeFrom (u + 1) l
+freeFrom u (false ∷ l) = freeFrom (u + 1) l
+
+abbrev pub freeOf : List Bool → List ℕ
+freeOf free = freeFrom 0 free
+
+-- an entry that names no value: a value's number is below 4,096
+abbrev pub nothingNamed : Entry
+nothingNamed = remat (placeAt 0) 4294967295
+
+-- 01, The job: "0 source destination value, or 1 destination value"; here with a fourth number that is not read. Any other first number
+-- names nothing.
+unfoldable pub entryOf : ℕ → ℕ → ℕ → ℕ → Entry
+entryOf kind x y z = pick (eqb kind 0) (move (placeAt x) (placeAt y) z) (pick (eqb kind 1) (remat (placeAt x) y) nothingNamed)
+
+-- four numbers to an entry; numbers left over name nothing
+unfoldable pub entriesOf : List ℕ → List Entry
+entriesOf [] = []
+entriesOf (kind ∷ []) = nothingNamed ∷ []
+entriesOf (kind ∷ x ∷ []) = nothingNamed ∷ []
+entriesOf (kind ∷ x ∷ y ∷ []) = nothingNamed ∷ []
+entriesOf (kind ∷ x ∷ y ∷ z ∷ l) = entryOf kind x y z ∷ entriesOf l
+
+abbrev pub patchOf : List Bool → List ℕ → Patch
+patchOf free numbers = record { free = freeOf free; entries = entriesOf numbers }
+
+-- a cache that is fresh or came from a call: its stacks hold every slot made, once, and at most L were made
+pub record CacheOk (f cache : List ℕ) : Type 0 where
+  pub fits : CacheFits cache
+  pub stacks : InStacks (functionOf f) (cacheOf cache)
+  pub made : cacheOf cache .made ≤ functionOf f .limit

@@ -1,0 +1,43 @@
+-- What the steps of `resolve` ensure.
+use Prim.Native.Nat.{ℕ, _<_, _≤_}
+use mathlib.Core.Path.{_≡_}
+use mathlib.Core.Bool.{Bool}
+use mathlib.Core.List.{List, _++_}
+use mathlib.Core.Option.{Option, none, some}
+use lib.ListN.{length, drop}
+use Rattle.function.specs.Table.{functionOf}
+use Rattle.rules.specs.Scratch.{Cache}
+use Rattle.rules.specs.Patch.{Entry, Patch, unlessRefused, resolveFrom, resolveSorted, run}
+use Rattle.edit.specs.Buffer.{countOf, wordsOf}
+use Rattle.slots.specs.Stacks.{cacheOf, stacksOf, SlotsFit}
+use Rattle.slots.specs.Steps.{Committed}
+use Rattle.scratch.specs.declared.ScratchAllocator.{ScratchAllocator}
+use Rattle.scratch.specs.State.{T, F}
+use Rattle.scratch.specs.Contracts.{Tables, stateOf, FitsIn}
+use Rattle.entries.specs.Table.{sortedOf}
+use Rattle.entries.specs.Known.{EntriesOk}
+use Rattle.parallel_moves.specs.declared.Resolved.{Resolved}
+use Rattle.parallel_moves.specs.Given.{freeOf}
+use Rattle.parallel_moves.specs.Answers.{numberOf, editsIn}
+
+-- the run of a patch, with a limit that is never met
+pub record Ran (t f cache e : List ℕ) (free : List Bool) (k : ScratchAllocator) (w : Tables) : Type 0 where
+  pub is : (p : Patch) → p .free ≡ freeOf free → run (T t) (F f) p (sortedOf e) (cacheOf cache) ≡ some (stateOf t f cache k w)
+  pub fits : FitsIn t f cache 0 2 0 k w
+
+-- where not more than L slots were made, the stacks have room in the cache
+pub record CanHandOver (f cache list : List ℕ) (k : ScratchAllocator) (edits slots : List ℕ) : Type 0 where
+  pub few : countOf edits ≤ 1024
+  pub room : countOf edits ≤ length list
+  pub put : SlotsFit 1024 slots
+  pub deep : k .made ≤ functionOf f .limit → (z : ℕ) → z < 32 → length (stacksOf slots cache z) ≤ 2048
+
+pub record HandedOver (f cache list : List ℕ) (k : ScratchAllocator) (edits slots : List ℕ) (r : Resolved) (list′ cache′ : List ℕ) : Type 0 where
+  pub over : functionOf f .limit < k .made → (numberOf r ≡ some 17) × (list′ ≡ list) × (cache′ ≡ cache)
+  pub within : k .made ≤ functionOf f .limit
+      → (numberOf r ≡ none) × (editsIn r ≡ countOf edits) × (list′ ≡ wordsOf edits ++ drop (countOf edits) list) × Committed slots cache cache′ (k .made)
+
+-- entries added one after the other: what is left to answer is the patch without them, or the number of the first refused
+pub record AllAdded (t f e e′ w′ : List ℕ) (l : List Entry) (r : Option ℕ) : Type 0 where
+  pub yes : r ≡ none → EntriesOk t f e′ w′
+  pub is : (p : Patch) (room : ℕ) (c : Cache) → resolveFrom (T t) (functionOf f) p room c l (sortedOf e) ≡ unlessRefused r (resolveSorted (T t) (functionOf f) p room c (sortedOf e′))
