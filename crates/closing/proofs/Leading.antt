@@ -92,14 +92,13 @@ module _ (t f cache e sparse : List ℕ) (given : Given t f e sparse) (m : ℕ) 
   -- what `divert` asks
   pub divertible : (added : ℕ) → added ≤ 8
       → Checked t f × (v < numValues (functionOf f)) × (countAt (w .diverted) v + added < 65536) × (0 < countAt (w .diverted) v → PlaceFits t (scratchAt (w .diverted) v)) × FitsIn t f cache 0 1 2 k (w .tables)
-  divertible added few =
-      (
-        given .moves .checked,
-        value-there t f e (given .moves) m low,
-        omega (arith, h .stands .diversions .counts v kept, h .stands .counted v, rows-room),
-        λ pos. h .stands .diversions .live v kept pos .scratch-fits,
-        fewer (omega arith) (omega arith) (omega arith) room,
-      )
+  divertible added few = (
+    given .moves .checked,
+    value-there t f e (given .moves) m low,
+    omega (arith, h .stands .diversions .counts v kept, h .stands .counted v, rows-room),
+    λ pos. h .stands .diversions .live v kept pos .scratch-fits,
+    fewer (omega arith) (omega arith) (omega arith) room,
+  )
 
   module _ (b added src : ℕ) (barred : ℕ → Bool) (d : List ℕ) (r : Scratch) (x : Tables) (div : Diverts t f cache b barred added src v (w .diverted) k (w .tables) d r x) where
     pub emit-room : FitsIn t f cache 0 1 4 (r .allocator) x
@@ -140,8 +139,7 @@ module _ (t f cache e sparse : List ℕ) (given : Given t f e sparse) (m : ℕ) 
     cells-stay : (y : ℕ) → KeptValue e y → (y ≡ v → ⊥) → (countAt d y ≡ countAt (w .diverted) y) × (allocAt d y ≡ allocAt (w .diverted) y) × (scratchAt d y ≡ scratchAt (w .diverted) y)
     cells-stay y ky n =
         let a : y < 4096 = kept-low t f e (given .moves) y ky in
-        let b : v < 4096 = kept-low t f e (given .moves) v kept in
-        (
+        let b : v < 4096 = kept-low t f e (given .moves) v kept in (
           div .noted .others y n (λ q. omega arith) (λ q. omega arith),
           div .noted .others (4096 + y) (λ q. omega arith) (λ q. n (omega arith)) (λ q. omega arith),
           div .noted .others (8192 + y) (λ q. omega arith) (λ q. omega arith) (λ q. n (omega arith)),

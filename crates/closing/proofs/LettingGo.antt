@@ -119,8 +119,7 @@ module _ (t f cache e : List ℕ) (ok : MovesOk t f e) (m i n : ℕ) (p : Parall
     cells-stay : (y : ℕ) → KeptValue e y → (y ≡ v → ⊥) → (countAt d′ y ≡ countAt (w .diverted) y) × (allocAt d′ y ≡ allocAt (w .diverted) y) × (scratchAt d′ y ≡ scratchAt (w .diverted) y)
     cells-stay y ky d =
         let low : y < 4096 = kept-low t f e ok y ky in
-        let vlow : v < 4096 = kept-low t f e ok v kept in
-        (
+        let vlow : v < 4096 = kept-low t f e ok v kept in (
           u .noted .others y d (λ q. omega arith) (λ q. omega arith),
           u .noted .others (4096 + y) (λ q. omega arith) (λ q. d (omega arith)) (λ q. omega arith),
           u .noted .others (8192 + y) (λ q. omega arith) (λ q. omega arith) (λ q. d (omega arith)),

@@ -63,7 +63,19 @@ fn emit(
     let v = visits::kept_value(e, m);
     let b = function::value_bank(f, v);
     let to = visits::kept_dest(e, m);
-    k.do_move(t, f, cache, available, sources, edits, slots, b, to, from, v)
+    k.do_move(
+        t,
+        f,
+        cache,
+        available,
+        sources,
+        edits,
+        slots,
+        b,
+        to,
+        from,
+        v,
+    )
 }
 
 // A writer of the source is open: the move is emitted from the scratch of its value.
@@ -90,7 +102,19 @@ fn emit_diverted(
     let added = visits::carry(t, e, w, marks, c, m);
     let v = visits::kept_value(e, m);
     let source = visits::kept_source(e, m);
-    let got = k.divert(t, f, cache, available, sources, edits, slots, d, added, v, source);
+    let got = k.divert(
+        t,
+        f,
+        cache,
+        available,
+        sources,
+        edits,
+        slots,
+        d,
+        added,
+        v,
+        source,
+    );
     let p = got.place;
     let next = got.allocator;
     emit(next, t, f, cache, e, available, sources, edits, slots, m, p)

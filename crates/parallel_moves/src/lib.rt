@@ -168,7 +168,15 @@ fn add_entry(
     ensures { λ r. ⌜ AddedAs (now (t .entry)) (now (f .entry)) (now (e .entry)) (now (w .entry)) (now (e .exit)) (now (w .exit)) (entryOf (getD (now (numbers .entry)) at 0) (getD (now (numbers .entry)) (at + 1) 0) (getD (now (numbers .entry)) (at + 2) 0) (getD (now (numbers .entry)) (at + 3) 0)) (addedOf r) ⌝ }
 {
     match numbers[at] {
-        0 => entries::add_move(t, f, e, w, numbers[at + 1], numbers[at + 2], numbers[at + 3]),
+        0 => entries::add_move(
+            t,
+            f,
+            e,
+            w,
+            numbers[at + 1],
+            numbers[at + 2],
+            numbers[at + 3],
+        ),
         1 => entries::add_remat(t, f, e, w, numbers[at + 1], numbers[at + 2]),
         _ => entries::add_remat(t, f, e, w, 0, 4294967295),
     }

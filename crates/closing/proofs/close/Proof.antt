@@ -15,14 +15,14 @@ set-done-requires : tie.Need-set-done-requires
 set-done-requires c κs = let pre = c .before .pre in omega (arith, pre .1, pre .0 .ready .kept .small .few)
 
 lead-requires : tie.Need-lead-requires
-lead-requires c κs = 
+lead-requires c κs =
     let a = c .before .before .before .before .before .before .before .before .before .args in
     let pre = c .before .before .before .before .before .before .before .before .before .pre in
     let done = c .before .before .before .before .before .before .before .set-done in
     (pre .0, pre .1, (_, leads (a .t .now) (a .f .now) (a .cache .now) (a .e .now) (a .m) (pre .1) (pre .2 .0) (a .k) (work (a .edits .now) (a .available .now) (a .slots .now) (a .sources .now) (a .d .now) (a .marks .now) (a .c .now)) (pre .2 .1) (pre .0 .moves) (done .last .0) (done .ensures .0) (done .ensures .1)))
 
 undivert-all-requires : tie.Need-undivert-all-requires
-undivert-all-requires c κs = 
+undivert-all-requires c κs =
     let a = c .before .before .before .before .before .before .before .before .before .before .before .before .before .before .before .before .args in
     let pre = c .before .before .before .before .before .before .before .before .before .before .before .before .before .before .before .before .pre in
     let done = c .before .before .before .before .before .before .before .before .before .before .before .before .before .before .set-done in
@@ -30,7 +30,7 @@ undivert-all-requires c κs =
     (a .e .now, led .last .1 .1 .1 .1 .1 .1 .1 .1 .1 .1 .1 .0, _, pre .0 .moves, (lets (a .t .now) (a .f .now) (a .cache .now) (a .e .now) (a .m) (pre .1) (pre .2 .0) (a .k) (work (a .edits .now) (a .available .now) (a .slots .now) (a .sources .now) (a .d .now) (a .marks .now) (a .c .now)) (pre .2 .1) (pre .0 .moves) (done .last .0) (done .ensures .0) (done .ensures .1) (led .result) (work (led .last .1 .1 .1 .1 .1 .1 .1 .1 .0) (led .last .1 .1 .1 .1 .1 .1 .0) (led .last .1 .1 .1 .1 .1 .1 .1 .1 .1 .0) (led .last .1 .1 .1 .1 .1 .1 .1 .0) (led .last .1 .1 .1 .1 .1 .1 .1 .1 .1 .1 .0) (led .last .1 .1 .1 .1 .1 .1 .1 .1 .1 .1 .1 .0) (led .last .1 .1 .1 .1 .1 .1 .1 .1 .1 .1 .1 .1 .0)) (led .ensures .1 _ (leads (a .t .now) (a .f .now) (a .cache .now) (a .e .now) (a .m) (pre .1) (pre .2 .0) (a .k) (work (a .edits .now) (a .available .now) (a .slots .now) (a .sources .now) (a .d .now) (a .marks .now) (a .c .now)) (pre .2 .1) (pre .0 .moves) (done .last .0) (done .ensures .0) (done .ensures .1))) (led .ensures .0)))
 
 returns : tie.Need-returns
-returns c = 
+returns c =
     let a = c .before .before .before .before .before .before .before .before .before .before .before .before .before .before .before .before .before .args in
     let pre = c .before .before .before .before .before .before .before .before .before .before .before .before .before .before .before .before .before .pre in
     let done = c .before .before .before .before .before .before .before .before .before .before .before .before .before .before .before .set-done in

@@ -34,14 +34,14 @@ kept-source-requires : tie.Need-kept-source-requires
 kept-source-requires c κs = let pre = c .before .before .before .before .before .before .before .pre in (pre .1, pre .0 .ready .kept .small .few)
 
 divert-requires : tie.Need-divert-requires
-divert-requires c κs = 
+divert-requires c κs =
     let a = c .before .before .before .before .before .before .before .before .before .before .before .before .before .args in
     let pre = c .before .before .before .before .before .before .before .before .before .before .before .before .before .pre in
     let carried = c .before .before .before .before .before .before .before .carry .ensures (F (a .f .now)) in
     rw (c .before .before .before .before .before .before .kept-value .ensures) (divertible _ _ _ _ _ (pre .0) _ (pre .1) (pre .2 .0) _ _ (pre .2 .1) _ (carried .few))
 
 emit-requires : tie.Need-emit-requires
-emit-requires c κs = 
+emit-requires c κs =
     let a = c .before .before .before .before .before .before .before .before .before .before .before .before .before .before .before .before .before .before .before .before .args in
     let pre = c .before .before .before .before .before .before .before .before .before .before .before .before .before .before .before .before .before .before .before .before .pre in
     let noted = c .before .before .before .before .before .before .before .before .before .before .before .before .before .before .before .before .before .sources-noted in
@@ -53,7 +53,7 @@ emit-requires c κs =
     (emits _ _ _ _ _ (pre .0) _ (pre .1) (pre .2 .0) _ _ (pre .2 .1) _ _ _ _ _ _ _ div, emit-room _ _ _ _ _ (pre .0) _ (pre .1) (pre .2 .0) _ _ (pre .2 .1) _ _ _ _ _ _ _ div)
 
 returns : tie.Need-returns
-returns c = 
+returns c =
     let a = c .before .before .before .before .before .before .before .before .before .before .before .before .before .before .before .before .before .before .before .before .before .args in
     let pre = c .before .before .before .before .before .before .before .before .before .before .before .before .before .before .before .before .before .before .before .before .before .pre in
     let noted = c .before .before .before .before .before .before .before .before .before .before .before .before .before .before .before .before .before .before .sources-noted in

@@ -19,7 +19,7 @@ emit-diverted-requires : tie.Need-emit-diverted-requires
 emit-diverted-requires c κs = c .before .before .before .before .before .before .before .before .before .before .pre
 
 returns : tie.Need-returns
-returns c = 
+returns c =
     let a = c .before .before .before .before .before .before .before .before .before .before .before .args in
     let pre = c .before .before .before .before .before .before .before .before .before .before .before .pre in
     let waits : true ≡ _ = sym (c .before .before .before .before .before .before .before .before .if1 .taken) ∙ c .before .before .before .before .before .before .before .before .before .has-open-writer .ensures (F (a .f .now)) in
@@ -29,13 +29,13 @@ kept-source-requires : tie.Need-kept-source-requires
 kept-source-requires c κs = let pre = c .before .before .before .pre in (pre .1, pre .0 .ready .kept .small .few)
 
 emit-requires : tie.Need-emit-requires
-emit-requires c κs = 
+emit-requires c κs =
     let a = c .before .before .before .before .before .before .before .before .args in
     let pre = c .before .before .before .before .before .before .before .before .pre in
     emits-source (a .t .now) (a .f .now) (a .cache .now) (a .e .now) (a .w .now) (pre .0) (a .m) (pre .1) (pre .2 .0) _ _ (pre .2 .1) _ (c .before .before .before .before .kept-source .ensures)
 
 returns-2 : tie.Need-returns-2
-returns-2 c = 
+returns-2 c =
     let a = c .before .before .before .before .before .before .before .before .before .args in
     let pre = c .before .before .before .before .before .before .before .before .before .pre in
     let plain : false ≡ _ = sym (c .before .before .before .before .before .before .if1 .left) ∙ c .before .before .before .before .before .before .before .has-open-writer .ensures (F (a .f .now)) in

@@ -31,7 +31,7 @@ loop-holds : tie.Need-loop-holds Inv-loop μ-loop
 loop-holds c = λ e marks p ok h. rw (c .len .ensures) (going-start _ _ _ e _ p _ _ h)
 
 undivert-row-requires : tie.Need-undivert-row-requires Inv-loop μ-loop
-undivert-row-requires c κs = 
+undivert-row-requires c κs =
     let a = c .before .before .before .before .before .before .before .args in
     let pre = c .before .before .before .before .before .before .before .pre in
     let l = c .before .before .before .before .before .loop in
@@ -39,7 +39,7 @@ undivert-row-requires c κs =
     (pre .0, pre .1, g .0, l .left - 1, pre .3, g .1)
 
 add-i : tie.Need-add-i Inv-loop μ-loop
-add-i c = 
+add-i c =
     let pre = c .before .before .before .before .before .before .before .before .pre in
     let g = c .before .before .before .before .before .before .loop .inv (pre .0) (pre .1) (pre .2) (pre .3) (pre .4) .lets in
     omega (arith, g .within, g .stands .room)
@@ -51,14 +51,14 @@ loop-less : tie.Need-loop-less Inv-loop μ-loop
 loop-less c = search needs
 
 loop-again : tie.Need-loop-again Inv-loop μ-loop
-loop-again c = 
+loop-again c =
     let a = c .before .before .before .before .before .before .before .before .args in
     let l = c .before .before .before .before .before .before .loop in
     let r = c .undivert-row in
     λ e marks p ok h. going-step _ _ _ e _ p (a .k) (work (a .edits .now) (a .available .now) (a .slots .now) (a .sources .now) (a .d .now) marks (a .c .now)) (l .i) (l .left) (l .q) (tables (l .edits) (l .available) (l .slots)) (l .d) (r .result) (tables (r .last .1 .1 .1 .1 .1 .1 .0) (r .last .1 .1 .1 .1 .0) (r .last .1 .1 .1 .1 .1 .1 .1 .0)) (r .last .1 .1 .1 .1 .1 .1 .1 .1 .0) (c .before .before .before .before .before .loop-test .taken) (l .inv e marks p ok h) (λ q g. r .ensures e marks q (l .left - 1) ok g)
 
 returns : tie.Need-returns Inv-loop μ-loop
-returns c = 
+returns c =
     let a = c .before .before .before .args in
     let l = c .before .loop in
     λ e marks p ok h. going-end _ _ _ e _ p (a .k) (work (a .edits .now) (a .available .now) (a .slots .now) (a .sources .now) (a .d .now) marks (a .c .now)) (l .i) (l .left) (l .q) (tables (l .edits) (l .available) (l .slots)) (l .d) (c .loop-test .left) (l .inv e marks p ok h)

@@ -21,14 +21,14 @@ row-value-requires : tie.Need-row-value-requires
 row-value-requires c κs = let pre = c .before .before .pre in omega (arith, pre .5 .within, pre .5 .stands .room)
 
 undivert-requires : tie.Need-undivert-requires
-undivert-requires c κs = 
+undivert-requires c κs =
     let a = c .before .before .before .before .before .before .before .args in
     let pre = c .before .before .before .before .before .before .before .pre in
     let here : moveAt (a .c .now) (a .i) ≡ a .m = sym (c .before .before .before .before .before .before .row-move .ensures) ∙ c .before .before .before .before .before .if1 .left in
     rw (c .before .before .before .before .row-value .ensures) (undivertible _ _ _ (pre .0) (pre .4) _ _ (pre .3) (pre .2) _ _ (pre .5) here)
 
 returns-2 : tie.Need-returns-2
-returns-2 c = 
+returns-2 c =
     let a = c .before .before .before .before .before .before .before .before .args in
     let here : moveAt (a .c .now) (a .i) ≡ a .m = sym (c .before .before .before .before .before .before .before .row-move .ensures) ∙ c .before .before .before .before .before .before .if1 .left in
     λ e marks p n ok h. row-undiverted (a .t .now) (a .f .now) (a .cache .now) e ok (a .m) (a .i) n p _ _ h here _ _ _ _ refl (rw (← c .before .before .before .before .before .row-value .ensures) (c .undivert .ensures))

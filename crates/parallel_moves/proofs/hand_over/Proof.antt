@@ -23,7 +23,7 @@ hand-out-requires : tie.Need-hand-out-requires
 hand-out-requires c κs = let pre = c .before .before .before .before .before .pre in (pre .few, pre .room)
 
 commit-requires : tie.Need-commit-requires
-commit-requires c κs = 
+commit-requires c κs =
     let pre = c .before .before .before .before .before .before .before .before .before .pre in
     (pre .put, pre .deep (omega (arith, c .before .before .before .before .before .before .before .slot-limit .ensures, c .before .before .before .before .before .before .wide .ensures, c .before .before .before .before .before .if1 .left)))
 

@@ -16,7 +16,7 @@ enum-known-n : tie.Need-enum-known-n
 enum-known-n c = search needs
 
 returns : tie.Need-returns
-returns c = 
+returns c =
     let a = c .before .before .before .before .before .args in
     let pre = c .before .before .before .before .before .pre in
     turned-away (a .t .now) (a .f .now) (a .cache .now) (a .e .now) (a .w .now) (a .list .now) (pre .0) (pre .1) (pre .2) (a .free .now) _ (λ p q. rw (c .before .n .given .1) at (c .before .before .before .refusal .ensures p q))
@@ -28,7 +28,7 @@ run-requires : tie.Need-run-requires
 run-requires c κs = c .before .before .before .before .before .before .before .before .before .before .before .before .pre
 
 hand-over-requires : tie.Need-hand-over-requires
-hand-over-requires c κs = 
+hand-over-requires c κs =
     let a = c .before .before .before .before .before .before .before .before .before .before .before .before .before .before .before .before .before .args in
     let pre = c .before .before .before .before .before .before .before .before .before .before .before .before .before .before .before .before .before .pre in
     let ran = c .before .before .before .before .run in
@@ -38,7 +38,7 @@ same-length : tie.Need-same-length
 same-length c = search needs
 
 returns-2 : tie.Need-returns-2
-returns-2 c = 
+returns-2 c =
     let a = c .before .before .before .before .before .before .before .before .before .before .before .before .before .before .before .before .before .before .before .before .args in
     let pre = c .before .before .before .before .before .before .before .before .before .before .before .before .before .before .before .before .before .before .before .before .pre in
     let ran = c .before .before .before .before .before .before .before .run in

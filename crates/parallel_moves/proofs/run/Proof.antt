@@ -32,7 +32,7 @@ made-requires : tie.Need-made-requires
 made-requires c κs = search needs
 
 remats-requires : tie.Need-remats-requires
-remats-requires c κs = 
+remats-requires c κs =
     let a = c .before .before .before .before .before .before .before .before .before .args in
     let pre = c .before .before .before .before .before .before .before .before .before .pre in
     let cleared = c .before .before .before .before .before .before .before .clear in
@@ -42,7 +42,7 @@ remats-requires c κs =
     (remats-fit _ _ (pre .0) _ _ (pre .1), remats-room (a .t .now) (a .f .now) (a .cache .now) (a .e .now) (a .w .now) (pre .0) (pre .1) (pre .2) (cleared .last .0) (begun .last .0) (made .result) (cleared .ensures .1) (cleared .ensures .2) (cleared .ensures .3) (begun .ensures) (made .ensures))
 
 remats-with-scratch-requires : tie.Need-remats-with-scratch-requires
-remats-with-scratch-requires c κs = 
+remats-with-scratch-requires c κs =
     let a = c .before .before .before .before .before .before .before .before .before .before .before .before .before .before .args in
     let pre = c .before .before .before .before .before .before .before .before .before .before .before .before .before .before .pre in
     let cleared = c .before .before .before .before .before .before .before .before .before .before .before .before .clear in
@@ -54,7 +54,7 @@ remats-with-scratch-requires c κs =
     (remats-ok _ _ (pre .0) _ _ (pre .1), scratch-room (a .t .now) (a .f .now) (a .cache .now) (a .e .now) (a .w .now) (pre .0) (pre .1) (pre .2) (cleared .last .0) (begun .last .0) (made .result) (cleared .ensures .1) (cleared .ensures .2) (cleared .ensures .3) (begun .ensures) (made .ensures) (a .free .now) (direct .result) (direct .last .1 .1 .1 .1 .0) (direct .last .1 .1 .1 .0) rematted)
 
 moves-requires : tie.Need-moves-requires
-moves-requires c κs = 
+moves-requires c κs =
     let a = c .before .before .before .before .before .before .before .before .before .before .before .before .before .before .before .before .before .before .before .before .before .before .args in
     let pre = c .before .before .before .before .before .before .before .before .before .before .before .before .before .before .before .before .before .before .before .before .before .before .pre in
     let cleared = c .before .before .before .before .before .before .before .before .before .before .before .before .before .before .before .before .before .before .before .before .clear in
@@ -67,7 +67,7 @@ moves-requires c κs =
     (given _ _ _ _ (pre .0) (pre .1), moves-room (a .t .now) (a .f .now) (a .cache .now) (a .e .now) (a .w .now) (pre .0) (pre .1) (pre .2) (cleared .last .0) (begun .last .0) (made .result) (cleared .ensures .1) (cleared .ensures .2) (cleared .ensures .3) (begun .ensures) (made .ensures) (a .free .now) (direct .result) (direct .last .1 .1 .1 .1 .0) (direct .last .1 .1 .1 .0) rematted (rebuilt .result) (tables (rebuilt .last .1 .1 .1 .1 .1 .1 .1 .0) (rebuilt .last .1 .1 .1 .1 .1 .0) (rebuilt .last .1 .1 .1 .1 .1 .1 .1 .1 .0)) (rebuilt .ensures))
 
 returns : tie.Need-returns
-returns c = 
+returns c =
     let a = c .before .before .before .before .before .before .before .before .before .before .before .before .before .before .before .before .before .before .before .before .before .before .before .args in
     let pre = c .before .before .before .before .before .before .before .before .before .before .before .before .before .before .before .before .before .before .before .before .before .before .before .pre in
     let cleared = c .before .before .before .before .before .before .before .before .before .before .before .before .before .before .before .before .before .before .before .before .before .clear in

@@ -39,7 +39,7 @@ note-requires : tie.Need-note-requires
 note-requires c κs = let pre = c .before .before .before .before .before .before .before .before .before .before .pre in omega (arith, pre .1, few-values _ _ (pre .0 .function))
 
 returns : tie.Need-returns
-returns c = 
+returns c =
     let a = c .before .before .before .before .before .before .before .before .before .before .before .args in
     let pre = c .before .before .before .before .before .before .before .before .before .before .before .pre in
     let d = a .d .now in
