@@ -182,36 +182,46 @@ module _ (slots : List ℕ) (long : length slots ≡ 32832) (z : ℕ) (low : z <
         fits = λ n g. fits-own (set slots (64 + z * 1024 + own) s) (length-set slots (64 + z * 1024 + own) s ∙ long) z low n (fits-word slots (64 + z * 1024 + own) s n (omega arith) g) (own + 1) (n + 1) (omega (arith, g .own z low)) (omega arith);
       }
 
--- ---- a patch begins: the stacks below z are the cache's
-abbrev pub Copied : List ℕ → List ℕ → ℕ → Type 0
-Copied slots cache z = (y : ℕ) → y < z → (leftOf slots y ≡ depthOf cache y) × (ownOf slots y ≡ 0)
+-- ---- cells copied: below n two tables have the same
+abbrev pub Alike : List ℕ → List ℕ → ℕ → Type 0
+Alike t u n = (y : ℕ) → y < n → getD t y 0 ≡ getD u y 0
 
-pub copied-more : (slots cache : List ℕ) (z : ℕ) → length slots ≡ 32832 → z < 32 → Copied slots cache z → Copied (set (set slots z (getD cache z 0)) (32 + z) 0) cache (z + 1)
-copied-more slots cache z long low k y h = go (eqb y z) refl
+pub alike-more : (t u : List ℕ) (n : ℕ) → n < length t → Alike t u n → Alike (set t n (getD u n 0)) u (n + 1)
+alike-more t u n low k y h = go (eqb y n) refl
   where
-    u : List ℕ
-    u = set slots z (getD cache z 0)
+    go : (b : Bool) → eqb y n ≡ b → getD (set t n (getD u n 0)) y 0 ≡ getD u y 0
+    go true e = rw (eqb-true y n e) (getD-set-same t n (getD u n 0) 0 low)
+    go false e = let q : y ≡ n → ⊥ = eqb-false y n e in let l : y < n = omega arith in getD-set-other t n y (getD u n 0) 0 q ∙ k y l
 
-    go : (b : Bool) → eqb y z ≡ b → (getD (set u (32 + z) 0) y 0 ≡ getD cache y 0) × (getD (set u (32 + z) 0) (32 + y) 0 ≡ 0)
-    go true e =
-        rw (eqb-true y z e)
-        (getD-set-other u (32 + z) z 0 0 (λ e. omega arith) ∙ getD-set-same slots z (getD cache z 0) 0 (omega arith), getD-set-same u (32 + z) 0 0 (omega (arith, length-set slots z (getD cache z 0))))
-    go false e =
-        let q : y ≡ z → ⊥ = eqb-false y z e in
-        let l : y < z = omega arith in
-        rw (getD-set-other u (32 + z) y 0 0 (λ e. omega arith), getD-set-other slots z y (getD cache z 0) 0 q, getD-set-other u (32 + z) (32 + y) 0 0 (λ e. q (omega arith)), getD-set-other slots z (32 + y) (getD cache z 0) 0 (λ e. omega arith))
-        (k y l)
+-- ---- a patch begins: the depths are copied, and of the cells after them those below z are 0
+pub record Beginning (slots cache : List ℕ) (z : ℕ) : Type 0 where
+  pub left : Alike slots cache 32
+  pub blank : (y : ℕ) → 32 ≤ y → y < z → getD slots y 0 ≡ 0
 
-pub began : (slots cache : List ℕ) → CacheFits cache → Copied slots cache 32 → Begun cache slots
+pub begin-start : (slots depths cache : List ℕ) → Alike slots depths 32 → Alike depths cache 32 → Beginning slots cache 32
+begin-start slots depths cache k d = record { left = λ y h. k y h ∙ d y h; blank = λ y l h. absurd (omega arith) }
+
+pub begin-more : (slots cache : List ℕ) (z : ℕ) → z < length slots → 32 ≤ z → Beginning slots cache z → Beginning (set slots z 0) cache (z + 1)
+begin-more slots cache z low past k =
+    record { left = λ y h. getD-set-other slots z y 0 0 (λ e. omega arith) ∙ k .left y h; blank = λ y l h. go y l h (eqb y z) refl }
+  where
+    go : (y : ℕ) → 32 ≤ y → y < z + 1 → (b : Bool) → eqb y z ≡ b → getD (set slots z 0) y 0 ≡ 0
+    go y l h true e = rw (eqb-true y z e) (getD-set-same slots z 0 0 low)
+    go y l h false e = let q : y ≡ z → ⊥ = eqb-false y z e in getD-set-other slots z y 0 0 q ∙ k .blank y l (omega arith)
+
+pub began : (slots cache : List ℕ) → CacheFits cache → Beginning slots cache 64 → Begun cache slots
 unfolding stacksOf cacheOf topFirst
 began slots cache f k =
     record {
       stacks = fun-ext (λ y. go y (ltb y 32) refl);
-      fits = record { left = λ y h. rw (k y h .0) (f .deep y h); own = λ y h. rw (k y h .1) (omega arith) };
+      fits = record { left = λ y h. rw (k .left y h) (f .deep y h); own = λ y h. rw (own y h) (omega arith) };
     }
   where
+    own : (y : ℕ) → y < 32 → ownOf slots y ≡ 0
+    own y h = k .blank (32 + y) (omega arith) (omega arith)
+
     go : (y : ℕ) (b : Bool) → ltb y 32 ≡ b → pick b (topFirst slots (64 + y * 1024) (ownOf slots y) ++ topFirst cache (64 + y * 2048) (leftOf slots y)) [] ≡ pick b (topFirst cache (64 + y * 2048) (depthOf cache y)) []
-    go y true e = let n = k y (ltb-true y 32 e) in rw (n .0, n .1)
+    go y true e = let h : y < 32 = ltb-true y 32 e in rw (k .left y h, own y h)
     go y false e = refl
 
 -- ---- a cache with no depths

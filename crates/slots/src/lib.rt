@@ -5,8 +5,8 @@ use entity::narrow;
 use entity::wide;
 ghost use mathlib.Core.Path.{_≡_};
 ghost use Prim.Native.Nat.{ℕ, _+_, _<_, _≤_};
-ghost use lib.ListN.{length};
-ghost use Rattle.slots.specs.Stacks.{cacheOf, leftOf, ownOf, stacksOf, CacheFits, SlotsFit};
+ghost use lib.ListN.{length, getD};
+ghost use Rattle.slots.specs.Stacks.{depthOf, cacheOf, leftOf, ownOf, stacksOf, CacheFits, SlotsFit};
 ghost use Rattle.slots.specs.Steps.{Cleared, Begun, Taken, PutBack, Settled, Committed};
 
 pub type SlotCache = [u16; 65600];
@@ -51,16 +51,33 @@ pub fn made(cache: &SlotCache) -> u16
     cache[32]
 }
 
+// The depths of the cache's stacks. A local array overlaps no table, so that they can be copied many at a time.
+fn depths_of(cache: &SlotCache) -> [u16; 32]
+    ensures { λ d. ⌜ (length d ≡ 32) × ((z : ℕ) → z < 32 → getD d z 0 ≡ depthOf (now (cache .entry)) z) ⌝ }
+{
+    let mut d = [0u16; 32];
+    let mut z: usize = 0;
+    while z < 32 {
+        d[z] = cache[z];
+        z += 1;
+    }
+    d
+}
+
 // A patch starts with the cache's stacks, of which it has changed nothing.
 pub fn begin(slots: &mut Slots, cache: &SlotCache)
     requires { ⌜ CacheFits (now cache) ⌝ }
     ensures { λ _. ⌜ Begun (now (cache .entry)) (now (slots .exit)) ⌝ }
 {
     told_slots(*slots);
+    let depths = depths_of(cache);
     let mut z: usize = 0;
     while z < 32 {
-        slots[z] = cache[z];
-        slots[32 + z] = 0;
+        slots[z] = depths[z];
+        z += 1;
+    }
+    while z < 64 {
+        slots[z] = 0;
         z += 1;
     }
 }
