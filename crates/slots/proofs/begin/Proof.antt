@@ -50,7 +50,7 @@ loop-less c = search needs
 loop-again : tie.Need-loop-again Inv-loop μ-loop Inv-loop2 μ-loop2
 loop-again c =
     let l = c .before .loop in
-    let long : length (l .slots) ≡ 32832 = l .inv .1 ∙ c .before .before .before .told-slots .ensures in
+    let long : length (l .slots) ≡ 32834 = l .inv .1 ∙ c .before .before .before .told-slots .ensures in
     (omega arith, simp length-set (l .inv .1), alike-more (l .slots) (c .before .before .depths-of .result) (l .z) (omega arith) (l .inv .2))
 
 loop2-holds : tie.Need-loop2-holds Inv-loop μ-loop Inv-loop2 μ-loop2
@@ -75,15 +75,21 @@ loop2-less c = search needs
 loop2-again : tie.Need-loop2-again Inv-loop μ-loop Inv-loop2 μ-loop2
 loop2-again c =
     let l = c .before .loop2 in
-    let long : length (l .slots) ≡ 32832 = l .inv .2 ∙ c .before .before .before .loop .inv .1 ∙ c .before .before .before .before .before .told-slots .ensures in
+    let long : length (l .slots) ≡ 32834 = l .inv .2 ∙ c .before .before .before .loop .inv .1 ∙ c .before .before .before .before .before .told-slots .ensures in
     (omega arith, omega arith, simp length-set (l .inv .2), begin-more (l .slots) (c .before .before .before .before .before .before .before .args .cache .now) (l .z) (omega arith) (l .inv .0) (l .inv .3))
+
+element-write-slots-3 : tie.Need-element-write-slots-3 Inv-loop μ-loop Inv-loop2 μ-loop2
+element-write-slots-3 c = search needs
+
+element-write-slots-4 : tie.Need-element-write-slots-4 Inv-loop μ-loop Inv-loop2 μ-loop2
+element-write-slots-4 c = search needs
 
 returns : tie.Need-returns Inv-loop μ-loop Inv-loop2 μ-loop2
 returns c =
     let s = c .before .before .before .before .before .before .before in
     let l = c .before .loop2 in
     let e : l .z ≡ 64 = omega arith in
-    began (l .slots) (s .args .cache .now) (s .pre) (rw e at (l .inv .3))
+    began (l .slots) (s .args .cache .now) (l .inv .2 ∙ c .before .before .before .loop .inv .1 ∙ c .before .before .before .before .before .told-slots .ensures) (s .pre) (rw e at (l .inv .3))
 
 pub begin-spec : {M : Type 1} → statement M
 begin-spec =
@@ -109,4 +115,6 @@ begin-spec =
     add-z-2
     loop2-less
     loop2-again
+    element-write-slots-3
+    element-write-slots-4
     returns)
