@@ -62,4 +62,4 @@ module _ (t : List ℕ) (k : ScratchAllocator) (edits : List ℕ) (available : L
 pub rematted-fits : {a b n : ℕ} {t : List ℕ} {l : List Remat} {k k′ : ScratchAllocator} {edits edits′ slots cache : List ℕ} {available available′ : List Bool} → Rematted t l k edits available k′ edits′ available′ → Fits a b (n + length l) t k edits slots cache
     → Fits (a + length l) (b + length l) n t k′ edits′ slots cache
 rematted-fits h f =
-    rw (h .kept) (record { few = omega (arith, h .count, f .few); most = f .most; put = f .put; own = omega (arith, h .count, f .own); made = omega (arith, h .count, f .made); stacked = f .stacked; held = f .held; written = h .written (f .written) })
+    rw (h .kept) (record { few = omega (arith, h .count, f .few); most = f .most; put = f .put; own = omega (arith, h .count, f .own); made = omega (arith, h .count, f .made); stacked = f .stacked; held = f .held; written = h .written (f .written); untouched = f .untouched })

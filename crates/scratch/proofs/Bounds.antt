@@ -62,11 +62,11 @@ module _ {a b n : ℕ} {t : List ℕ} {k : ScratchAllocator} {edits slots cache 
   -- what a smaller step asks
   pub fewer : {a′ b′ n′ : ℕ} → a′ ≤ a → b′ ≤ b → n′ ≤ n → Fits a b n t k edits slots cache → Fits a′ b′ n′ t k edits slots cache
   fewer p q r h =
-      record { few = omega arith; most = h .most; put = h .put; own = omega arith; made = omega arith; stacked = h .stacked; held = h .held; written = h .written }
+      record { few = omega arith; most = h .most; put = h .put; own = omega arith; made = omega arith; stacked = h .stacked; held = h .held; written = h .written; untouched = h .untouched }
 
   -- the room that a sharper count leaves
   pub refit : (m : ℕ) → countOf edits + owed (k .evicted) + m ≤ 1024 → Fits a b n t k edits slots cache → Fits a b m t k edits slots cache
-  refit m l h = record { few = l; most = h .most; put = h .put; own = h .own; made = h .made; stacked = h .stacked; held = h .held; written = h .written }
+  refit m l h = record { few = l; most = h .most; put = h .put; own = h .own; made = h .made; stacked = h .stacked; held = h .held; written = h .written; untouched = h .untouched }
 
   pub stocked : Fits a b n t k edits slots cache → Stocked k slots cache
   stocked h = record { put = fits-more (h .most) 1024 slots (omega arith) (h .put); made = omega arith; stacked = h .stacked }
@@ -74,7 +74,7 @@ module _ {a b n : ℕ} {t : List ℕ} {k : ScratchAllocator} {edits slots cache 
   -- an edit made
   pub pushed : {a′ b′ n′ : ℕ} {edits′ : List ℕ} → a′ ≤ a + 1 → b′ ≤ b + 1 → n′ + 1 ≤ n → countOf edits′ ≡ countOf edits + 1 → (Written edits → Written edits′) → Fits a b n t k edits slots cache → Fits a′ b′ n′ t k edits′ slots cache
   pushed p q r e o h =
-      record { few = omega arith; most = h .most; put = h .put; own = omega arith; made = omega arith; stacked = h .stacked; held = h .held; written = o (h .written) }
+      record { few = omega arith; most = h .most; put = h .put; own = omega arith; made = omega arith; stacked = h .stacked; held = h .held; written = o (h .written); untouched = h .untouched }
 
   -- a slot put back
   pub put-back : {slots′ : List ℕ} {z s : ℕ} → PutBack slots slots′ z s → s < 8192 → Fits (a + 1) b n t k edits slots cache → Fits a b n t k edits slots′ cache
@@ -88,6 +88,7 @@ module _ {a b n : ℕ} {t : List ℕ} {k : ScratchAllocator} {edits slots cache 
         stacked = rw (p .stacks cache) (stacked-updated (stacksOf slots cache) z (s ∷ stacksOf slots cache z) (low-more s _ l (h .stacked z)) (h .stacked));
         held = h .held;
         written = h .written;
+        untouched = p .untouched cache (h .untouched);
       }
 
   -- a slot taken from a stack
@@ -102,24 +103,25 @@ module _ {a b n : ℕ} {t : List ℕ} {k : ScratchAllocator} {edits slots cache 
         stacked = rw (p .stacks) (stacked-without (stacksOf slots cache z) z (stacksOf slots cache) (h .stacked z) (h .stacked));
         held = h .held;
         written = h .written;
+        untouched = p .untouched (h .untouched);
       }
 
 -- a slot made
 pub one-made : {a b n m : ℕ} {v : Evicted} {t edits slots cache : List ℕ} → Fits a (b + 1) n t (record { evicted = v; made = m }) edits slots cache → Fits a b n t (record { evicted = v; made = m + 1 }) edits slots cache
 one-made h =
-    record { few = omega arith; most = h .most; put = h .put; own = omega arith; made = omega arith; stacked = h .stacked; held = h .held; written = h .written }
+    record { few = omega arith; most = h .most; put = h .put; own = omega arith; made = omega arith; stacked = h .stacked; held = h .held; written = h .written; untouched = h .untouched }
 
 -- the evicted register no longer held, and another one held
 module _ {a b n z : ℕ} {r : PhysReg} {s : SpillSlot} {t : List ℕ} {k : ScratchAllocator} {edits slots cache : List ℕ} where
   pub let-go : k .evicted ≡ Held r s z → Fits a b n t k edits slots cache → Fits a b (n + 1) t (record { evicted = Nothing; made = k .made }) edits slots cache
   let-go e h =
       let q : owed (k .evicted) ≡ 1 = rw e in
-      record { few = omega arith; most = h .most; put = h .put; own = omega arith; made = omega arith; stacked = h .stacked; held = tt; written = h .written }
+      record { few = omega arith; most = h .most; put = h .put; own = omega arith; made = omega arith; stacked = h .stacked; held = tt; written = h .written; untouched = h .untouched }
 
   pub hold : k .evicted ≡ Nothing → HeldFits (T t) (Held r s z) → Fits a b (n + 1) t k edits slots cache → Fits a b n t (record { evicted = Held r s z; made = k .made }) edits slots cache
   hold e f h =
       let q : owed (k .evicted) ≡ 0 = rw e in
-      record { few = omega arith; most = h .most; put = h .put; own = omega arith; made = omega arith; stacked = h .stacked; held = f; written = h .written }
+      record { few = omega arith; most = h .most; put = h .put; own = omega arith; made = omega arith; stacked = h .stacked; held = f; written = h .written; untouched = h .untouched }
 
   pub held-fits : k .evicted ≡ Held r s z → Fits a b n t k edits slots cache → HeldFits (T t) (Held r s z)
   held-fits e h = rw e at (h .held)

@@ -218,12 +218,12 @@ module _ (t f cache : List ℕ) where
     unfolding moveEdits
     moved-at-once k w e m p = record { is = rw (m, p .0); fits = λ a b n g. pushed (omega arith) (omega arith) (omega arith) (p .1) (p .2) g }
 
-    pub moved-marked : (k k₁ k₂ k₃ k₄ k₅ : ScratchAllocator) (w w₁ w₂ w₃ : Tables) (a₁ a₂ : List Bool) → Brought t f cache k w k₁ w₁ (unevictForReg (T t) (F f) from) → Brought t f cache k₁ w₁ k₂ w₂ (unevictForReg (T t) (F f) to) → Moved t f cache k₂ w₂ k₃ w₃ (moveEdits (T t) (F f) b to from v) → k₄ ≡ k₃ → allocatorOf k₄ (w₃ .edits) a₁ (w₃ .slots) cache ≡ makeAvailable (T t) (F f) to (stateOf t f cache k₃ w₃) → k₅ ≡ k₄ → allocatorOf k₅ (w₃ .edits) a₂ (w₃ .slots) cache ≡ makeUnavailable (T t) (F f) from (allocatorOf k₄ (w₃ .edits) a₁ (w₃ .slots) cache) → Moved t f cache k w k₅ (tables (w₃ .edits) a₂ (w₃ .slots)) (doMove (T t) (F f) b to from v)
+    pub moved-marked : (k k₁ k₂ k₃ k₄ : ScratchAllocator) (w w₁ w₂ w₃ : Tables) (l : List Bool) → Brought t f cache k w k₁ w₁ (unevictForReg (T t) (F f) from) → Brought t f cache k₁ w₁ k₂ w₂ (unevictForReg (T t) (F f) to) → Moved t f cache k₂ w₂ k₃ w₃ (moveEdits (T t) (F f) b to from v) → k₄ ≡ k₃ → allocatorOf k₄ (w₃ .edits) l (w₃ .slots) cache ≡ makeUnavailable (T t) (F f) from (makeAvailable (T t) (F f) to (stateOf t f cache k₃ w₃)) → Moved t f cache k w k₄ (tables (w₃ .edits) l (w₃ .slots)) (doMove (T t) (F f) b to from v)
     unfolding doMove andThen
-    moved-marked k k₁ k₂ k₃ k₄ k₅ w w₁ w₂ w₃ a₁ a₂ h g m p x q y =
+    moved-marked k k₁ k₂ k₃ k₄ w w₁ w₂ w₃ l h g m p x =
         record {
-          is = rw (← h .is, ← g .is, m .is) (ap some (sym (y ∙ ap (makeUnavailable (T t) (F f) from) x)));
-          fits = λ a b n i. rw (q ∙ p) (m .fits a b n (g .fits a (b + 1) (n + 4) (h .fits a (b + 1) (n + 4) i)));
+          is = rw (← h .is, ← g .is, m .is) (ap some (sym x));
+          fits = λ a b n i. rw p (m .fits a b n (g .fits a (b + 1) (n + 4) (h .fits a (b + 1) (n + 4) i)));
         }
 
   -- units marked

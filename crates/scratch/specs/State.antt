@@ -14,7 +14,7 @@ use Rattle.function.specs.Table.{functionOf}
 use Rattle.small_set.specs.Set.{setOf}
 use Rattle.rules.specs.Scratch as rules
 use Rattle.edit.specs.Buffer.{countOf, editsOf, Written}
-use Rattle.slots.specs.Stacks.{stacksOf, SlotsFit}
+use Rattle.slots.specs.Stacks.{stacksOf, SlotsFit, Untouched}
 use Rattle.scratch.specs.declared.Evicted.{Evicted}
 use Rattle.scratch.specs.declared.Evicted.the-variants.{Nothing, Held}
 use Rattle.scratch.specs.declared.ScratchAllocator.{ScratchAllocator}
@@ -70,6 +70,7 @@ pub record Fits (a b n : ℕ) (t : List ℕ) (k : ScratchAllocator) (edits slots
   pub stacked : Stacked (stacksOf slots cache)
   pub held : HeldFits (T t) (k .evicted)
   pub written : Written edits
+  pub untouched : Untouched cache slots
 
 -- a place that an edit can name
 pub record PlaceFits (t : List ℕ) (code : ℕ) : Type 0 where

@@ -422,6 +422,21 @@ impl ScratchAllocator {
         self
     }
 
+    // Marks the units of a move's ends.
+    fn mark_ends(
+        mut self,
+        t: &RegInfo,
+        available: &mut RegUnitSet,
+        to: Allocation,
+        from: Allocation,
+    ) -> Self
+        requires { ⌜ KnownPlace (T (now t)) (placeAt (to .0)) × KnownPlace (T (now t)) (placeAt (from .0)) ⌝ }
+        ensures { λ r. ⌜ (r ≡ self) × ((f cache edits slots : List ℕ) → allocatorOf r edits (now (available .exit)) slots cache ≡ makeUnavailable (T (now (t .entry))) (F f) (placeAt (from .0)) (makeAvailable (T (now (t .entry))) (F f) (placeAt (to .0)) (allocatorOf self edits (now (available .entry)) slots cache))) ⌝ }
+    {
+        let marked = self.make_available(t, available, to);
+        marked.make_unavailable(t, available, from)
+    }
+
     // Emits a move, and marks the units of its ends.
     pub fn do_move(
         mut self,
@@ -442,21 +457,25 @@ impl ScratchAllocator {
     {
         let first = self.unevict_for_reg(t, f, cache, edits, slots, from);
         let then = first.unevict_for_reg(t, f, cache, edits, slots, to);
-        let moved = then.move_edits(
-            t,
-            f,
-            cache,
-            available,
-            sources,
-            edits,
-            slots,
-            b,
-            to,
-            from,
-            v,
-        );
-        let marked = moved.make_available(t, available, to);
-        marked.make_unavailable(t, available, from)
+        let through = both_memory(t, to, from);
+        if through {
+            let moved = then.through_scratch(
+                t,
+                f,
+                cache,
+                available,
+                sources,
+                edits,
+                slots,
+                b,
+                to,
+                from,
+                v,
+            );
+            return moved.mark_ends(t, available, to, from);
+        }
+        edit::push_move(edits, to, from, v);
+        then.mark_ends(t, available, to, from)
     }
 
     // Puts a scratch back if it is a slot.

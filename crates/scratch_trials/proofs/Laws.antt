@@ -39,7 +39,7 @@ started available edits slots cache a e n o cleared begun =
     let stacks : stacksOf slots cache ≡ (λ z. []) = begun .stacks ∙ ap (λ c. c .stacks) (cleared .empty) in
     record {
       is = rw (a, e, stacks);
-      fits = λ t. record { few = omega (arith, n); most = 0; put = begun .fits; own = omega arith; made = omega arith; stacked = rw stacks none-stacked; held = tt; written = o };
+      fits = λ t. record { few = omega (arith, n); most = 0; put = begun .fits; own = omega arith; made = omega arith; stacked = rw stacks none-stacked; held = tt; written = o; untouched = begun .untouched };
     }
 
 pub slot-zero : (t : List ℕ) → PlaceFits t 0

@@ -13,8 +13,8 @@ use borrow.Author.Tests.{eqb-true, eqb-false, lt-ltb, le-ltb, ltb-true, ltb-fals
 use Rattle.entity.specs.Logic.{pick}
 use Rattle.rules.specs.Edit.{updated}
 use Rattle.slots.specs.declared.Popped.the-variants.{At, Empty}
-use Rattle.slots.specs.Stacks.{topFirst, depthOf, leftOf, ownOf, cacheOf, stacksOf, CacheFits, SlotsFit}
-use Rattle.slots.specs.Steps.{Cleared, Begun, Taken, PutBack, Settled, Committed}
+use Rattle.slots.specs.Stacks.{topFirst, depthOf, leftOf, ownOf, lowOf, highOf, cacheOf, stacksOf, CacheFits, SlotsFit, Unchanged, Untouched}
+use Rattle.slots.specs.Steps.{Cleared, Begun, Touched, Taken, PutBack, Settled, Committed}
 
 -- ---- cells, the last first
 pub top-step : (t : List ℕ) (at n : ℕ) → 0 < n → topFirst t at n ≡ getD t (at + (n - 1)) 0 ∷ topFirst t at (n - 1)
@@ -80,7 +80,7 @@ updated-by f g z l e n = fun-ext (λ y. go y (eqb y z) refl)
 pub fits-more : (n m : ℕ) (slots : List ℕ) → n ≤ m → SlotsFit n slots → SlotsFit m slots
 fits-more n m slots h f = record { left = f .left; own = λ y l. omega (arith, f .own y l) }
 
-module _ (slots : List ℕ) (long : length slots ≡ 32832) (z : ℕ) (low : z < 32) (n : ℕ) (f : SlotsFit n slots) where
+module _ (slots : List ℕ) (long : length slots ≡ 32834) (z : ℕ) (low : z < 32) (n : ℕ) (f : SlotsFit n slots) where
   fits-own : (v m : ℕ) → v ≤ m → n ≤ m → SlotsFit m (set slots (32 + z) v)
   fits-own v m a b =
       record {
@@ -112,8 +112,56 @@ fits-word slots i v n h f =
       own = λ y l. rw (getD-set-other slots i (32 + y) v 0 (λ e. omega arith)) (f .own y l);
     }
 
+-- ---- the range of stacks that the patch has changed
+lesser-low : (a b : ℕ) → (pick (ltb a b) a b ≤ a) × (pick (ltb a b) a b ≤ b)
+lesser-low a b = go (ltb a b) refl
+  where
+    go : (c : Bool) → ltb a b ≡ c → (pick c a b ≤ a) × (pick c a b ≤ b)
+    go true e = let h : a < b = ltb-true a b e in (omega arith, omega arith)
+    go false e = let h : b ≤ a = ltb-false a b e in (omega arith, omega arith)
+
+greater-high : (a b n : ℕ) → a ≤ n → b ≤ n → (a ≤ pick (ltb a b) b a) × (b ≤ pick (ltb a b) b a) × (pick (ltb a b) b a ≤ n)
+greater-high a b n p q = go (ltb a b) refl
+  where
+    go : (c : Bool) → ltb a b ≡ c → (a ≤ pick c b a) × (b ≤ pick c b a) × (pick c b a ≤ n)
+    go true e = let h : a < b = ltb-true a b e in (omega arith, omega arith, omega arith)
+    go false e = let h : b ≤ a = ltb-false a b e in (omega arith, omega arith, omega arith)
+
+pub touched : (slots : List ℕ) (z a b : ℕ) → length slots ≡ 32834 → a ≡ pick (ltb (lowOf slots) z) (lowOf slots) z → b ≡ pick (ltb (highOf (set slots 32832 a)) (z + 1)) (z + 1) (highOf (set slots 32832 a)) → Touched slots (set (set slots 32832 a) 32833 b) z
+touched slots z a b long p q =
+    let u = set slots 32832 a in
+    record {
+      low = getD-set-other u 32833 32832 b 0 (λ e. omega arith) ∙ getD-set-same slots 32832 a 0 (omega arith) ∙ p;
+      high = getD-set-same u 32833 b 0 (omega (arith, length-set slots 32832 a)) ∙ rw (← getD-set-other slots 32832 32833 a 0 (λ e. omega arith)) q;
+      rest = λ i h. getD-set-other u 32833 i b 0 (λ e. omega arith) ∙ getD-set-other slots 32832 i a 0 (λ e. omega arith);
+    }
+
+module _ (slots exit : List ℕ) (z : ℕ) (t : Touched slots exit z) where
+  touched-fits : (n : ℕ) → SlotsFit n slots → SlotsFit n exit
+  touched-fits n f = record { left = λ y l. rw (t .rest y (omega arith)) (f .left y l); own = λ y l. rw (t .rest (32 + y) (omega arith)) (f .own y l) }
+
+  touched-stacks : (cache : List ℕ) → SlotsFit 1024 slots → stacksOf exit cache ≡ stacksOf slots cache
+  touched-stacks cache f =
+      fun-ext
+      (λ y. stacks-by exit slots cache y
+      (λ l. rw (stacks-in exit cache y l, stacks-in slots cache y l, t .rest (32 + y) (omega arith), t .rest y (omega arith), top-same exit slots (64 + y * 1024) (ownOf slots y) (λ j h. t .rest (64 + y * 1024 + j) (omega (arith, f .own y l))))))
+
+  -- where only stack z has changed since
+  touched-range : (cache first : List ℕ) → z < 32 → lowOf slots ≡ lowOf first → highOf slots ≡ highOf first → ((y : ℕ) → y < 32 → (y ≡ z → ⊥) → (leftOf slots y ≡ leftOf first y) × (ownOf slots y ≡ ownOf first y)) → Untouched cache first → Untouched cache exit
+  touched-range cache first low p q same u =
+      let a = lesser-low (lowOf slots) z in
+      let b = greater-high (highOf slots) (z + 1) 32 (omega (arith, u .high)) (omega arith) in
+      record {
+        high = rw (t .high) (b .2);
+        below = λ y l h. kept y l (λ e. omega (arith, t .low, a .1)) (u .below y l (omega (arith, t .low, a .0)));
+        above = λ y l h. kept y l (λ e. omega (arith, t .high, b .1)) (u .above y l (omega (arith, t .high, b .0)));
+      }
+    where
+      kept : (y : ℕ) → y < 32 → (y ≡ z → ⊥) → Unchanged cache first y → Unchanged cache exit y
+      kept y l n k = let m = same y l n in (t .rest y (omega arith) ∙ m .0 ∙ k .0, t .rest (32 + y) (omega arith) ∙ m .1 ∙ k .1)
+
 -- ---- a slot is taken
-module _ (slots cache : List ℕ) (long : length slots ≡ 32832) (z : ℕ) (low : z < 32) where
+module _ (slots cache : List ℕ) (long : length slots ≡ 32834) (z : ℕ) (low : z < 32) where
   module _ (own : ℕ) (is : own ≡ ownOf slots z) (some : 0 < own) where
     own-top : stacksOf slots cache z ≡ getD slots (64 + z * 1024 + (own - 1)) 0 ∷ (topFirst slots (64 + z * 1024) (own - 1) ++ topFirst cache (64 + z * 2048) (leftOf slots z))
     own-top = rw (stacks-in slots cache z low, ← is, top-step slots (64 + z * 1024) own some)
@@ -122,6 +170,22 @@ module _ (slots cache : List ℕ) (long : length slots ≡ 32832) (z : ℕ) (low
     own-here =
         rw (stacks-in (set slots (32 + z) (own - 1)) cache z low, getD-set-same slots (32 + z) (own - 1) 0 (omega arith), getD-set-other slots (32 + z) z (own - 1) 0 (λ e. omega arith))
         (ap (λ (l : List ℕ). l ++ topFirst cache (64 + z * 2048) (leftOf slots z)) (top-set slots (32 + z) (own - 1) (64 + z * 1024) (own - 1) (λ j h e. omega arith)))
+
+    -- a stack on which something was put back lies in the range
+    own-range : (v : ℕ) → Untouched cache slots → Untouched cache (set slots (32 + z) v)
+    own-range v u =
+        let l : lowOf (set slots (32 + z) v) ≡ lowOf slots = getD-set-other slots (32 + z) 32832 v 0 (λ e. omega arith) in
+        let h : highOf (set slots (32 + z) v) ≡ highOf slots = getD-set-other slots (32 + z) 32833 v 0 (λ e. omega arith) in
+        record {
+          high = rw h (u .high);
+          below = λ y b q. kept y b (u .below y b (omega arith));
+          above = λ y b q. kept y b (u .above y b (omega arith));
+        }
+      where
+        kept : (y : ℕ) → y < 32 → Unchanged cache slots y → Unchanged cache (set slots (32 + z) v) y
+        kept y b k =
+            let q : y ≡ z → ⊥ = λ e. omega (arith, k .1, ap (λ (x : ℕ). ownOf slots x) e) in
+            (getD-set-other slots (32 + z) y v 0 (λ e. omega arith) ∙ k .0, getD-set-other slots (32 + z) (32 + y) v 0 (λ e. q (omega arith)) ∙ k .1)
 
     pub took-own : Taken slots cache (set slots (32 + z) (own - 1)) z (At (getD (set slots (32 + z) (own - 1)) (64 + z * 1024 + (own - 1)) 0))
     took-own =
@@ -132,6 +196,7 @@ module _ (slots cache : List ℕ) (long : length slots ≡ 32832) (z : ℕ) (low
               (updated-by (stacksOf (set slots (32 + z) (own - 1)) cache) (stacksOf slots cache) z (topFirst slots (64 + z * 1024) (own - 1) ++ topFirst cache (64 + z * 2048) (leftOf slots z)) own-here
               (λ y q. stacks-set slots cache (32 + z) (own - 1) y (λ l. ((λ e. omega arith), (λ e. q (omega arith)), (λ j h e. omega arith)))));
           fits = λ n f. fits-own slots long z low n f (own - 1) n (omega (arith, f .own z low)) (omega arith);
+          untouched = own-range (own - 1);
         }
 
   module _ (none : ownOf slots z ≡ 0) (left : ℕ) (is : left ≡ leftOf slots z) where
@@ -144,26 +209,34 @@ module _ (slots cache : List ℕ) (long : length slots ≡ 32832) (z : ℕ) (low
     left-here =
         rw (stacks-in (set slots z (left - 1)) cache z low, getD-set-same slots z (left - 1) 0 (omega arith), getD-set-other slots z (32 + z) (left - 1) 0 (λ e. omega arith), none)
 
-    pub took-left : 0 < left → Taken slots cache (set slots z (left - 1)) z (At (getD cache (64 + z * 2048 + (left - 1)) 0))
-    took-left some =
+    left-fits : (n : ℕ) → SlotsFit n slots → SlotsFit n (set slots z (left - 1))
+    left-fits n f = fits-left slots long z low n f (left - 1) (omega (arith, f .left z low))
+
+    pub took-left : (exit : List ℕ) → 0 < left → SlotsFit 1024 slots → Touched (set slots z (left - 1)) exit z → Taken slots cache exit z (At (getD cache (64 + z * 2048 + (left - 1)) 0))
+    took-left exit some f t =
+        let u = set slots z (left - 1) in
         let top : stacksOf slots cache z ≡ getD cache (64 + z * 2048 + (left - 1)) 0 ∷ topFirst cache (64 + z * 2048) (left - 1) = left-stack ∙ top-step cache (64 + z * 2048) left some in
         record {
           got = rw top;
           stacks =
               rw top
-              (updated-by (stacksOf (set slots z (left - 1)) cache) (stacksOf slots cache) z (topFirst cache (64 + z * 2048) (left - 1)) left-here
+              (touched-stacks u exit z t cache (left-fits 1024 f)
+              ∙ updated-by (stacksOf u cache) (stacksOf slots cache) z (topFirst cache (64 + z * 2048) (left - 1)) left-here
               (λ y q. stacks-set slots cache z (left - 1) y (λ l. (q, (λ e. omega arith), (λ j h e. omega arith)))));
-          fits = λ n f. fits-left slots long z low n f (left - 1) (omega (arith, f .left z low));
+          fits = λ n f. touched-fits u exit z t n (left-fits n f);
+          untouched =
+              touched-range u exit z t cache slots low (getD-set-other slots z 32832 (left - 1) 0 (λ e. omega arith)) (getD-set-other slots z 32833 (left - 1) 0 (λ e. omega arith))
+              (λ y l q. (getD-set-other slots z y (left - 1) 0 q, getD-set-other slots z (32 + y) (left - 1) 0 (λ e. omega arith)));
         }
 
     pub took-none : left ≡ 0 → Taken slots cache slots z Empty
     unfolding topFirst
     took-none e =
         let top : stacksOf slots cache z ≡ [] = left-stack ∙ ap (topFirst cache (64 + z * 2048)) e in
-        record { got = rw top; stacks = rw top; fits = λ n f. f }
+        record { got = rw top; stacks = rw top; fits = λ n f. f; untouched = λ u. u }
 
 -- ---- a slot is put back
-module _ (slots : List ℕ) (long : length slots ≡ 32832) (z : ℕ) (low : z < 32) (f : SlotsFit 1024 slots) (own s : ℕ) (is : own ≡ ownOf slots z) (room : own < 1024) where
+module _ (slots : List ℕ) (long : length slots ≡ 32834) (z : ℕ) (low : z < 32) (f : SlotsFit 1024 slots) (own s : ℕ) (is : own ≡ ownOf slots z) (room : own < 1024) where
   put-here : (cache : List ℕ) → stacksOf (set (set slots (64 + z * 1024 + own) s) (32 + z) (own + 1)) cache z ≡ s ∷ stacksOf slots cache z
   put-here cache =
       let base = 64 + z * 1024 in
@@ -175,44 +248,78 @@ module _ (slots : List ℕ) (long : length slots ≡ 32832) (z : ℕ) (low : z <
       stacks-set (set slots (64 + z * 1024 + own) s) cache (32 + z) (own + 1) y (λ l. ((λ e. omega arith), (λ e. q (omega arith)), (λ j h e. omega arith)))
       ∙ stacks-set slots cache (64 + z * 1024 + own) s y (λ l. ((λ e. omega arith), (λ e. omega arith), (λ j h e. let m : ownOf slots y ≤ 1024 = f .own y l in q (omega arith))))
 
-  pub put : PutBack slots (set (set slots (64 + z * 1024 + own) s) (32 + z) (own + 1)) z s
-  put =
+  put-fits : (n m : ℕ) → own + 1 ≤ m → n ≤ m → SlotsFit n slots → SlotsFit m (set (set slots (64 + z * 1024 + own) s) (32 + z) (own + 1))
+  put-fits n m a b g =
+      fits-own (set slots (64 + z * 1024 + own) s) (length-set slots (64 + z * 1024 + own) s ∙ long) z low n (fits-word slots (64 + z * 1024 + own) s n (omega arith) g) (own + 1) m a b
+
+  put-elsewhere : (i : ℕ) → (i ≡ 32 + z → ⊥) → (i ≡ 64 + z * 1024 + own → ⊥) → getD (set (set slots (64 + z * 1024 + own) s) (32 + z) (own + 1)) i 0 ≡ getD slots i 0
+  put-elsewhere i a b = getD-set-other (set slots (64 + z * 1024 + own) s) (32 + z) i (own + 1) 0 a ∙ getD-set-other slots (64 + z * 1024 + own) i s 0 b
+
+  pub put : (exit : List ℕ) → Touched (set (set slots (64 + z * 1024 + own) s) (32 + z) (own + 1)) exit z → PutBack slots exit z s
+  put exit t =
+      let u = set (set slots (64 + z * 1024 + own) s) (32 + z) (own + 1) in
       record {
-        stacks = λ cache. updated-by (stacksOf (set (set slots (64 + z * 1024 + own) s) (32 + z) (own + 1)) cache) (stacksOf slots cache) z (s ∷ stacksOf slots cache z) (put-here cache) (put-other cache);
-        fits = λ n g. fits-own (set slots (64 + z * 1024 + own) s) (length-set slots (64 + z * 1024 + own) s ∙ long) z low n (fits-word slots (64 + z * 1024 + own) s n (omega arith) g) (own + 1) (n + 1) (omega (arith, g .own z low)) (omega arith);
+        stacks = λ cache. touched-stacks u exit z t cache (put-fits 1024 1024 (omega arith) (omega arith) f) ∙ updated-by (stacksOf u cache) (stacksOf slots cache) z (s ∷ stacksOf slots cache z) (put-here cache) (put-other cache);
+        fits = λ n g. touched-fits u exit z t (n + 1) (put-fits n (n + 1) (omega (arith, g .own z low)) (omega arith) g);
+        untouched = λ cache.
+            touched-range u exit z t cache slots low (put-elsewhere 32832 (λ e. omega arith) (λ e. omega arith)) (put-elsewhere 32833 (λ e. omega arith) (λ e. omega arith))
+            (λ y l q. (put-elsewhere y (λ e. omega arith) (λ e. omega arith), put-elsewhere (32 + y) (λ e. q (omega arith)) (λ e. omega arith)));
       }
 
--- ---- a patch begins: the stacks below z are the cache's
-abbrev pub Copied : List ℕ → List ℕ → ℕ → Type 0
-Copied slots cache z = (y : ℕ) → y < z → (leftOf slots y ≡ depthOf cache y) × (ownOf slots y ≡ 0)
+-- ---- cells copied: below n two tables have the same
+abbrev pub Alike : List ℕ → List ℕ → ℕ → Type 0
+Alike t u n = (y : ℕ) → y < n → getD t y 0 ≡ getD u y 0
 
-pub copied-more : (slots cache : List ℕ) (z : ℕ) → length slots ≡ 32832 → z < 32 → Copied slots cache z → Copied (set (set slots z (getD cache z 0)) (32 + z) 0) cache (z + 1)
-copied-more slots cache z long low k y h = go (eqb y z) refl
+pub alike-more : (t u : List ℕ) (n : ℕ) → n < length t → Alike t u n → Alike (set t n (getD u n 0)) u (n + 1)
+alike-more t u n low k y h = go (eqb y n) refl
   where
-    u : List ℕ
-    u = set slots z (getD cache z 0)
+    go : (b : Bool) → eqb y n ≡ b → getD (set t n (getD u n 0)) y 0 ≡ getD u y 0
+    go true e = rw (eqb-true y n e) (getD-set-same t n (getD u n 0) 0 low)
+    go false e = let q : y ≡ n → ⊥ = eqb-false y n e in let l : y < n = omega arith in getD-set-other t n y (getD u n 0) 0 q ∙ k y l
 
-    go : (b : Bool) → eqb y z ≡ b → (getD (set u (32 + z) 0) y 0 ≡ getD cache y 0) × (getD (set u (32 + z) 0) (32 + y) 0 ≡ 0)
-    go true e =
-        rw (eqb-true y z e)
-        (getD-set-other u (32 + z) z 0 0 (λ e. omega arith) ∙ getD-set-same slots z (getD cache z 0) 0 (omega arith), getD-set-same u (32 + z) 0 0 (omega (arith, length-set slots z (getD cache z 0))))
-    go false e =
-        let q : y ≡ z → ⊥ = eqb-false y z e in
-        let l : y < z = omega arith in
-        rw (getD-set-other u (32 + z) y 0 0 (λ e. omega arith), getD-set-other slots z y (getD cache z 0) 0 q, getD-set-other u (32 + z) (32 + y) 0 0 (λ e. q (omega arith)), getD-set-other slots z (32 + y) (getD cache z 0) 0 (λ e. omega arith))
-        (k y l)
+-- ---- a patch begins: the depths are copied, and of the cells after them those below z are 0
+pub record Beginning (slots cache : List ℕ) (z : ℕ) : Type 0 where
+  pub left : Alike slots cache 32
+  pub blank : (y : ℕ) → 32 ≤ y → y < z → getD slots y 0 ≡ 0
 
-pub began : (slots cache : List ℕ) → CacheFits cache → Copied slots cache 32 → Begun cache slots
+pub begin-start : (slots depths cache : List ℕ) → Alike slots depths 32 → Alike depths cache 32 → Beginning slots cache 32
+begin-start slots depths cache k d = record { left = λ y h. k y h ∙ d y h; blank = λ y l h. absurd (omega arith) }
+
+pub begin-more : (slots cache : List ℕ) (z : ℕ) → z < length slots → 32 ≤ z → Beginning slots cache z → Beginning (set slots z 0) cache (z + 1)
+begin-more slots cache z low past k =
+    record { left = λ y h. getD-set-other slots z y 0 0 (λ e. omega arith) ∙ k .left y h; blank = λ y l h. go y l h (eqb y z) refl }
+  where
+    go : (y : ℕ) → 32 ≤ y → y < z + 1 → (b : Bool) → eqb y z ≡ b → getD (set slots z 0) y 0 ≡ 0
+    go y l h true e = rw (eqb-true y z e) (getD-set-same slots z 0 0 low)
+    go y l h false e = let q : y ≡ z → ⊥ = eqb-false y z e in getD-set-other slots z y 0 0 q ∙ k .blank y l (omega arith)
+
+begun : (slots cache : List ℕ) → CacheFits cache → Beginning slots cache 64 → lowOf slots ≡ 32 → highOf slots ≡ 0 → Begun cache slots
 unfolding stacksOf cacheOf topFirst
-began slots cache f k =
+begun slots cache f k p q =
     record {
       stacks = fun-ext (λ y. go y (ltb y 32) refl);
-      fits = record { left = λ y h. rw (k y h .0) (f .deep y h); own = λ y h. rw (k y h .1) (omega arith) };
+      fits = record { left = λ y h. rw (k .left y h) (f .deep y h); own = λ y h. rw (own y h) (omega arith) };
+      untouched = record { high = omega arith; below = λ y l h. (k .left y l, own y l); above = λ y l h. (k .left y l, own y l) };
     }
   where
+    own : (y : ℕ) → y < 32 → ownOf slots y ≡ 0
+    own y h = k .blank (32 + y) (omega arith) (omega arith)
+
     go : (y : ℕ) (b : Bool) → ltb y 32 ≡ b → pick b (topFirst slots (64 + y * 1024) (ownOf slots y) ++ topFirst cache (64 + y * 2048) (leftOf slots y)) [] ≡ pick b (topFirst cache (64 + y * 2048) (depthOf cache y)) []
-    go y true e = let n = k y (ltb-true y 32 e) in rw (n .0, n .1)
+    go y true e = let h : y < 32 = ltb-true y 32 e in rw (k .left y h, own y h)
     go y false e = refl
+
+pub began : (slots cache : List ℕ) → length slots ≡ 32834 → CacheFits cache → Beginning slots cache 64 → Begun cache (set (set slots 32832 32) 32833 0)
+began slots cache long f k =
+    begun (set u 32833 0) cache f
+    (record { left = λ y h. other y (omega arith) ∙ k .left y h; blank = λ y l h. other y (omega arith) ∙ k .blank y l h })
+    (getD-set-other u 32833 32832 0 0 (λ e. omega arith) ∙ getD-set-same slots 32832 32 0 (omega arith)) (getD-set-same u 32833 0 0 (omega (arith, length-set slots 32832 32)))
+  where
+    u : List ℕ
+    u = set slots 32832 32
+
+    other : (y : ℕ) → y < 64 → getD (set u 32833 0) y 0 ≡ getD slots y 0
+    other y h = getD-set-other u 32833 y 0 0 (λ e. omega arith) ∙ getD-set-other slots 32832 y 32 0 (λ e. omega arith)
 
 -- ---- a cache with no depths
 pub zero-more : (cache : List ℕ) (z : ℕ) → z < length cache → ((y : ℕ) → y < z → getD cache y 0 ≡ 0) → (y : ℕ) → y < z + 1 → getD (set cache z 0) y 0 ≡ 0
@@ -272,42 +379,64 @@ module _ (slots cache : List ℕ) (z left : ℕ) where
       }
 
 -- ---- a patch is committed: the stacks below z are settled, and the others are as they were
+abbrev Done : List ℕ → List ℕ → List ℕ → ℕ → Type 0
+Done slots cache exit y = (topFirst exit (64 + y * 2048) (depthOf exit y) ≡ stacksOf slots cache y) × (depthOf exit y ≤ 2048)
+
 pub record Committing (slots cache exit : List ℕ) (z : ℕ) : Type 0 where
-  pub done : (y : ℕ) → y < z → (topFirst exit (64 + y * 2048) (depthOf exit y) ≡ stacksOf slots cache y) × (depthOf exit y ≤ 2048)
+  pub done : (y : ℕ) → y < 32 → y < z → Done slots cache exit y
   pub rest : (y n : ℕ) → z ≤ y → n ≤ 2048 → topFirst exit (64 + y * 2048) n ≡ topFirst cache (64 + y * 2048) n
+  pub depths : (y : ℕ) → y < 32 → z ≤ y → depthOf exit y ≡ depthOf cache y
 
-module _ (slots cache : List ℕ) where
-  pub commit-start : Committing slots cache cache 0
-  commit-start = record { done = λ y h. absurd (omega arith); rest = λ y n l h. refl }
+module _ (slots cache : List ℕ) (f : SlotsFit 1024 slots) where
+  -- a stack that the patch has not changed needs no settling
+  unchanged-done : (y : ℕ) → y < 32 → Unchanged cache slots y → Done slots cache cache y
+  unfolding topFirst
+  unchanged-done y l k = (rw (stacks-in slots cache y l, k .0, k .1), rw (← k .0) (f .left y l))
 
-  pub commit-more : (now exit : List ℕ) (z : ℕ) → z < 32 → leftOf slots z ≤ 2048 → Committing slots cache now z → Settled slots now exit z → Committing slots cache exit (z + 1)
-  commit-more now exit z low fit k s =
-      record { done = λ y h. go y h (eqb y z) refl; rest = λ y n l h. s .others y n (λ e. omega arith) h ∙ k .rest y n (omega arith) h }
-    where
-      same : stacksOf slots now z ≡ stacksOf slots cache z
-      same = rw (stacks-in slots now z low, stacks-in slots cache z low, k .rest z (leftOf slots z) (omega arith) fit)
+  pub commit-start : Untouched cache slots → Committing slots cache cache (lowOf slots)
+  commit-start u = record { done = λ y l h. unchanged-done y l (u .below y l h); rest = λ y n l h. refl; depths = λ y l h. refl }
 
-      go : (y : ℕ) → y < z + 1 → (b : Bool) → eqb y z ≡ b → (topFirst exit (64 + y * 2048) (depthOf exit y) ≡ stacksOf slots cache y) × (depthOf exit y ≤ 2048)
-      go y h true e = rw (eqb-true y z e) (s .here ∙ same, s .deep)
-      go y h false e =
-          let q : y ≡ z → ⊥ = eqb-false y z e in
-          let l : y < z = omega arith in
-          let d = k .done y l in
-          rw (s .depths y q (omega arith)) (s .others y (depthOf now y) q (d .1) ∙ d .0, d .1)
-
-  pub committed : (now : List ℕ) (made : ℕ) → length now ≡ 65600 → Committing slots cache now 32 → Committed slots cache (set now 32 made) made
-  unfolding cacheOf
-  committed now made long k =
+  pub commit-more : (now exit : List ℕ) (z : ℕ) → z < 32 → Committing slots cache now z → Settled slots now exit z → Committing slots cache exit (z + 1)
+  commit-more now exit z low k s =
       record {
-        is = rw (getD-set-same now 32 made 0 (omega arith)) (ap (λ (f : ℕ → List ℕ). record { stacks = f; made = made }) (fun-ext (λ y. go y (ltb y 32) refl)));
-        fits = record { deep = λ y h. rw (depth y h) (k .done y h .1) };
+        done = λ y l h. go y l h (eqb y z) refl;
+        rest = λ y n l h. s .others y n (λ e. omega arith) h ∙ k .rest y n (omega arith) h;
+        depths = λ y l h. s .depths y (λ e. omega arith) l ∙ k .depths y l (omega arith);
       }
     where
+      same : stacksOf slots now z ≡ stacksOf slots cache z
+      same = rw (stacks-in slots now z low, stacks-in slots cache z low, k .rest z (leftOf slots z) (omega arith) (f .left z low))
+
+      go : (y : ℕ) → y < 32 → y < z + 1 → (b : Bool) → eqb y z ≡ b → Done slots cache exit y
+      go y l h true e = rw (eqb-true y z e) (s .here ∙ same, s .deep)
+      go y l h false e =
+          let q : y ≡ z → ⊥ = eqb-false y z e in
+          let d = k .done y l (omega arith) in
+          rw (s .depths y q l) (s .others y (depthOf now y) q (d .1) ∙ d .0, d .1)
+
+  pub committed : (now : List ℕ) (made z : ℕ) → length now ≡ 65600 → Untouched cache slots → highOf slots ≤ z → Committing slots cache now z → Committed slots cache (set now 32 made) made
+  unfolding cacheOf
+  committed now made z long u past k =
+      record {
+        is = rw (getD-set-same now 32 made 0 (omega arith)) (ap (λ (f : ℕ → List ℕ). record { stacks = f; made = made }) (fun-ext (λ y. go y (ltb y 32) refl)));
+        fits = record { deep = λ y h. rw (depth y h) (done y h .1) };
+      }
+    where
+      done : (y : ℕ) → y < 32 → Done slots cache now y
+      done y l = either (ltb y z) refl
+        where
+          either : (b : Bool) → ltb y z ≡ b → Done slots cache now y
+          either true e = k .done y l (ltb-true y z e)
+          either false e =
+              let h : z ≤ y = ltb-false y z e in
+              let d = unchanged-done y l (u .above y l (omega arith)) in
+              rw (k .depths y l h) (k .rest y (depthOf cache y) h (d .1) ∙ d .0, d .1)
+
       depth : (y : ℕ) → y < 32 → depthOf (set now 32 made) y ≡ depthOf now y
       depth y h = getD-set-other now 32 y made 0 (λ e. omega arith)
 
       go : (y : ℕ) (b : Bool) → ltb y 32 ≡ b → pick b (topFirst (set now 32 made) (64 + y * 2048) (depthOf (set now 32 made) y)) [] ≡ stacksOf slots cache y
       go y true e =
           let h : y < 32 = ltb-true y 32 e in
-          rw (depth y h, top-set now 32 made (64 + y * 2048) (depthOf now y) (λ j l e. omega arith)) (k .done y h .0)
+          rw (depth y h, top-set now 32 made (64 + y * 2048) (depthOf now y) (λ j l e. omega arith)) (done y h .0)
       go y false e = sym (stacks-out slots cache y (ltb-false y 32 e))

@@ -1,6 +1,7 @@
 -- The emergency slots of a function (the cache), and what a patch has done to them so far.
 --   cache: depth of stack z at z, slots made at 32, stack z from 64 + 2048 z, the bottom first
---   slots, for one patch: how many of the cache's stack z are left at z, how many were put back since at 32 + z, those from 64 + 1024 z
+--   slots, for one patch: how many of the cache's stack z are left at z, how many were put back since at 32 + z, those from 64 + 1024 z;
+--     the stacks that the patch has changed lie from the number at 32832 to before that at 32833
 use Prim.Native.Nat.{ℕ, zero, suc, _+_, _*_, _<_, _≤_}
 use mathlib.Core.Path.{_≡_}
 use mathlib.Core.Bool.{Bool, true, false}
@@ -24,6 +25,12 @@ leftOf slots z = getD slots z 0
 abbrev pub ownOf : List ℕ → ℕ → ℕ
 ownOf slots z = getD slots (32 + z) 0
 
+abbrev pub lowOf : List ℕ → ℕ
+lowOf slots = getD slots 32832 0
+
+abbrev pub highOf : List ℕ → ℕ
+highOf slots = getD slots 32833 0
+
 unfoldable pub cacheOf : List ℕ → Cache
 cacheOf cache = record { stacks = λ z. pick (ltb z 32) (topFirst cache (64 + z * 2048) (depthOf cache z)) []; made = getD cache 32 0 }
 
@@ -38,3 +45,13 @@ pub record CacheFits (cache : List ℕ) : Type 0 where
 pub record SlotsFit (n : ℕ) (slots : List ℕ) : Type 0 where
   pub left : (z : ℕ) → z < 32 → leftOf slots z ≤ 2048
   pub own : (z : ℕ) → z < 32 → ownOf slots z ≤ n
+
+-- all of the cache's stack z is left, and nothing was put back on it
+abbrev pub Unchanged : List ℕ → List ℕ → ℕ → Type 0
+Unchanged cache slots z = (leftOf slots z ≡ depthOf cache z) × (ownOf slots z ≡ 0)
+
+-- the stacks outside the range are as they were when the patch began
+pub record Untouched (cache slots : List ℕ) : Type 0 where
+  pub high : highOf slots ≤ 32
+  pub below : (z : ℕ) → z < 32 → z < lowOf slots → Unchanged cache slots z
+  pub above : (z : ℕ) → z < 32 → highOf slots ≤ z → Unchanged cache slots z

@@ -3,11 +3,14 @@ use Prim.Native.Nat.{ℕ, _+_, _*_, _<_, _≤_}
 use mathlib.Core.Path.{_≡_}
 use mathlib.Core.List.{List, [], _∷_}
 use mathlib.Core.Option.{Option, none, some}
+use lib.ListN.{getD}
+use lib.Dec.{ltb}
+use Rattle.entity.specs.Logic.{pick}
 use Rattle.rules.specs.Edit.{updated}
 use Rattle.rules.specs.Scratch.{emptyCache}
 use Rattle.slots.specs.declared.Popped.{Popped}
 use Rattle.slots.specs.declared.Popped.the-variants.{At, Empty}
-use Rattle.slots.specs.Stacks.{topFirst, depthOf, cacheOf, stacksOf, CacheFits, SlotsFit}
+use Rattle.slots.specs.Stacks.{topFirst, depthOf, lowOf, highOf, cacheOf, stacksOf, CacheFits, SlotsFit, Untouched}
 
 abbrev pub poppedOf : Popped → Option ℕ
 poppedOf (At s) = some s
@@ -30,15 +33,24 @@ pub record Cleared (exit : List ℕ) : Type 0 where
 pub record Begun (cache exit : List ℕ) : Type 0 where
   pub stacks : stacksOf exit cache ≡ cacheOf cache .stacks
   pub fits : SlotsFit 0 exit
+  pub untouched : Untouched cache exit
+
+-- the range reaches to stack z, and nothing else has changed
+pub record Touched (slots exit : List ℕ) (z : ℕ) : Type 0 where
+  pub low : lowOf exit ≡ pick (ltb (lowOf slots) z) (lowOf slots) z
+  pub high : highOf exit ≡ pick (ltb (highOf slots) (z + 1)) (z + 1) (highOf slots)
+  pub rest : (i : ℕ) → i < 32832 → getD exit i 0 ≡ getD slots i 0
 
 pub record Taken (slots cache exit : List ℕ) (z : ℕ) (r : Popped) : Type 0 where
   pub got : poppedOf r ≡ topOf (stacksOf slots cache z)
   pub stacks : stacksOf exit cache ≡ withoutTop (stacksOf slots cache z) z (stacksOf slots cache)
   pub fits : (n : ℕ) → SlotsFit n slots → SlotsFit n exit
+  pub untouched : Untouched cache slots → Untouched cache exit
 
 pub record PutBack (slots exit : List ℕ) (z s : ℕ) : Type 0 where
   pub stacks : (cache : List ℕ) → stacksOf exit cache ≡ updated z (s ∷ stacksOf slots cache z) (stacksOf slots cache)
   pub fits : (n : ℕ) → SlotsFit n slots → SlotsFit (n + 1) exit
+  pub untouched : (cache : List ℕ) → Untouched cache slots → Untouched cache exit
 
 -- the cache's stack z is what the patch left of it, and no other stack has changed
 pub record Settled (slots cache exit : List ℕ) (z : ℕ) : Type 0 where

@@ -5,13 +5,15 @@ use entity::narrow;
 use entity::wide;
 ghost use mathlib.Core.Path.{_≡_};
 ghost use Prim.Native.Nat.{ℕ, _+_, _<_, _≤_};
-ghost use lib.ListN.{length};
-ghost use Rattle.slots.specs.Stacks.{cacheOf, leftOf, ownOf, stacksOf, CacheFits, SlotsFit};
-ghost use Rattle.slots.specs.Steps.{Cleared, Begun, Taken, PutBack, Settled, Committed};
+ghost use lib.ListN.{length, getD};
+ghost use lib.Dec.{ltb};
+ghost use Rattle.entity.specs.Logic.{pick};
+ghost use Rattle.slots.specs.Stacks.{depthOf, cacheOf, leftOf, ownOf, stacksOf, CacheFits, SlotsFit, Untouched};
+ghost use Rattle.slots.specs.Steps.{Cleared, Begun, Touched, Taken, PutBack, Settled, Committed};
 
 pub type SlotCache = [u16; 65600];
 
-pub type Slots = [u16; 32832];
+pub type Slots = [u16; 32834];
 
 // What a stack gives.
 pub enum Popped {
@@ -26,8 +28,8 @@ fn told_cache(t: [u16; 65600]) -> bool
     true
 }
 
-fn told_slots(t: [u16; 32832]) -> bool
-    ensures { λ _. ⌜ length t ≡ 32832 ⌝ }
+fn told_slots(t: [u16; 32834]) -> bool
+    ensures { λ _. ⌜ length t ≡ 32834 ⌝ }
 {
     true
 }
@@ -51,23 +53,70 @@ pub fn made(cache: &SlotCache) -> u16
     cache[32]
 }
 
+// The depths of the cache's stacks. A local array overlaps no table, so that they can be copied many at a time.
+fn depths_of(cache: &SlotCache) -> [u16; 32]
+    ensures { λ d. ⌜ (length d ≡ 32) × ((z : ℕ) → z < 32 → getD d z 0 ≡ depthOf (now (cache .entry)) z) ⌝ }
+{
+    let mut d = [0u16; 32];
+    let mut z: usize = 0;
+    while z < 32 {
+        d[z] = cache[z];
+        z += 1;
+    }
+    d
+}
+
 // A patch starts with the cache's stacks, of which it has changed nothing.
 pub fn begin(slots: &mut Slots, cache: &SlotCache)
     requires { ⌜ CacheFits (now cache) ⌝ }
     ensures { λ _. ⌜ Begun (now (cache .entry)) (now (slots .exit)) ⌝ }
 {
     told_slots(*slots);
+    let depths = depths_of(cache);
     let mut z: usize = 0;
     while z < 32 {
-        slots[z] = cache[z];
-        slots[32 + z] = 0;
+        slots[z] = depths[z];
         z += 1;
     }
+    while z < 64 {
+        slots[z] = 0;
+        z += 1;
+    }
+    slots[32832] = 32;
+    slots[32833] = 0;
+}
+
+fn lesser(a: u16, b: u16) -> u16
+    ensures { λ r. ⌜ r ≡ pick (ltb a b) a b ⌝ }
+{
+    if a < b {
+        return a;
+    }
+    b
+}
+
+fn greater(a: u16, b: u16) -> u16
+    ensures { λ r. ⌜ r ≡ pick (ltb a b) b a ⌝ }
+{
+    if a < b {
+        return b;
+    }
+    a
+}
+
+// The range of stacks that the patch has changed reaches to this one.
+fn touch(slots: &mut Slots, z: usize)
+    requires { ⌜ z < 32 ⌝ }
+    ensures { λ _. ⌜ Touched (now (slots .entry)) (now (slots .exit)) z ⌝ }
+{
+    told_slots(*slots);
+    slots[32832] = lesser(slots[32832], narrow(z));
+    slots[32833] = greater(slots[32833], narrow(z + 1));
 }
 
 // Takes the slot last put back: by this patch, else what is left of the cache's.
 pub fn acquire(slots: &mut Slots, cache: &SlotCache, z: usize) -> Popped
-    requires { ⌜ (z < 32) × (ownOf (now slots) z ≤ 1024) × (leftOf (now slots) z ≤ 2048) ⌝ }
+    requires { ⌜ (z < 32) × SlotsFit 1024 (now slots) ⌝ }
     ensures { λ r. ⌜ Taken (now (slots .entry)) (now (cache .entry)) (now (slots .exit)) z r ⌝ }
 {
     told_slots(*slots);
@@ -81,6 +130,7 @@ pub fn acquire(slots: &mut Slots, cache: &SlotCache, z: usize) -> Popped
     if 0 < left {
         let i = left - 1;
         slots[z] = narrow(i);
+        touch(slots, z);
         return Popped::At(cache[64 + z * 2048 + i]);
     }
     Popped::Empty
@@ -95,6 +145,7 @@ pub fn put_back(slots: &mut Slots, z: usize, s: SpillSlot)
     let own = wide(slots[32 + z]);
     slots[64 + z * 1024 + own] = s.0;
     slots[32 + z] = narrow(own + 1);
+    touch(slots, z);
 }
 
 // What was put back on a stack goes onto what is left of the cache's.
@@ -113,13 +164,14 @@ fn settle(slots: &Slots, cache: &mut SlotCache, z: usize)
     cache[z] = narrow(left + own);
 }
 
-// The cache becomes what the patch left.
+// The cache becomes what the patch left. Only the stacks that the patch has changed are settled.
 pub fn commit(slots: &Slots, cache: &mut SlotCache, made: u16)
-    requires { ⌜ SlotsFit 1024 (now slots) × ((z : ℕ) → z < 32 → length (stacksOf (now slots) (now cache) z) ≤ 2048) ⌝ }
+    requires { ⌜ SlotsFit 1024 (now slots) × ((z : ℕ) → z < 32 → length (stacksOf (now slots) (now cache) z) ≤ 2048) × Untouched (now cache) (now slots) ⌝ }
     ensures { λ _. ⌜ Committed (now (slots .entry)) (now (cache .entry)) (now (cache .exit)) made ⌝ }
 {
-    let mut z: usize = 0;
-    while z < 32 {
+    let end = wide(slots[32833]);
+    let mut z = wide(slots[32832]);
+    while z < end {
         settle(slots, cache, z);
         z += 1;
     }

@@ -50,7 +50,7 @@ mul-t21 : tie.Need-mul-t21
 mul-t21 c = search needs
 
 element-copy-out-t15 : tie.Need-element-copy-out-t15
-element-copy-out-t15 c = search needs
+element-copy-out-t15 c = let s = c .before .before .before .before .before .before in omega (arith, s .pre .1 .own (s .args .z) (s .pre .0))
 
 returns : tie.Need-returns
 returns c =
@@ -80,28 +80,30 @@ mul-slots-2 c = search needs
 element-write-slots-2 : tie.Need-element-write-slots-2
 element-write-slots-2 c = search needs
 
+touch-requires : tie.Need-touch-requires
+touch-requires c κs = search needs
+
 mul-t27 : tie.Need-mul-t27
 mul-t27 c = search needs
 
-add-t30 : tie.Need-add-t30
-add-t30 c = search needs
+add-t32 : tie.Need-add-t32
+add-t32 c = search needs
 
-add-t31 : tie.Need-add-t31
-add-t31 c = search needs
+add-t33 : tie.Need-add-t33
+add-t33 c = search needs
 
-mul-t32 : tie.Need-mul-t32
-mul-t32 c = search needs
+mul-t34 : tie.Need-mul-t34
+mul-t34 c = search needs
 
 element-copy-out-t26 : tie.Need-element-copy-out-t26
-element-copy-out-t26 c = search needs
+element-copy-out-t26 c = let s = c .before .before .before .before .before .before .before .before .before .before .before in omega (arith, s .pre .1 .left (s .args .z) (s .pre .0))
 
 returns-2 : tie.Need-returns-2
 returns-2 c =
-    let s = c .before .before .before .before .before .before .before .before .before .before in
-    let w = c .before .before .before .wide2 in
-    let own : ownOf (s .args .slots .now) (s .args .z) ≡ 0 = omega (arith, c .before .before .before .before .before .before .wide .ensures .0) in
-    rw (c .before .narrow2 .ensures)
-    (took-left (s .args .slots .now) (s .args .cache .now) (c .before .before .before .before .before .before .before .before .told-slots .ensures) (s .args .z) (s .pre .0) own (w .result) (w .ensures .0) (omega arith))
+    let s = c .before .before .before .before .before .before .before .before .before .before .before .before in
+    let w = c .before .before .before .before .before .wide2 in
+    let own : ownOf (s .args .slots .now) (s .args .z) ≡ 0 = omega (arith, c .before .before .before .before .before .before .before .before .wide .ensures .0) in
+    took-left (s .args .slots .now) (s .args .cache .now) (c .before .before .before .before .before .before .before .before .before .before .told-slots .ensures) (s .args .z) (s .pre .0) own (w .result) (w .ensures .0) _ (omega arith) (s .pre .1) (rw (c .before .before .before .narrow2 .ensures) at (c .before .touch .ensures))
 
 returns-3 : tie.Need-returns-3
 returns-3 c =
@@ -137,10 +139,11 @@ acquire-spec =
     narrow-requires-2
     mul-slots-2
     element-write-slots-2
+    touch-requires
     mul-t27
-    add-t30
-    add-t31
-    mul-t32
+    add-t32
+    add-t33
+    mul-t34
     element-copy-out-t26
     returns-2
     returns-3)

@@ -8,19 +8,33 @@ use Rattle.slots.proofs.commit.Statement.{statement}
 use Rattle.slots.proofs.commit.Tie as tie
 
 abbrev Inv-loop : tie.InvT-loop
-Inv-loop slots cache₀ made z₀ cache z = (z ≤ 32) × Committing slots cache₀ cache z
+Inv-loop slots cache₀ made end z₀ cache z = Committing slots cache₀ cache z
 
 abbrev μ-loop : tie.MeasureT-loop
-μ-loop slots cache₀ made z₀ cache z = 32 - z
+μ-loop slots cache₀ made end z₀ cache z = end - z
+
+element-copy-out-wide : tie.Need-element-copy-out-wide Inv-loop μ-loop
+element-copy-out-wide c = search needs
+
+wide-requires : tie.Need-wide-requires Inv-loop μ-loop
+wide-requires c κs = search needs
+
+element-copy-out-wide-2 : tie.Need-element-copy-out-wide-2 Inv-loop μ-loop
+element-copy-out-wide-2 c = search needs
+
+wide-requires-2 : tie.Need-wide-requires-2 Inv-loop μ-loop
+wide-requires-2 c κs = search needs
 
 loop-holds : tie.Need-loop-holds Inv-loop μ-loop
-loop-holds c = (omega arith, commit-start (c .args .slots .now) (c .args .cache .now))
+loop-holds c =
+    let s = c .before .before .before .before in
+    rw (c .wide2 .ensures .0) (commit-start (s .args .slots .now) (s .args .cache .now) (s .pre .0) (s .pre .2))
 
 settle-requires : tie.Need-settle-requires Inv-loop μ-loop
 settle-requires c κs =
-    let s = c .before .before .before in
+    let s = c .before .before .before .before .before .before .before in
     let l = c .before .before .loop in
-    let low : l .z < 32 = omega arith in
+    let low : l .z < 32 = omega (arith, c .before .before .before .before .before .wide .ensures .0, s .pre .2 .high) in
     (low, s .pre .0 .own (l .z) low, omega (arith, s .pre .1 (l .z) low, length-stacks (s .args .slots .now) (s .args .cache .now) (l .z) low))
 
 add-z : tie.Need-add-z Inv-loop μ-loop
@@ -31,10 +45,10 @@ loop-less c = search needs
 
 loop-again : tie.Need-loop-again Inv-loop μ-loop
 loop-again c =
-    let s = c .before .before .before .before in
+    let s = c .before .before .before .before .before .before .before .before in
     let l = c .before .before .before .loop in
-    let low : l .z < 32 = omega arith in
-    (omega arith, commit-more (s .args .slots .now) (s .args .cache .now) (l .cache) (c .settle .last .1 .0) (l .z) low (s .pre .0 .left (l .z) low) (l .inv .1) (c .settle .ensures))
+    let low : l .z < 32 = omega (arith, c .before .before .before .before .before .before .wide .ensures .0, s .pre .2 .high) in
+    commit-more (s .args .slots .now) (s .args .cache .now) (s .pre .0) (l .cache) (c .settle .last .1 .0) (l .z) low (l .inv) (c .settle .ensures)
 
 told-cache-requires : tie.Need-told-cache-requires Inv-loop μ-loop
 told-cache-requires c κs = search needs
@@ -44,10 +58,9 @@ element-write-cache c = search needs
 
 returns : tie.Need-returns Inv-loop μ-loop
 returns c =
-    let s = c .before .before .before .before in
+    let s = c .before .before .before .before .before .before .before .before in
     let l = c .before .before .before .loop in
-    let e : l .z ≡ 32 = omega arith in
-    committed (s .args .slots .now) (s .args .cache .now) (l .cache) (s .args .made) (c .told-cache .ensures) (rw e at (l .inv .1))
+    committed (s .args .slots .now) (s .args .cache .now) (s .pre .0) (l .cache) (s .args .made) (l .z) (c .told-cache .ensures) (s .pre .2) (omega (arith, c .before .before .before .before .before .before .wide .ensures .0)) (l .inv)
 
 pub commit-spec : {M : Type 1} → statement M
 commit-spec =
@@ -55,6 +68,10 @@ commit-spec =
     (tie.spec
     Inv-loop
     μ-loop
+    element-copy-out-wide
+    wide-requires
+    element-copy-out-wide-2
+    wide-requires-2
     loop-holds
     settle-requires
     add-z

@@ -50,12 +50,14 @@ mul-slots-3 c = search needs
 element-write-slots-2 : tie.Need-element-write-slots-2
 element-write-slots-2 c = search needs
 
+touch-requires : tie.Need-touch-requires
+touch-requires c κs = search needs
+
 returns : tie.Need-returns
 returns c =
-    let s = c .before .before .before .before .before in
-    let w = c .before .wide in
-    rw (c .narrow .ensures)
-    (put (s .args .slots .now) (c .before .before .before .told-slots .ensures) (s .args .z) (s .pre .0) (s .pre .1) (w .result) (s .args .s .0) (w .ensures .0) (omega arith))
+    let s = c .before .before .before .before .before .before .before in
+    let w = c .before .before .before .wide in
+    put (s .args .slots .now) (c .before .before .before .before .before .told-slots .ensures) (s .args .z) (s .pre .0) (s .pre .1) (w .result) (s .args .s .0) (w .ensures .0) (omega arith) _ (rw (c .before .before .narrow .ensures) at (c .touch .ensures))
 
 pub put-back-spec : {M : Type 1} → statement M
 put-back-spec =
@@ -76,4 +78,5 @@ put-back-spec =
     add-slots-3
     mul-slots-3
     element-write-slots-2
+    touch-requires
     returns)

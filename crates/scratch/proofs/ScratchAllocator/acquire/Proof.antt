@@ -8,10 +8,7 @@ use Rattle.scratch.proofs.ScratchAllocator.acquire.Statement.{statement
 use Rattle.scratch.proofs.ScratchAllocator.acquire.Tie as tie
 
 acquire-requires : tie.Need-acquire-requires
-acquire-requires c κs =
-    let z = c .before .pre .1 in
-    let s = c .before .pre .2 .put in
-    (z, s .own _ z, s .left _ z)
+acquire-requires c κs = (c .before .pre .1, c .before .pre .2 .put)
 
 enum-known-s : tie.Need-enum-known-s
 enum-known-s c = search needs
