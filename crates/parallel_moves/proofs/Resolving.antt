@@ -65,18 +65,15 @@ module _ (t f cache e w list : List ℕ) (known : Checked t f) (ok : EntriesOk t
   abbrev Same : Patch → Type 0
   Same p = (u : ℕ) → has u (p .free) ≡ setOf free u
 
-  pub same-free : (p : Patch) → p .free ≡ freeOf free → Same p
-  same-free p q u = ap (has u) q ∙ free-is free u
-
   abbrev conditions : Patch → Option ℕ
   conditions p = firstOf (patchConditions (T t) (functionOf f) p (length list) (sortedOf e))
 
   abbrev answered : Patch → Answer
   answered p = resolveSorted (T t) (functionOf f) p (length list) (cacheOf cache) (sortedOf e)
 
-  pub turned-away : (n : ℕ) → ((p : Patch) → Same p → some n ≡ conditions p) → (p : Patch) → p .free ≡ freeOf free → Gives f (answered p) (R.the-variants.Refused n) list list cache cache
+  pub turned-away : (n : ℕ) → ((p : Patch) → Same p → some n ≡ conditions p) → (p : Patch) → Same p → Gives f (answered p) (R.the-variants.Refused n) list list cache cache
   unfolding resolveSorted
-  turned-away n h p q = let is = h p (same-free p q) in rw (← is) (refl, refl, refl)
+  turned-away n h p q = let is = h p q in rw (← is) (refl, refl, refl)
 
   module _ (passed : (p : Patch) → Same p → none ≡ conditions p) (k : ScratchAllocator) (x : Tables) (ran : Ran t f cache e free k x) where
     abbrev some-patch : Patch
@@ -84,21 +81,21 @@ module _ (t f cache e w list : List ℕ) (known : Checked t f) (ok : EntriesOk t
 
     bounded : bound (sortedOf e) ≤ length list
     unfolding patchConditions
-    bounded = ltb-false (length list) (bound (sortedOf e)) (first-none _ (sym (passed some-patch (same-free some-patch refl))) 2 (omega arith))
+    bounded = ltb-false (length list) (bound (sortedOf e)) (first-none _ (sym (passed some-patch (free-is free))) 2 (omega arith))
 
     few-edits : countOf (x .edits) ≤ bound (sortedOf e)
     few-edits =
         omega (
           arith,
-          subst (All (λ k. length (k .edits) ≤ bound (sortedOf e))) (ran .is some-patch refl) (run-few (T t) (F f) (known .target) (all-placed t f known) some-patch (sortedOf e) (cacheOf cache) (same-sorted t f e w known ok)),
+          subst (All (λ k. length (k .edits) ≤ bound (sortedOf e))) (ran .is some-patch (free-is free)) (run-few (T t) (F f) (known .target) (all-placed t f known) some-patch (sortedOf e) (cacheOf cache) (same-sorted t f e w known ok)),
           length-edits (x .edits),
         )
 
-    limited : (p : Patch) → p .free ≡ freeOf free → ByLimit (T t) (functionOf f) p (sortedOf e) (cacheOf cache) (stateOf t f cache k x)
+    limited : (p : Patch) → Same p → ByLimit (T t) (functionOf f) p (sortedOf e) (cacheOf cache) (stateOf t f cache k x)
     limited p q = by-limit (T t) (functionOf f) 4096 p (sortedOf e) (cacheOf cache) (stateOf t f cache k x) (cached .made) (ran .is p q)
 
     in-stacks : k .made ≤ functionOf f .limit → InStacks (functionOf f) (cacheIn k (x .slots) cache)
-    in-stacks h = run-stacks (T t) (functionOf f) (known .target) (known .function) some-patch (sortedOf e) (cacheOf cache) (stateOf t f cache k x) (ok .sorted) (cached .stacks) (limited some-patch refl .same h)
+    in-stacks h = run-stacks (T t) (functionOf f) (known .target) (known .function) some-patch (sortedOf e) (cacheOf cache) (stateOf t f cache k x) (ok .sorted) (cached .stacks) (limited some-patch (free-is free) .same h)
 
     pub can-hand-over : CanHandOver f cache list k (x .edits) (x .slots)
     can-hand-over =
@@ -106,13 +103,14 @@ module _ (t f cache e w list : List ℕ) (known : Checked t f) (ok : EntriesOk t
           few = omega (arith, ran .fits .few);
           room = omega (arith, few-edits, bounded);
           put = stocked (ran .fits) .put;
+          untouched = ran .fits .untouched;
           deep = λ h z l. omega (arith, stack-few (functionOf f) (cacheIn k (x .slots) cache) (in-stacks h) z, low-limit (T t) (functionOf f) (known .function));
         }
 
-    module _ (r : Resolved) (list′ cache′ : List ℕ) (out : HandedOver f cache list k (x .edits) (x .slots) r list′ cache′) (p : Patch) (q : p .free ≡ freeOf free) where
+    module _ (r : Resolved) (list′ cache′ : List ℕ) (out : HandedOver f cache list k (x .edits) (x .slots) r list′ cache′) (p : Patch) (q : Same p) where
       run-out : functionOf f .limit < k .made → Gives f (answered p) r list list′ cache cache′
       unfolding resolveSorted
-      run-out h = rw (← passed p (same-free p q), limited p q .out .1 h) (out .over h)
+      run-out h = rw (← passed p q, limited p q .out .1 h) (out .over h)
 
       run-ends : k .made ≤ functionOf f .limit → Gives f (answered p) r list list′ cache cache′
       unfolding resolveSorted
@@ -120,7 +118,7 @@ module _ (t f cache e w list : List ℕ) (known : Checked t f) (ok : EntriesOk t
           let o = out .within h in
           let len : length (editsOf (x .edits)) ≡ countOf (x .edits) = length-edits (x .edits) in
           let is : cacheOf cache′ ≡ cacheIn k (x .slots) cache = o .3 .is in
-          rw (← passed p (same-free p q), limited p q .same h)
+          rw (← passed p q, limited p q .same h)
           (o .0, o .1 ∙ sym len, rw (← ran .fits .written, len) (o .2), is, record { fits = o .3 .fits; stacks = rw is (in-stacks h); made = rw is h })
 
       pub gives : Gives f (answered p) r list list′ cache cache′

@@ -5,11 +5,13 @@ use mathlib.Core.Bool.{Bool}
 use mathlib.Core.List.{List, _++_}
 use mathlib.Core.Option.{Option, none, some}
 use lib.ListN.{length, drop}
+use Rattle.entity.specs.Logic.{has}
 use Rattle.function.specs.Table.{functionOf}
+use Rattle.small_set.specs.Set.{setOf}
 use Rattle.rules.specs.Scratch.{Cache}
 use Rattle.rules.specs.Patch.{Entry, Patch, unlessRefused, resolveFrom, resolveSorted, run}
 use Rattle.edit.specs.Buffer.{countOf, wordsOf}
-use Rattle.slots.specs.Stacks.{cacheOf, stacksOf, SlotsFit}
+use Rattle.slots.specs.Stacks.{cacheOf, stacksOf, SlotsFit, Untouched}
 use Rattle.slots.specs.Steps.{Committed}
 use Rattle.scratch.specs.declared.ScratchAllocator.{ScratchAllocator}
 use Rattle.scratch.specs.State.{T, F}
@@ -17,12 +19,11 @@ use Rattle.scratch.specs.Contracts.{Tables, stateOf, FitsIn}
 use Rattle.entries.specs.Table.{sortedOf}
 use Rattle.entries.specs.Known.{EntriesOk}
 use Rattle.parallel_moves.specs.declared.Resolved.{Resolved}
-use Rattle.parallel_moves.specs.Given.{freeOf}
 use Rattle.parallel_moves.specs.Answers.{numberOf, editsIn}
 
 -- the run of a patch, with a limit that is never met
 pub record Ran (t f cache e : List ℕ) (free : List Bool) (k : ScratchAllocator) (w : Tables) : Type 0 where
-  pub is : (p : Patch) → p .free ≡ freeOf free → run (T t) (F f) p (sortedOf e) (cacheOf cache) ≡ some (stateOf t f cache k w)
+  pub is : (p : Patch) → ((u : ℕ) → has u (p .free) ≡ setOf free u) → run (T t) (F f) p (sortedOf e) (cacheOf cache) ≡ some (stateOf t f cache k w)
   pub fits : FitsIn t f cache 0 2 0 k w
 
 -- where not more than L slots were made, the stacks have room in the cache
@@ -30,6 +31,7 @@ pub record CanHandOver (f cache list : List ℕ) (k : ScratchAllocator) (edits s
   pub few : countOf edits ≤ 1024
   pub room : countOf edits ≤ length list
   pub put : SlotsFit 1024 slots
+  pub untouched : Untouched cache slots
   pub deep : k .made ≤ functionOf f .limit → (z : ℕ) → z < 32 → length (stacksOf slots cache z) ≤ 2048
 
 pub record HandedOver (f cache list : List ℕ) (k : ScratchAllocator) (edits slots : List ℕ) (r : Resolved) (list′ cache′ : List ℕ) : Type 0 where

@@ -25,7 +25,7 @@ hand-out-requires c κs = let pre = c .before .before .before .before .before .p
 commit-requires : tie.Need-commit-requires
 commit-requires c κs =
     let pre = c .before .before .before .before .before .before .before .before .before .pre in
-    (pre .put, pre .deep (omega (arith, c .before .before .before .before .before .before .before .slot-limit .ensures, c .before .before .before .before .before .before .wide .ensures, c .before .before .before .before .before .if1 .left)))
+    (pre .put, pre .deep (omega (arith, c .before .before .before .before .before .before .before .slot-limit .ensures, c .before .before .before .before .before .before .wide .ensures, c .before .before .before .before .before .if1 .left)), pre .untouched)
 
 same-length : tie.Need-same-length
 same-length c = search needs
