@@ -1,0 +1,32 @@
+-- 01, The job: how a function is read, over the target that was read before it.
+use Prim.Native.Nat.{ℕ}
+use mathlib.Core.Path.{_≡_}
+use mathlib.Core.List.{List}
+use lib.Dec.{eqb}
+use Rattle.entity.specs.Logic.{pick}
+use Rattle.reginfo.specs.RegInfo.{RegInfo, numBanks, numClasses, bankForClass}
+use Rattle.function.specs.Function.{ValueData, Function}
+use Rattle.function.specs.Refused.{Accepted}
+use Rattle.number.specs.Read.{Read, got, refused, then}
+use Rattle.reading.specs.Reading.{below, between, times}
+
+-- the class of a value that can be rebuilt; 9 for a class of another bank
+unfoldable pub rebuilt : RegInfo → ℕ → ℕ → List ℕ → Read ValueData
+rebuilt t b cost l = then (below (numClasses t) l) (λ c r. pick (eqb (bankForClass t c) b) (got (record { bank = b; cost = cost; class = c }) r) (refused 9))
+
+-- "each value bank, rebuild 0 none, 1 `CheaperThanMove`, 2 `CheaperThanLoad`, and a class unless 0"
+unfoldable pub value : RegInfo → List ℕ → Read ValueData
+value t l =
+    then (below (numBanks t) l) (λ b r. then (below 3 r) (λ cost q. pick (eqb cost 0) (got (record { bank = b; cost = 0; class = 0 }) q) (rebuilt t b cost q)))
+
+-- the values, once their number, N and L are read
+unfoldable pub valued : RegInfo → ℕ → ℕ → ℕ → List ℕ → Read Function
+valued t n slots limit l = then (times n (value t) l) (λ vs r. got (record { values = vs; slots = slots; limit = limit }) r)
+
+-- "function: values, N, L"
+unfoldable pub function : RegInfo → List ℕ → Read Function
+function t l = then (between 0 4096 l) (λ n r. then (between 0 4096 r) (λ slots q. then (between 0 2048 q) (λ limit p. valued t n slots limit p)))
+
+-- what is read is an accepted function, whatever the target
+abbrev pub ReadAccepted : Type 0
+ReadAccepted = (t : RegInfo) (l : List ℕ) (f : Function) (r : List ℕ) → function t l ≡ got f r → Accepted t f
