@@ -288,7 +288,7 @@ fn place_move(
 }
 
 // Whether a place code names a register or one of the function's slots.
-fn names_place(t: &RegInfo, f: &Function, code: u32) -> bool
+pub fn names_place(t: &RegInfo, f: &Function, code: u32) -> bool
     requires { ⌜ Checked (now t) (now f) ⌝ }
     ensures { λ r. ⌜ r ≡ namesPlace (regInfoOf (now (t .entry))) (functionOf (now (f .entry))) (placeAt code) ⌝ }
 {
@@ -339,7 +339,7 @@ fn add_named_move(
 }
 
 // 15: whether no entry can be added any more.
-fn is_full(e: &Entries) -> bool
+pub fn is_full(e: &Entries) -> bool
     ensures { λ r. ⌜ r ≡ leb 128 (sortedOf (now (e .entry)) .count) ⌝ }
 {
     128 <= wide(e[1027])

@@ -1,0 +1,4 @@
+pub mod Adding
+pub mod Entering
+pub mod Freeing
+pub mod Patched
