@@ -1,0 +1,4 @@
+pub mod Decimal
+pub mod Putting
+pub mod Printing
+pub mod Lengths

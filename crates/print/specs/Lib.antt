@@ -1,0 +1,5 @@
+pub mod Text
+pub mod Spelled
+pub mod Words
+pub mod Put
+pub mod Trials
