@@ -1,19 +1,20 @@
 -- One part after another.
 use Prim.Native.Nat.{ℕ, _<_, _≤_}
-use mathlib.Core.Path.{_≡_, refl, sym, ap, _∙_}
+use mathlib.Core.Path.{_≡_, refl, sym, _∙_}
 use mathlib.Core.Bool.{Bool, true, false}
 use mathlib.Core.List.{List}
 use native.Mathlib.Omega.{arith}
 use lib.Dec.{ltb, leb}
-use lib.ListN.{length, drop}
+use lib.ListN.{drop}
 use borrow.Author.Tests.{le-leb, lt-leb, leb-true, ltb-true}
 use Rattle.entity.specs.Logic.{pick, and}
+use Rattle.entity.proofs.Laws.{and-true}
 use Rattle.number.specs.Read.{Read, got, refused, then}
 use Rattle.number.specs.Number.{number}
 use Rattle.number.specs.Answer.{NumberAt}
 use Rattle.number.specs.declared.Number as N
-use Rattle.reading.specs.Reading.{tested}
-use Rattle.reading.specs.Answer.{ReadAt, NextAt, nextOf, Past}
+use Rattle.reading.specs.Reading.{tested, below, between}
+use Rattle.reading.specs.Answer.{ReadAt, NextAt, Past}
 use Rattle.reading.specs.declared.Next as X
 use Rattle.reading.specs.declared.Next.{Next}
 
@@ -63,6 +64,34 @@ passed ok s at n next h = go (number (drop at s)) (h .reads)
     go (got m r) q = test (ok m) m r refl q
     go (refused k) q = let z : _≡_ {A = ℕ} 0 1 = cc in absurd (omega arith)
 
+pub under : (m : ℕ) (s : List ℕ) (at n next : ℕ) → ReadAt (below m) s at (N.the-variants.Is n next) → n < m
+under m s at n next h = ltb-true n m (passed (λ x. ltb x m) s at n next h)
+
+pub in-range : (low high : ℕ) (s : List ℕ) (at n next : ℕ) → ReadAt (between low high) s at (N.the-variants.Is n next) → (low ≤ n) × (n ≤ high)
+in-range low high s at n next h = let w = and-true (leb low n) (leb n high) (passed (λ x. and (leb low x) (leb x high)) s at n next h) in (leb-true low n (w .0), leb-true n high (w .1))
+
+-- two tests that agree
+pub tested-same : (ok also : ℕ → Bool) (l : List ℕ) → ((n : ℕ) → ok n ≡ also n) → tested ok l ≡ tested also l
+unfolding tested
+tested-same ok also l h = go (number l)
+  where
+    go : (x : Read ℕ) → then x (λ n r. pick (ok n) (got n r) (refused 2)) ≡ then x (λ n r. pick (also n) (got n r) (refused 2))
+    go (got n r) = rw (h n)
+    go (refused k) = refl
+
+-- one test after the other
+pub tested-both : (ok also : ℕ → Bool) (l : List ℕ) → tested (λ n. and (ok n) (also n)) l ≡ then (tested ok l) (λ n r. pick (also n) (got n r) (refused 2))
+unfolding tested
+tested-both ok also l = go (number l)
+  where
+    both : (a b : Bool) (n : ℕ) (r : List ℕ) → also n ≡ b → pick (and a b) (got n r) (refused 2) ≡ then (pick a (got n r) (refused 2)) (λ n r. pick (also n) (got n r) (refused 2))
+    both true b n r e = rw e
+    both false b n r e = refl
+
+    go : (x : Read ℕ) → then x (λ n r. pick (and (ok n) (also n)) (got n r) (refused 2)) ≡ then (then x (λ n r. pick (ok n) (got n r) (refused 2))) (λ n r. pick (also n) (got n r) (refused 2))
+    go (got n r) = both (ok n) (also n) n r refl
+    go (refused k) = refl
+
 -- ---- a number, then the rest
 module _ {A : Type 0} (d : List ℕ → Read ℕ) (f : ℕ → List ℕ → Read A) (s : List ℕ) (at : ℕ) (x : A) (kept : Type 0) where
   pub number-refused : (k : ℕ) → ReadAt d s at (N.the-variants.Refused k) → NextAt (λ l. then (d l) f) s at x kept (X.the-variants.Refused k)
@@ -95,3 +124,8 @@ done f s at x kept e k = record { reads = sym (e (drop at s)); past = (omega ari
 pub restated : {A : Type 0} (d e : List ℕ → Read A) (s : List ℕ) (at : ℕ) (x y : A) (kept also : Type 0) (r : Next) → ((l : List ℕ) → d l ≡ e l) → (kept → x ≡ y) → (kept → also) → NextAt d s at x kept r → NextAt e s at y also r
 restated d e s at x y kept also (X.the-variants.At next) same eq on h = record { reads = rw (← eq (h .past .2)) (h .reads ∙ same (drop at s)); past = (h .past .0, h .past .1, on (h .past .2)) }
 restated d e s at x y kept also (X.the-variants.Refused k) same eq on h = record { reads = h .reads ∙ same (drop at s); past = tt }
+
+-- a part, and what is made of it
+pub made : {A B : Type 0} (d : List ℕ → Read A) (g : A → B) (s : List ℕ) (at : ℕ) (a : A) (y : B) (kept also : Type 0) (r : Next) → (kept → g a ≡ y) → (kept → also) → NextAt d s at a kept r → NextAt (λ l. then (d l) (λ x q. got (g x) q)) s at y also r
+made d g s at a y kept also (X.the-variants.At next) eq on h = record { reads = rw (← h .reads, eq (h .past .2)); past = (h .past .0, h .past .1, on (h .past .2)) }
+made d g s at a y kept also (X.the-variants.Refused k) eq on h = record { reads = rw (← h .reads); past = tt }

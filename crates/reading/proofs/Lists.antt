@@ -1,12 +1,11 @@
 -- Things read one after the other: what was read so far stands in front of what is left to read.
 use Prim.Native.Nat.{ℕ, zero, suc, _+_, _-_, _<_, _≤_}
-use mathlib.Core.Path.{_≡_, refl, sym, ap, _∙_}
+use mathlib.Core.Path.{_≡_, refl, ap, _∙_}
 use mathlib.Core.Bool.{Bool, true, false}
 use mathlib.Core.List.{List, [], _∷_, _++_, map, append-assoc, append-nil}
 use native.Mathlib.Omega.{arith}
 use lib.Dec.{eqb}
 use lib.ListN.{length, drop}
-use borrow.Author.Tests.{eqb-true, eqb-false}
 use Rattle.entity.specs.Logic.{pick, or, has, indices}
 use Rattle.number.specs.Read.{Read, got, refused, then}
 use Rattle.number.specs.declared.Number as N
@@ -99,7 +98,7 @@ module _ (limit : ℕ) (s : List ℕ) (from n : ℕ) where
         go false = refl
 
     one-new : 0 < left → behind before (then (fresh limit seen (drop at s)) (λ x r. then (distinct (left - 1) limit (x ∷ i .back) r) (λ xs q. got (x ∷ xs) q))) ≡ distinct n limit [] (drop from s)
-    unfolding distinct
+    unfolding distinct fresh
     one-new h =
         let e : left ≡ suc (left - 1) = omega arith in
         rw (← next-one (below limit (drop at s)) seen (i .back) (i .is) (λ x r. then (distinct (left - 1) limit (x ∷ i .back) r) (λ xs q. got (x ∷ xs) q))) (rw e at (i .same))

@@ -29,5 +29,5 @@ distinct zero limit before l = got [] l
 distinct (suc n) limit before l = then (below limit l) (λ x r. pick (has x before) (refused 3) (then (distinct n limit (x ∷ before) r) (λ xs q. got (x ∷ xs) q)))
 
 -- the next of them, where those before are known by a set
-abbrev pub fresh : ℕ → (ℕ → Bool) → List ℕ → Read ℕ
+unfoldable pub fresh : ℕ → (ℕ → Bool) → List ℕ → Read ℕ
 fresh limit seen l = then (below limit l) (λ x r. pick (seen x) (refused 3) (got x r))

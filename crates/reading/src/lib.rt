@@ -1,6 +1,5 @@
 // A job's numbers, each held against a limit.
 use number::Number;
-ghost use mathlib.Core.Path.{_≡_};
 ghost use Rattle.reading.specs.Reading.{below, between};
 ghost use Rattle.reading.specs.Answer.{ReadAt};
 

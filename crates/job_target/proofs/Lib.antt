@@ -1,0 +1,9 @@
+pub mod Table
+pub mod Flags
+pub mod Rows
+pub mod Banks
+pub mod Listed
+pub mod Regs
+pub mod Classes
+pub mod Same
+pub mod Whole

@@ -1,0 +1,4 @@
+pub mod Target
+pub mod Held
+pub mod Steps
+pub mod Answer
