@@ -1,0 +1,60 @@
+-- A patch of a job, read and resolved.
+use Prim.Native.Nat.{ℕ, _≤_}
+use mathlib.Core.Path.{_≡_, refl, sym, ap, _∙_}
+use mathlib.Core.Bool.{Bool}
+use mathlib.Core.List.{List}
+use mathlib.Core.Option.{Option, none, some}
+use native.Mathlib.Omega.{arith}
+use lib.ListN.{length, drop}
+use Rattle.entity.specs.Logic.{has}
+use Rattle.reginfo.specs.Table.{regInfoOf}
+use Rattle.function.specs.Table.{functionOf}
+use Rattle.small_set.specs.Set.{setOf}
+use Rattle.rules.specs.Patch.{Patch, Answer, resolveSorted}
+use Rattle.rules.specs.Patch as rules
+use Rattle.slots.specs.Stacks.{cacheOf}
+use Rattle.entries.specs.Table.{sortedOf}
+use Rattle.entries.specs.Known.{EntriesOk}
+use Rattle.number.specs.Read.{Read, got, refused}
+use Rattle.reading.specs.declared.Next.the-variants as X
+use Rattle.parallel_moves.specs.declared.Resolved.the-variants as R
+use Rattle.parallel_moves.specs.Answers.{Gives}
+use Rattle.job_patch.specs.Steps.{PatchAt}
+use Rattle.job.specs.declared.Step.{Step}
+use Rattle.job.specs.declared.Step.the-variants.{Edits, Refused}
+use Rattle.job.specs.Steps.{CallAt, StepAt}
+
+module _ (f : List ℕ) (next : ℕ) (list list′ cache cache′ : List ℕ) where
+  pub call-refused : (a : Answer) (k : ℕ) → Gives f a (R.Refused k) list list′ cache cache′ → CallAt f a next (Refused k) list list′ cache cache′
+  call-refused (rules.refused n) k h = let e : k ≡ n = cc in (ap Refused e, h .1, h .2)
+  call-refused (rules.resolved es c) k h = absurd (let z : _≡_ {A = ℕ} 0 1 = cc in omega arith)
+
+  pub call-edits : (a : Answer) (n : ℕ) → Gives f a (R.Edits n) list list′ cache cache′ → CallAt f a next (Edits n next) list list′ cache cache′
+  call-edits (rules.refused k) n h = absurd (let z : _≡_ {A = ℕ} 0 1 = cc in omega arith)
+  call-edits (rules.resolved es c) n h = let e : n ≡ length es = h .1 in (rw e, h .2, h .3, h .4)
+
+module _ (t f s : List ℕ) (x : Read Patch) (free : List Bool) (e w : List ℕ) where
+  pub step-refused : (k : ℕ) (list cache : List ℕ) → PatchAt t f s x (X.Refused k) free e w → StepAt t f s x (Refused k) list list cache cache
+  step-refused k list cache = go x
+    where
+      go : (x : Read Patch) → PatchAt t f s x (X.Refused k) free e w → StepAt t f s x (Refused k) list list cache cache
+      go (refused j) h = let z : k ≡ j = cc in (ap Refused z, refl, refl)
+      go (got p rest) h = absurd (let z : _≡_ {A = ℕ} 0 1 = cc in omega arith)
+
+  pub entries-there : (next : ℕ) → PatchAt t f s x (X.At next) free e w → EntriesOk t f e w
+  entries-there next = go x
+    where
+      go : (x : Read Patch) → PatchAt t f s x (X.At next) free e w → EntriesOk t f e w
+      go (refused j) h = absurd (let z : _≡_ {A = ℕ} 0 1 = cc in omega arith)
+      go (got p rest) h = h .4 .ok
+
+  pub step-read : (next : ℕ) (r : Step) (list list′ cache cache′ : List ℕ) → PatchAt t f s x (X.At next) free e w
+      → ((p : Patch) → ((u : ℕ) → has u (p .free) ≡ setOf free u) → CallAt f (resolveSorted (regInfoOf t) (functionOf f) p (length list) (cacheOf cache) (sortedOf e)) next r list list′ cache cache′)
+      → StepAt t f s x r list list′ cache cache′
+  step-read next r list list′ cache cache′ h g = go x h
+    where
+      go : (x : Read Patch) → PatchAt t f s x (X.At next) free e w → StepAt t f s x r list list′ cache cache′
+      go (refused j) h = absurd (let z : _≡_ {A = ℕ} 0 1 = cc in omega arith)
+      go (got p rest) h =
+          let same : next ≡ h .0 = cc in
+          (next, h .2 ∙ rw same, rw same (h .3), rw (h .4 .rest (length list) (cacheOf cache)) (g p (h .4 .free-is)))

@@ -1,0 +1,74 @@
+-- 01, The job: what the bytes of a job are answered with.
+use Prim.Native.Nat.{ℕ, zero, suc}
+use mathlib.Core.List.{List, [], _∷_}
+use mathlib.Core.Option.{Option, none, some}
+use lib.Dec.{ltb}
+use lib.ListN.{length}
+use Rattle.entity.specs.Logic.{pick}
+use Rattle.reginfo.specs.RegInfo.{RegInfo}
+use Rattle.reginfo.specs.Refused.{targetRefusal}
+use Rattle.function.specs.Function.{Function}
+use Rattle.rules.specs.Edit.{Edit}
+use Rattle.rules.specs.Scratch.{Cache, emptyCache}
+use Rattle.rules.specs.Patch.{Patch, Answer, resolve}
+use Rattle.rules.specs.Patch as rules
+use Rattle.number.specs.Read.{Read, got, refused, then}
+use Rattle.reading.specs.Reading.{between}
+use Rattle.job_target.specs.Target.{target}
+use Rattle.job_function.specs.Reads.{function}
+use Rattle.job_patch.specs.Patches.{unlessGiven, patch}
+
+-- an accepted target, a function over it, and how many patches follow
+pub record Header : Type 0 where
+  pub target : RegInfo
+  pub function : Function
+  pub patches : ℕ
+
+-- "patch count 1 to 1,024"
+unfoldable pub afterTarget : RegInfo → List ℕ → Read Header
+afterTarget t l = then (function t l) (λ f q. then (between 1 1024 q) (λ n p. got (record { target = t; function = f; patches = n }) p))
+
+-- "4 to 7 rising after the target" (2 and 3 were given as it was read)
+unfoldable pub header : List ℕ → Read Header
+header l = then (target l) (λ t r. unlessGiven (targetRefusal t) (afterTarget t r))
+
+-- of a patch that was resolved: its edits, and how many slots the function then has
+pub record Done : Type 0 where
+  pub edits : List Edit
+  pub made : ℕ
+
+-- the patches resolved, and the refusal, if one came
+pub record Answers : Type 0 where
+  pub done : List Done
+  pub refusal : Option ℕ
+
+abbrev pub endsWith : Option ℕ → Answers
+endsWith k = record { done = []; refusal = k }
+
+abbrev pub before : Done → Answers → Answers
+before d a = record { done = d ∷ a .done; refusal = a .refusal }
+
+abbrev pub afterRead : {A : Type 0} → Read A → (A → List ℕ → Answers) → Answers
+afterRead (got x r) next = next x r
+afterRead (refused k) next = endsWith (some k)
+
+abbrev pub afterCall : Answer → (Cache → Answers) → Answers
+afterCall (rules.refused k) next = endsWith (some k)
+afterCall (rules.resolved es c) next = before (record { edits = es; made = c .made }) (next c)
+
+-- 8: bytes left over
+abbrev pub leftOver : List ℕ → Answers
+leftOver [] = endsWith none
+leftOver (b ∷ l) = endsWith (some 8)
+
+-- "There is one call for each patch, and what earlier patches gave stands": the list lent to a call has room for every patch
+unfoldable pub patches : RegInfo → Function → ℕ → Cache → List ℕ → Answers
+patches t f zero c l = leftOver l
+patches t f (suc n) c l = afterRead (patch t f l) (λ p r. afterCall (resolve t f p 1024 c) (λ c′. patches t f n c′ r))
+
+-- "a job over 65,536 bytes, tested first"
+unfoldable pub opening : List ℕ → Read Header
+opening l = pick (ltb 65536 (length l)) (refused 2) (header l)
+
+unfoldable pub job : List ℕ → Answers
+job l = afterRead (opening l) (λ h r. patches (h .target) (h .function) (h .patches) emptyCache r)

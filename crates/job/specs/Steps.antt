@@ -1,0 +1,40 @@
+-- What the steps of answering a job ensure.
+use Prim.Native.Nat.{ℕ, _≤_}
+use mathlib.Core.Path.{_≡_}
+use mathlib.Core.List.{List, _++_, map}
+use lib.ListN.{length, drop}
+use Rattle.reginfo.specs.Table.{regInfoOf}
+use Rattle.function.specs.Known.{Checked}
+use Rattle.function.specs.Table.{functionOf}
+use Rattle.rules.specs.Edit.{Edit}
+use Rattle.rules.specs.Scratch.{Cache}
+use Rattle.rules.specs.Patch.{Patch, Answer, resolve}
+use Rattle.rules.specs.Patch as rules
+use Rattle.edit.specs.Word.{wordOf}
+use Rattle.slots.specs.Stacks.{cacheOf}
+use Rattle.number.specs.Read.{Read, got, refused}
+use Rattle.number.specs.declared.Number.{Number}
+use Rattle.number.specs.declared.Number.the-variants as N
+use Rattle.parallel_moves.specs.Given.{CacheOk}
+use Rattle.job_patch.specs.Patches.{patch}
+use Rattle.job.specs.declared.Step.{Step}
+use Rattle.job.specs.declared.Step.the-variants.{Edits, Refused}
+use Rattle.job.specs.Job.{Header, header}
+
+-- the header read: the tables hold the target and the function, and the answer has the patch count and the next offset
+abbrev pub HeaderAt : (s : List ℕ) → Read Header → Number → (t f : List ℕ) → Type 0
+HeaderAt s (refused k) r t f = r ≡ N.Refused k
+HeaderAt s (got h rest) r t f =
+    (next : ℕ) × (r ≡ N.Is (h .patches) next) × (rest ≡ drop next s) × (next ≤ length s) × (regInfoOf t ≡ h .target) × (functionOf f ≡ h .function) × Checked t f
+
+-- a patch resolved: its edits' words stand at the front of the list, and the cache is that of the rules; a refusal leaves list and cache
+abbrev pub CallAt : (f : List ℕ) → Answer → (next : ℕ) → Step → (list list′ cache cache′ : List ℕ) → Type 0
+CallAt f (rules.refused k) next r list list′ cache cache′ = (r ≡ Refused k) × (list′ ≡ list) × (cache′ ≡ cache)
+CallAt f (rules.resolved es c) next r list list′ cache cache′ =
+    (r ≡ Edits (length es) next) × (list′ ≡ map wordOf es ++ drop (length es) list) × (cacheOf cache′ ≡ c) × CacheOk f cache′
+
+-- a patch read and resolved
+abbrev pub StepAt : (t f s : List ℕ) → Read Patch → Step → (list list′ cache cache′ : List ℕ) → Type 0
+StepAt t f s (refused k) r list list′ cache cache′ = (r ≡ Refused k) × (list′ ≡ list) × (cache′ ≡ cache)
+StepAt t f s (got p rest) r list list′ cache cache′ =
+    (next : ℕ) × (rest ≡ drop next s) × (next ≤ length s) × CallAt f (resolve (regInfoOf t) (functionOf f) p (length list) (cacheOf cache)) next r list list′ cache cache′

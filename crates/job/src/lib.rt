@@ -1,0 +1,164 @@
+// 01, The job: read from bytes, and answered patch by patch.
+use carried::Carried;
+use edit::Edits;
+use entries::Entries;
+use function::Function;
+use number::Number;
+use parallel_moves::Resolved;
+use reading::Next;
+use reginfo::RegInfo;
+use scratch::Diverted;
+use slots::SlotCache;
+use slots::Slots;
+use small_set::RegUnitSet;
+use sparse::SparseMap;
+use target_check::TargetCheck;
+use visits::Marks;
+ghost use mathlib.Core.Path.{_≡_};
+ghost use Prim.Native.Nat.{ℕ, _≤_};
+ghost use lib.ListN.{length, drop};
+ghost use Rattle.entity.specs.Logic.{has};
+ghost use Rattle.reginfo.specs.Refused.{Accepted, targetRefusal};
+ghost use Rattle.reginfo.specs.Table.{regInfoOf, Indexed};
+ghost use Rattle.function.specs.Known.{Checked};
+ghost use Rattle.function.specs.Table.{functionOf};
+ghost use Rattle.small_set.specs.Set.{setOf};
+ghost use Rattle.rules.specs.Patch.{Patch, resolveSorted};
+ghost use Rattle.slots.specs.Stacks.{cacheOf};
+ghost use Rattle.entries.specs.Table.{sortedOf};
+ghost use Rattle.entries.specs.Known.{EntriesOk};
+ghost use Rattle.job_patch.specs.Patches.{unlessGiven, patch};
+ghost use Rattle.parallel_moves.specs.Given.{CacheOk};
+ghost use Rattle.job.specs.Job.{opening, header, afterTarget};
+ghost use Rattle.job.specs.Steps.{HeaderAt, CallAt, StepAt};
+
+// How many edits a patch has and where the next one stands, or 01's number.
+pub enum Step {
+    Edits(usize, usize),
+    Refused(u8),
+}
+
+// The function and the patch count, once the target is accepted.
+fn read_after_target(s: &[u8], at: usize, t: &RegInfo, f: &mut Function) -> Number
+    requires { ⌜ Accepted (regInfoOf (now t)) × Indexed (now t) ⌝ }
+    ensures { λ r. ⌜ HeaderAt (now (s .entry)) (afterTarget (regInfoOf (now (t .entry))) (drop at (now (s .entry)))) r (now (t .entry)) (now (f .exit)) ⌝ }
+{
+    match job_function::read_function(t, s, at, f) {
+        Next::Refused(k) => Number::Refused(k),
+        Next::At(next) => reading::between(s, next, 1, 1024),
+    }
+}
+
+// 4 to 7, then the function and the patch count.
+fn read_after_test(s: &[u8], at: usize, t: &mut RegInfo, f: &mut Function) -> Number
+    ensures { λ r. ⌜ HeaderAt (now (s .entry)) (unlessGiven (targetRefusal (regInfoOf (now (t .entry)))) (afterTarget (regInfoOf (now (t .entry))) (drop at (now (s .entry))))) r (now (t .exit)) (now (f .exit)) ⌝ }
+{
+    match target_check::check(t) {
+        TargetCheck::Accepted => read_after_target(s, at, t, f),
+        TargetCheck::OutsideLimits => Number::Refused(2),
+        TargetCheck::ListedTwice => Number::Refused(3),
+        TargetCheck::UnequalWidths => Number::Refused(4),
+        TargetCheck::ForeignMember => Number::Refused(5),
+        TargetCheck::SharedMemory => Number::Refused(6),
+        TargetCheck::UnfitClass => Number::Refused(7),
+    }
+}
+
+// The target, the function and the patch count of a job, which goes on at the offset given. What the tables held does not matter.
+pub fn read_opening(s: &[u8], t: &mut RegInfo, f: &mut Function) -> Number
+    ensures { λ r. ⌜ HeaderAt (now (s .entry)) (opening (now (s .entry))) r (now (t .exit)) (now (f .exit)) ⌝ }
+{
+    if 65536 < s.len() {
+        return Number::Refused(2);
+    }
+    match job_target::read_target(s, 0, t) {
+        Next::Refused(k) => Number::Refused(k),
+        Next::At(next) => read_after_test(s, next, t, f),
+    }
+}
+
+// Resolves the patch that the tables hold; the next one stands at `next`.
+fn resolve_before(
+    t: &RegInfo,
+    f: &Function,
+    free: &RegUnitSet,
+    e: &Entries,
+    w: &SparseMap,
+    cache: &mut SlotCache,
+    list: &mut [u64],
+    available: &mut RegUnitSet,
+    sources: &mut RegUnitSet,
+    edits: &mut Edits,
+    slots: &mut Slots,
+    d: &mut Diverted,
+    marks: &mut Marks,
+    c: &mut Carried,
+    next: usize,
+) -> Step
+    requires { ⌜ Checked (now t) (now f) × EntriesOk (now t) (now f) (now e) (now w) × CacheOk (now f) (now cache) ⌝ }
+    ensures { λ r. ⌜ ((p : Patch) → ((u : ℕ) → has u (p .free) ≡ setOf (now (free .entry)) u) → CallAt (now (f .entry)) (resolveSorted (regInfoOf (now (t .entry))) (functionOf (now (f .entry))) p (length (now (list .entry))) (cacheOf (now (cache .entry))) (sortedOf (now (e .entry)))) next r (now (list .entry)) (now (list .exit)) (now (cache .entry)) (now (cache .exit))) ⌝ }
+{
+    match parallel_moves::resolve(
+        t,
+        f,
+        e,
+        w,
+        free,
+        cache,
+        list,
+        available,
+        sources,
+        edits,
+        slots,
+        d,
+        marks,
+        c,
+    ) {
+        Resolved::Refused(k) => Step::Refused(k),
+        Resolved::Edits(n) => Step::Edits(n, next),
+    }
+}
+
+// The patch at an offset: read and resolved. What the working tables held does not matter.
+pub fn answer_patch(
+    t: &RegInfo,
+    f: &Function,
+    s: &[u8],
+    at: usize,
+    cache: &mut SlotCache,
+    list: &mut [u64],
+    free: &mut RegUnitSet,
+    e: &mut Entries,
+    w: &mut SparseMap,
+    available: &mut RegUnitSet,
+    sources: &mut RegUnitSet,
+    edits: &mut Edits,
+    slots: &mut Slots,
+    d: &mut Diverted,
+    marks: &mut Marks,
+    c: &mut Carried,
+) -> Step
+    requires { ⌜ Checked (now t) (now f) × CacheOk (now f) (now cache) ⌝ }
+    ensures { λ r. ⌜ StepAt (now (t .entry)) (now (f .entry)) (now (s .entry)) (patch (regInfoOf (now (t .entry))) (functionOf (now (f .entry))) (drop at (now (s .entry)))) r (now (list .entry)) (now (list .exit)) (now (cache .entry)) (now (cache .exit)) ⌝ }
+{
+    match job_patch::read_patch(t, f, s, at, free, e, w) {
+        Next::Refused(k) => Step::Refused(k),
+        Next::At(next) => resolve_before(
+            t,
+            f,
+            free,
+            e,
+            w,
+            cache,
+            list,
+            available,
+            sources,
+            edits,
+            slots,
+            d,
+            marks,
+            c,
+            next,
+        ),
+    }
+}
