@@ -7,3 +7,4 @@ pub mod Regs
 pub mod Classes
 pub mod Same
 pub mod Whole
+pub mod Trials

@@ -2,3 +2,4 @@ pub mod Target
 pub mod Held
 pub mod Steps
 pub mod Answer
+pub mod Trials
