@@ -178,12 +178,10 @@ fn read_entry(
 {
     match reading::below(s, at, 2) {
         Number::Refused(k) => Next::Refused(k),
-        Number::Is(kind, next) => {
-            if kind == 0 {
-                return read_move(t, f, s, next, e, w);
-            }
-            read_remat(t, f, s, next, e, w)
-        }
+        Number::Is(kind, next) => match kind {
+            0 => read_move(t, f, s, next, e, w),
+            _ => read_remat(t, f, s, next, e, w),
+        },
     }
 }
 
