@@ -1,17 +1,20 @@
 -- An edit's word reads back as that edit, and what the buffer holds after each write.
 use Prim.Native.Nat.{ℕ, zero, suc, _+_, _-_, _*_, _/_, _%_, _<_, _≤_}
 use mathlib.Core.Path.{_≡_, refl, sym, ap, _∙_}
+use mathlib.Core.Bool.{Bool, true, false}
 use mathlib.Core.List.{List, [], _∷_, _++_, map, append-assoc}
-use mathlib.Core.Option.{some}
+use mathlib.Core.Option.{Option, none, some}
 use native.Mathlib.Omega.{arith}
 use native.Mathlib.Numerals.{add-one}
+use lib.Dec.{eqb}
 use lib.ListN.{set, getD, length, take, drop, length-set, length-map}
 use lib.Seq.{getD-set-same, getD-set-other, drop-set-lt, take-suc-set}
 use borrow.Author.Tests.{eq-eqb}
+use Rattle.entity.specs.Logic.{pick, and}
 use Rattle.entity.specs.Place.{codeOf, placeAt}
 use Rattle.entity.proofs.Laws.{place-there, code-there}
 use Rattle.rules.specs.Edit.{Edit, Move, Rematerialize, EmergencySpill, EmergencyReload}
-use Rattle.edit.specs.Word.{packed, kindIn, toIn, fromIn, valueIn, wordOf, editOf, Small, InRange}
+use Rattle.edit.specs.Word.{packed, kindIn, toIn, fromIn, valueIn, wordOf, editOf, isReg, isSlot, Small, InRange, AllInRange}
 use Rattle.edit.specs.Buffer.{newestFirst, countOf, wordsOf, orEdit, editsOf, Written}
 
 -- ---- words
@@ -124,3 +127,40 @@ length-newest t (suc n) = ap suc (length-newest t n)
 pub length-edits : (t : List ℕ) → length (editsOf t) ≡ countOf t
 unfolding editsOf
 length-edits t = length-map (wordsOf t) (λ w. orEdit (editOf w)) ∙ length-newest t (countOf t)
+
+-- ---- whatever the words, the edits that they are read as have words
+abbrev Fits : Option Edit → Type 0
+Fits o = InRange (orEdit o)
+
+either : (b : Bool) (x y : Option Edit) → Fits x → Fits y → Fits (pick b x y)
+either true x y p q = p
+either false x y p q = q
+
+small-parts : (w : ℕ) → Small (toIn w) (fromIn w) (valueIn w)
+small-parts w = record { to-small = omega arith; from-small = omega arith; value-small = omega arith }
+
+halved : (x : ℕ) → x < 16384 → x / 2 < 8192
+halved x h = omega arith
+
+in-range : (w : ℕ) → Fits (editOf w)
+unfolding editOf
+in-range w =
+    let s = small-parts w in
+    let to = halved (toIn w) (s .to-small) in
+    let from = halved (fromIn w) (s .from-small) in
+    let saved : InRange (EmergencySpill (toIn w / 2) (fromIn w / 2)) = record { to-small = omega (arith, to); from-small = omega (arith, from); value-small = omega arith } in
+    let brought : InRange (EmergencyReload (toIn w / 2) (fromIn w / 2)) = record { to-small = omega (arith, to); from-small = omega (arith, from); value-small = omega arith } in
+    let rebuilt : Small (toIn w) 0 (valueIn w) = record { to-small = s .to-small; from-small = omega arith; value-small = s .value-small } in
+    let nothing : Fits none = record { to-small = omega arith; from-small = omega arith; value-small = omega arith } in
+    either (eqb (kindIn w) 1) (some (Move (placeAt (toIn w)) (placeAt (fromIn w)) (valueIn w))) _ (move-range (toIn w) (fromIn w) (valueIn w) s)
+    (either (eqb (kindIn w) 2) (some (Rematerialize (placeAt (toIn w)) (valueIn w))) _ (remat-range (toIn w) (valueIn w) rebuilt)
+    (either (and (eqb (kindIn w) 3) (and (isSlot (toIn w)) (isReg (fromIn w)))) (some (EmergencySpill (toIn w / 2) (fromIn w / 2))) _ saved
+    (either (and (eqb (kindIn w) 4) (and (isReg (toIn w)) (isSlot (fromIn w)))) (some (EmergencyReload (toIn w / 2) (fromIn w / 2))) none brought nothing)))
+
+all-read : (l : List ℕ) → AllInRange (map (λ w. orEdit (editOf w)) l)
+all-read [] = tt
+all-read (w ∷ l) = (in-range w, all-read l)
+
+pub all-in-range : (t : List ℕ) → AllInRange (editsOf t)
+unfolding editsOf
+all-in-range t = all-read (wordsOf t)

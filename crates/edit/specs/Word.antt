@@ -1,6 +1,7 @@
 -- An edit as one number: ((value · 2^14 + from) · 2^14 + to) · 8 + kind, places by their codes.
 use Prim.Native.Nat.{ℕ, zero, suc, _+_, _*_, _/_, _%_, _<_}
 use mathlib.Core.Bool.{Bool, true, false}
+use mathlib.Core.List.{List, [], _∷_}
 use mathlib.Core.Option.{Option, none, some}
 use lib.Dec.{eqb}
 use Rattle.entity.specs.Logic.{pick, and}
@@ -54,3 +55,7 @@ InRange (Move to from v) = Small (codeOf to) (codeOf from) v
 InRange (Rematerialize to v) = Small (codeOf to) 0 v
 InRange (EmergencySpill s r) = Small (codeOf (slot s)) (codeOf (reg r)) 0
 InRange (EmergencyReload r s) = Small (codeOf (reg r)) (codeOf (slot s)) 0
+
+abbrev pub AllInRange : List Edit → Type 0
+AllInRange [] = Unit {0}
+AllInRange (e ∷ es) = InRange e × AllInRange es

@@ -31,7 +31,7 @@ module _ (f : List ℕ) (next : ℕ) (list list′ cache cache′ : List ℕ) wh
 
   pub call-edits : (a : Answer) (n : ℕ) → Gives f a (R.Edits n) list list′ cache cache′ → CallAt f a next (Edits n next) list list′ cache cache′
   call-edits (rules.refused k) n h = absurd (let z : _≡_ {A = ℕ} 0 1 = cc in omega arith)
-  call-edits (rules.resolved es c) n h = let e : n ≡ length es = h .1 in (rw e, h .2, h .3, h .4)
+  call-edits (rules.resolved es c) n h = let e : n ≡ length es = h .1 in (rw e, h .2, h .3, h .4, h .5)
 
 module _ (t f s : List ℕ) (x : Read Patch) (free : List Bool) (e w : List ℕ) where
   pub step-refused : (k : ℕ) (list cache : List ℕ) → PatchAt t f s x (X.Refused k) free e w → StepAt t f s x (Refused k) list list cache cache

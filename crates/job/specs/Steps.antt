@@ -10,7 +10,7 @@ use Rattle.rules.specs.Edit.{Edit}
 use Rattle.rules.specs.Scratch.{Cache}
 use Rattle.rules.specs.Patch.{Patch, Answer, resolve}
 use Rattle.rules.specs.Patch as rules
-use Rattle.edit.specs.Word.{wordOf}
+use Rattle.edit.specs.Word.{wordOf, AllInRange}
 use Rattle.slots.specs.Stacks.{cacheOf}
 use Rattle.number.specs.Read.{Read, got, refused}
 use Rattle.number.specs.declared.Number.{Number}
@@ -31,7 +31,7 @@ HeaderAt s (got h rest) r t f =
 abbrev pub CallAt : (f : List ℕ) → Answer → (next : ℕ) → Step → (list list′ cache cache′ : List ℕ) → Type 0
 CallAt f (rules.refused k) next r list list′ cache cache′ = (r ≡ Refused k) × (list′ ≡ list) × (cache′ ≡ cache)
 CallAt f (rules.resolved es c) next r list list′ cache cache′ =
-    (r ≡ Edits (length es) next) × (list′ ≡ map wordOf es ++ drop (length es) list) × (cacheOf cache′ ≡ c) × CacheOk f cache′
+    (r ≡ Edits (length es) next) × (list′ ≡ map wordOf es ++ drop (length es) list) × AllInRange es × (cacheOf cache′ ≡ c) × CacheOk f cache′
 
 -- a patch read and resolved
 abbrev pub StepAt : (t f s : List ℕ) → Read Patch → Step → (list list′ cache cache′ : List ℕ) → Type 0

@@ -20,11 +20,11 @@ call x = record { patch = patchOf (x .free) (x .numbers); room = length (x .list
 module _ (t f : List ℕ) where
   outcome : (x : Made) (cache : List ℕ) (c : Cache) (r : Answer) → ruled t f x c ≡ r → Gives f r (x .answer) (x .list) (x .after) cache (x .cache) → rules.Answered (regInfoOf t) (functionOf f) (patchOf (x .free) (x .numbers)) r → Outcome t f x cache c
   outcome x cache c (refused n) e g a = turned n e (g .0) (g .1) (g .2)
-  outcome x cache c (resolved es c′) e g a = taken es c′ e (g .0) (g .1) (g .2) (g .3) a
+  outcome x cache c (resolved es c′) e g a = taken es c′ e (g .0) (g .1) (g .2) (g .4) a
 
   next : (x : Made) (cache : List ℕ) (c : Cache) (r : Answer) → cacheOf cache ≡ c → Gives f r (x .answer) (x .list) (x .after) cache (x .cache) → cacheOf (x .cache) ≡ cacheAfter c r
   next x cache c (refused n) e g = ap cacheOf (g .2) ∙ e
-  next x cache c (resolved es c′) e g = g .3
+  next x cache c (resolved es c′) e g = g .4
 
   claims : (calls : List Made) (cache : List ℕ) (c : Cache) → cacheOf cache ≡ c → Called t f calls cache → rules.Claim (regInfoOf t) (functionOf f) (map call calls) c → Claim t f calls cache c
   claims [] cache c e h g = tt

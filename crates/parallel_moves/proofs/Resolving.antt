@@ -26,7 +26,7 @@ use Rattle.machine.proofs.Bound.{run-few}
 use Rattle.machine.proofs.Slots.{slots-empty, run-stacks, stack-few}
 use Rattle.edit.specs.Word.{wordOf}
 use Rattle.edit.specs.Buffer.{countOf, wordsOf, editsOf}
-use Rattle.edit.proofs.Laws.{length-edits}
+use Rattle.edit.proofs.Laws.{length-edits, all-in-range}
 use Rattle.slots.specs.Stacks.{cacheOf, stacksOf}
 use Rattle.slots.specs.Steps.{Cleared, Committed}
 use Rattle.scratch.specs.declared.ScratchAllocator.{ScratchAllocator}
@@ -119,7 +119,7 @@ module _ (t f cache e w list : List ℕ) (known : Checked t f) (ok : EntriesOk t
           let len : length (editsOf (x .edits)) ≡ countOf (x .edits) = length-edits (x .edits) in
           let is : cacheOf cache′ ≡ cacheIn k (x .slots) cache = o .3 .is in
           rw (← passed p q, limited p q .same h)
-          (o .0, o .1 ∙ sym len, rw (← ran .fits .written, len) (o .2), is, record { fits = o .3 .fits; stacks = rw is (in-stacks h); made = rw is h })
+          (o .0, o .1 ∙ sym len, rw (← ran .fits .written, len) (o .2), all-in-range (x .edits), is, record { fits = o .3 .fits; stacks = rw is (in-stacks h); made = rw is h })
 
       pub gives : Gives f (answered p) r list list′ cache cache′
       gives = go (ltb (functionOf f .limit) (k .made)) refl

@@ -9,10 +9,10 @@ use lib.ListN.{length, length-append}
 use Rattle.entity.specs.Logic.{pick, and}
 use Rattle.entity.specs.Place.{Place, reg, slot, codeOf, placeAt}
 use Rattle.rules.specs.Edit.{Edit, Move, Rematerialize, EmergencySpill, EmergencyReload}
-use Rattle.edit.specs.Word.{kindIn, toIn, fromIn, valueIn, isReg, isSlot, editOf, InRange}
+use Rattle.edit.specs.Word.{kindIn, toIn, fromIn, valueIn, isReg, isSlot, editOf, InRange, AllInRange}
 use Rattle.edit.proofs.Laws.{move-range, remat-range}
 use Rattle.print.specs.Text.{decimal, placeText, newline, spaced, editLine, editLines, editsWord, madeWord, patchLine, patchText, refusedLine}
-use Rattle.print.specs.Words.{lineOf, wordLine, wordLines, wordsText, AllInRange}
+use Rattle.print.specs.Words.{lineOf, wordLine, wordLines, wordsText}
 use Rattle.print.proofs.Decimal.{short}
 
 -- 10 digits hold every number of a job

@@ -8,12 +8,12 @@ use native.Mathlib.Numerals.{add-one}
 use lib.ListN.{length, take, drop, getD, length-append, length-map}
 use lib.Seq.{take-at, take-suc, split-at, take-take, getD-take, length-take-le}
 use Rattle.rules.specs.Edit.{Edit}
-use Rattle.edit.specs.Word.{wordOf, InRange}
+use Rattle.edit.specs.Word.{wordOf, InRange, AllInRange}
 use Rattle.edit.specs.Read.{readOf}
 use Rattle.edit.specs.declared.Edit as code
 use Rattle.edit.proofs.Laws.{there}
 use Rattle.print.specs.Text.{decimal, digitsOf, placeText, editLine, editLines, patchLine, patchText}
-use Rattle.print.specs.Words.{lineOf, wordLine, wordLines, wordsText, AllInRange, Words}
+use Rattle.print.specs.Words.{lineOf, wordLine, wordLines, wordsText, Words}
 use Rattle.print.specs.Put.{Room, Put}
 use Rattle.print.specs.Trials.{Trials}
 use Rattle.print.proofs.Putting.{nothing-put, front-room, next-room, then-put}

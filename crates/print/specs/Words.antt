@@ -5,7 +5,7 @@ use mathlib.Core.List.{List, [], _∷_, _++_, map}
 use mathlib.Core.Option.{Option, none, some}
 use lib.ListN.{length}
 use Rattle.rules.specs.Edit.{Edit}
-use Rattle.edit.specs.Word.{wordOf, editOf, InRange}
+use Rattle.edit.specs.Word.{wordOf, editOf, AllInRange}
 use Rattle.print.specs.Text.{editLine, patchLine}
 
 -- a word that is no edit prints nothing
@@ -22,10 +22,6 @@ wordLines (w ∷ l) = wordLine w ++ wordLines l
 
 abbrev pub wordsText : ℕ → List ℕ → ℕ → List ℕ
 wordsText k l made = patchLine k (length l) made ++ wordLines l
-
-abbrev pub AllInRange : List Edit → Type 0
-AllInRange [] = Unit {0}
-AllInRange (e ∷ es) = InRange e × AllInRange es
 
 -- the words are those of the edits
 pub record Words (l : List ℕ) (es : List Edit) : Type 0 where

@@ -20,7 +20,7 @@ use Rattle.job.specs.Steps.{HeaderAt, CallAt, StepAt}
 
 call-left : (f : List ℕ) (a : Answer) (next n m : ℕ) (list list′ cache cache′ : List ℕ) → CallAt f a next (Edits n m) list list′ cache cache′ → (n ≤ length list′) × CacheOk f cache′
 call-left f (rules.refused k) next n m list list′ cache cache′ h = absurd (let z : _≡_ {A = ℕ} 0 1 = cc in omega arith)
-call-left f (rules.resolved es c) next n m list list′ cache cache′ h = let e : n ≡ length es = cc in (rw e (front-fits list′ _ es (h .1)), h .3)
+call-left f (rules.resolved es c) next n m list list′ cache cache′ h = let e : n ≡ length es = cc in (rw e (front-fits list′ _ es (h .1)), h .4)
 
 pub step-left : (t f s : List ℕ) (x : Read Patch) (n m : ℕ) (list list′ cache cache′ : List ℕ) → StepAt t f s x (Edits n m) list list′ cache cache′ → (n ≤ length list′) × CacheOk f cache′
 step-left t f s (refused k) n m list list′ cache cache′ h = absurd (let z : _≡_ {A = ℕ} 0 1 = cc in omega arith)
