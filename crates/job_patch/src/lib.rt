@@ -35,7 +35,7 @@ fn read_place(t: &RegInfo, f: &Function, s: &[u8], at: usize) -> Number
     requires { ⌜ Checked (now t) (now f) ⌝ }
     ensures { λ r. ⌜ PlaceAt (now (t .entry)) (now (f .entry)) (now (s .entry)) at r ⌝ }
 {
-    match number::read(s, at) {
+    match reader::read(s, at) {
         Number::Refused(k) => Number::Refused(k),
         Number::Is(code, next) => {
             if entries::names_place(t, f, code) {
@@ -253,7 +253,7 @@ fn read_rest(
     requires { ⌜ Checked (now t) (now f) ⌝ }
     ensures { λ r. ⌜ Entered (now (t .entry)) (now (f .entry)) (now (s .entry)) (then (number (drop at (now (s .entry)))) (λ n p. entries (regInfoOf (now (t .entry))) (functionOf (now (f .entry))) n nothingSorted p)) nothingSorted r (now (e .exit)) (now (w .exit)) ⌝ }
 {
-    match number::read(s, at) {
+    match reader::read(s, at) {
         Number::Refused(k) => Next::Refused(k),
         Number::Is(n, next) => read_entries(t, f, s, next, e, w, n),
     }
@@ -264,7 +264,7 @@ fn read_free_units(t: &RegInfo, s: &[u8], at: usize, free: &mut RegUnitSet) -> N
     requires { ⌜ Accepted (regInfoOf (now t)) ⌝ }
     ensures { λ r. ⌜ Freed (now (s .entry)) (then (number (drop at (now (s .entry)))) (λ n p. rising n (regInfoOf (now (t .entry)) .units) 0 p)) emptySet r (now (free .exit)) ⌝ }
 {
-    match number::read(s, at) {
+    match reader::read(s, at) {
         Number::Refused(k) => Next::Refused(k),
         Number::Is(n, next) => read_free(t, s, next, free, n),
     }

@@ -1,7 +1,7 @@
 // 01, The job: a target is read from bytes into the lent table.
 use entity::RegUnit;
 use number::Number;
-use number::read;
+use reader::read;
 use reading::Next;
 use reading::below;
 use reading::between;

@@ -13,7 +13,7 @@ pub enum Next {
 pub fn below(s: &[u8], at: usize, n: u32) -> Number
     ensures { λ r. ⌜ ReadAt (below n) (now (s .entry)) at r ⌝ }
 {
-    match number::read(s, at) {
+    match reader::read(s, at) {
         Number::Refused(k) => Number::Refused(k),
         Number::Is(x, next) => {
             if x < n {
@@ -28,7 +28,7 @@ pub fn below(s: &[u8], at: usize, n: u32) -> Number
 pub fn between(s: &[u8], at: usize, low: u32, high: u32) -> Number
     ensures { λ r. ⌜ ReadAt (between low high) (now (s .entry)) at r ⌝ }
 {
-    match number::read(s, at) {
+    match reader::read(s, at) {
         Number::Refused(k) => Number::Refused(k),
         Number::Is(x, next) => {
             if x < low {
