@@ -1,3 +1,4 @@
 pub mod Job
 pub mod Steps
 pub mod Claim
+pub mod Conditions
