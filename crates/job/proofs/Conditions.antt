@@ -12,7 +12,7 @@ use borrow.Author.Tests.{lt-ltb, le-ltb}
 use Rattle.entity.specs.Logic.{pick, and, no, any}
 use Rattle.entity.specs.Place.{placeAt}
 use Rattle.reginfo.specs.RegInfo.{RegInfo, numBanks, numClasses, bankForClass}
-use Rattle.reginfo.specs.Refused.{Condition, cond, firstOf, targetRefusal}
+use Rattle.reginfo.specs.Refused.{Condition, cond, outsideLimits, listedTwice, firstOf, targetRefusal}
 use Rattle.reginfo.proofs.First.{first-none, none-first, given-first, first-given}
 use Rattle.function.specs.Function.{Function, numValues}
 use Rattle.rules.specs.Scratch.{Cache, ScratchAllocator, emptyCache}
@@ -29,6 +29,7 @@ use Rattle.job.specs.Job.{Answers, afterRead, afterCall, leftOver, after
 use Rattle.job.specs.Conditions.{afterGot, unread, inNumber, inTested, inTimes, inDistinct, inBank, inReg, inClass, inClasses, inTarget, ofTarget, inRebuilt, inValue, inFunction, inRising, afterResolved, inPlace, inEntry, inEntries, inPatch, ofCall, inPatches, inOpening, jobConditions, Refusals, NoNumber}
 use Rattle.job.proofs.Exactly.{refusalOf, Exactly, orThen, first-append, nothing, after, made, unless, passing, given, either, number-exactly, tested-exactly, times-exactly, distinct-exactly, rising-exactly}
 use Rattle.job.proofs.WasRead.{entry-named, settled, patch-taken}
+use Rattle.job.proofs.ReadTarget.{target-read}
 
 -- a number that passes a test, then the rest
 tested-then : {B : Type 0} (ok : ℕ → Bool) (l : List ℕ) (next : ℕ → List ℕ → Read B) (ns : ℕ → List ℕ → List Condition) → ((x : ℕ) (r : List ℕ) → Exactly (next x r) (ns x r)) → Exactly (then (tested ok l) next) (inTested ok l ++ afterGot (tested ok l) ns)
@@ -164,13 +165,26 @@ module _ (t : RegInfo) (f : Function) where
       answered (patch t f l) (inPatch t f l) _ _ (patch-exactly t f l)
       (λ p r e. called p c _ _ (patch-taken t f l p r e 1024 c) (λ c′. patches-exactly n c′ r))
 
+-- 2 and 3 are settled when the target's rules are tested
+target-settled : (t : RegInfo) → outsideLimits t ≡ false → listedTwice t ≡ false → targetRefusal t ≡ firstOf (ofTarget t)
+unfolding targetRefusal ofTarget firstOf
+target-settled t p q = rw (p, q)
+
+rules-exactly : (t : RegInfo) (r : List ℕ) → targetRefusal t ≡ firstOf (ofTarget t)
+    → Exactly (unlessGiven (targetRefusal t) (afterTarget t r)) (ofTarget t ++ (inFunction t r ++ afterGot (function t r) (λ f q. inTested (λ x. and (leb 1 x) (leb x 1024)) q)))
+unfolding afterTarget
+rules-exactly t r e =
+    rw e
+    (given (ofTarget t) _ _
+    (after (function t r) (inFunction t r) _ _ (function-exactly t r)
+    (λ f q e. made (between 1 1024 q) (inTested (λ x. and (leb 1 x) (leb x 1024)) q) _ (tested-exactly _ q))))
+
 opening-exactly : (l : List ℕ) → Exactly (opening l) (inOpening l)
-unfolding opening inOpening header afterTarget targetRefusal ofTarget
+unfolding opening inOpening header
 opening-exactly l =
     unless (ltb 65536 (length l)) 2 _ _
     (λ _. after (target l) (inTarget l) _ _ (target-exactly l)
-    (λ t r e. given (ofTarget t) _ _ (after (function t r) (inFunction t r) _ _ (function-exactly t r)
-    (λ f q e. made (between 1 1024 q) (inTested (λ x. and (leb 1 x) (leb x 1024)) q) _ (tested-exactly _ q)))))
+    (λ t r e. let w = target-read l t r e in rules-exactly t r (target-settled t (w .0) (w .1))))
 
 job-exactly : (l : List ℕ) → firstOf (jobConditions l) ≡ job l .refusal
 unfolding job jobConditions

@@ -4,3 +4,4 @@ pub mod Claimed
 pub mod Exactly
 pub mod WasRead
 pub mod Conditions
+pub mod ReadTarget

@@ -16,35 +16,20 @@ use Rattle.rules.specs.Scratch.{Cache}
 use Rattle.rules.specs.Patch.{Entry, move, remat, Patch, Sorted, nothingSorted, namesPlace, entryConditions, add, sortedFrom, sorted, resolveSorted, resolveFrom, resolve}
 use Rattle.number.specs.Read.{Read, got, refused, then}
 use Rattle.number.specs.Number.{number}
-use Rattle.reading.specs.Reading.{tested, below}
+use Rattle.reading.specs.Reading.{below}
+use Rattle.job_function.proofs.Accepted.{then-got, pick-got, tested-got}
 use Rattle.job_patch.specs.Patches.{unlessGiven, rising, place, entry, entries, patch}
 
--- ---- each way of reading
 never : {A B : Type 0} {a : A} {r : List ℕ} {k : ℕ} → refused k ≡ got a r → B
 never e = let z : _≡_ {A = ℕ} 0 1 = cc in absurd (omega arith)
 
-pub got-then : {A B : Type 0} (d : Read A) (next : A → List ℕ → Read B) (y : B) (q : List ℕ) → then d next ≡ got y q → (x : A) × (r : List ℕ) × (d ≡ got x r) × (next x r ≡ got y q)
-got-then (got x r) next y q e = (x, r, refl, e)
-got-then (refused k) next y q e = never e
+pub unless-got : {A : Type 0} (b : Bool) (k : ℕ) (d : Read A) (y : A) (q : List ℕ) → pick b (refused k) d ≡ got y q → (b ≡ false) × (d ≡ got y q)
+unless-got true k d y q e = never e
+unless-got false k d y q e = (refl, e)
 
-pub got-passing : {A : Type 0} (b : Bool) (k : ℕ) (x y : A) (r q : List ℕ) → pick b (got x r) (refused k) ≡ got y q → (b ≡ true) × (x ≡ y) × (r ≡ q)
-got-passing true k x y r q e = (refl, cc, cc)
-got-passing false k x y r q e = never e
-
-pub got-unless : {A : Type 0} (b : Bool) (k : ℕ) (d : Read A) (y : A) (q : List ℕ) → pick b (refused k) d ≡ got y q → (b ≡ false) × (d ≡ got y q)
-got-unless true k d y q e = never e
-got-unless false k d y q e = (refl, e)
-
-pub got-given : {A : Type 0} (o : Option ℕ) (d : Read A) (y : A) (q : List ℕ) → unlessGiven o d ≡ got y q → (o ≡ none) × (d ≡ got y q)
-got-given none d y q e = (refl, e)
-got-given (some k) d y q e = never e
-
-pub got-tested : (ok : ℕ → Bool) (l : List ℕ) (n : ℕ) (r : List ℕ) → tested ok l ≡ got n r → ok n ≡ true
-unfolding tested
-got-tested ok l n r e =
-    let w = got-then (number l) _ n r e in
-    let p = got-passing (ok (w .0)) 2 (w .0) n (w .1) r (w .3) in
-    rw (p .1) at (p .0)
+pub given-got : {A : Type 0} (o : Option ℕ) (d : Read A) (y : A) (q : List ℕ) → unlessGiven o d ≡ got y q → (o ≡ none) × (d ≡ got y q)
+given-got none d y q e = (refl, e)
+given-got (some k) d y q e = never e
 
 -- ---- an entry's numbers name what they should: 15 and 2 are settled when its other conditions are tested
 module _ (t : RegInfo) (f : Function) where
@@ -55,29 +40,29 @@ module _ (t : RegInfo) (f : Function) where
   place-named : (l : List ℕ) (p : Place) (r : List ℕ) → place t f l ≡ got p r → namesPlace t f p ≡ true
   unfolding place
   place-named l p r e =
-      let w = got-then (number l) _ p r e in
-      let q = got-passing (namesPlace t f (placeAt (w .0))) 2 (placeAt (w .0)) p (w .1) r (w .3) in
+      let w = then-got (number l) _ p r e in
+      let q = pick-got (namesPlace t f (placeAt (w .0))) (placeAt (w .0)) p (w .1) r 2 (w .3) in
       rw (q .1) at (q .0)
 
   move-named : (l : List ℕ) (e : Entry) (r : List ℕ) → then (place t f l) (λ s q. then (place t f q) (λ d p. then (below (numValues f) p) (λ v o. got (move s d v) o))) ≡ got e r → Named e
   move-named l e r h =
-      let w = got-then (place t f l) _ e r h in
-      let u = got-then (place t f (w .1)) _ e r (w .3) in
-      let x = got-then (below (numValues f) (u .1)) _ e r (u .3) in
+      let w = then-got (place t f l) _ e r h in
+      let u = then-got (place t f (w .1)) _ e r (w .3) in
+      let x = then-got (below (numValues f) (u .1)) _ e r (u .3) in
       let is : move (w .0) (u .0) (x .0) ≡ e = cc in
-      rw (← is) (place-named l (w .0) (w .1) (w .2), place-named (w .1) (u .0) (u .1) (u .2), got-tested (λ v. ltb v (numValues f)) (u .1) (x .0) (x .1) (x .2))
+      rw (← is) (place-named l (w .0) (w .1) (w .2), place-named (w .1) (u .0) (u .1) (u .2), tested-got (λ v. ltb v (numValues f)) (u .1) (x .0) (x .1) (x .2))
 
   remat-named : (l : List ℕ) (e : Entry) (r : List ℕ) → then (place t f l) (λ d q. then (below (numValues f) q) (λ v p. got (remat d v) p)) ≡ got e r → Named e
   remat-named l e r h =
-      let w = got-then (place t f l) _ e r h in
-      let x = got-then (below (numValues f) (w .1)) _ e r (w .3) in
+      let w = then-got (place t f l) _ e r h in
+      let x = then-got (below (numValues f) (w .1)) _ e r (w .3) in
       let is : remat (w .0) (x .0) ≡ e = cc in
-      rw (← is) (place-named l (w .0) (w .1) (w .2), got-tested (λ v. ltb v (numValues f)) (w .1) (x .0) (x .1) (x .2))
+      rw (← is) (place-named l (w .0) (w .1) (w .2), tested-got (λ v. ltb v (numValues f)) (w .1) (x .0) (x .1) (x .2))
 
   pub entry-named : (l : List ℕ) (e : Entry) (r : List ℕ) → entry t f l ≡ got e r → Named e
   unfolding entry
   entry-named l e r h =
-      let w = got-then (below 2 l) _ e r h in
+      let w = then-got (below 2 l) _ e r h in
       go (eqb (w .0) 0) (w .1) (w .3)
     where
       go : (b : Bool) (q : List ℕ)
@@ -104,10 +89,10 @@ module _ (t : RegInfo) (f : Function) where
     unfolding entries resolveFrom sortedFrom
     entries-taken zero a l es r h = let e : [] ≡ es = cc in rw (← e)
     entries-taken (suc n) a l es r h =
-        let b = got-unless (leb 128 (a .count)) 15 _ es r h in
-        let w = got-then (entry t f l) _ es r (b .1) in
-        let g = got-given (firstOf (entryConditions t f a (w .0))) _ es r (w .3) in
-        let x = got-then (entries t f n (add t f (w .0) a) (w .1)) _ es r (g .1) in
+        let b = unless-got (leb 128 (a .count)) 15 _ es r h in
+        let w = then-got (entry t f l) _ es r (b .1) in
+        let g = given-got (firstOf (entryConditions t f a (w .0))) _ es r (w .3) in
+        let x = then-got (entries t f n (add t f (w .0) a) (w .1)) _ es r (g .1) in
         let e : w .0 ∷ x .0 ≡ es = cc in
         subst (λ (es : List Entry). Taken es a) e (one-taken (w .0) (x .0) a (g .0) (entries-taken n (add t f (w .0) a) (w .1) (x .0) (x .1) (x .2)))
 
@@ -115,10 +100,10 @@ module _ (t : RegInfo) (f : Function) where
   pub patch-taken : (l : List ℕ) (p : Patch) (r : List ℕ) → patch t f l ≡ got p r → (room : ℕ) (c : Cache) → resolve t f p room c ≡ resolveSorted t f p room c (sorted t f p)
   unfolding patch resolve
   patch-taken l p r h room c =
-      let w = got-then (number l) _ p r h in
-      let u = got-then (rising (w .0) (t .units) 0 (w .1)) _ p r (w .3) in
-      let x = got-then (number (u .1)) _ p r (u .3) in
-      let y = got-then (entries t f (x .0) nothingSorted (x .1)) _ p r (x .3) in
+      let w = then-got (number l) _ p r h in
+      let u = then-got (rising (w .0) (t .units) 0 (w .1)) _ p r (w .3) in
+      let x = then-got (number (u .1)) _ p r (u .3) in
+      let y = then-got (entries t f (x .0) nothingSorted (x .1)) _ p r (x .3) in
       go (u .0) (x .0) (x .1) (y .0) (y .1) (y .2) (y .3)
     where
       go : (free : List ℕ) (n : ℕ) (o : List ℕ) (es : List Entry) (q : List ℕ) → entries t f n nothingSorted o ≡ got es q → got (record { free = free; entries = es }) q ≡ got p r → Taken p room c (p .entries) nothingSorted

@@ -101,7 +101,7 @@ inTarget l =
 
 -- "4 to 7 rising after the target"
 unfoldable pub ofTarget : RegInfo → List Condition
-ofTarget t = cond 2 (outsideLimits t) ∷ cond 3 (listedTwice t) ∷ cond 4 (unequalWidths t) ∷ cond 5 (foreignMember t) ∷ cond 6 (sharedMemory t) ∷ cond 7 (unfitClass t) ∷ []
+ofTarget t = cond 4 (unequalWidths t) ∷ cond 5 (foreignMember t) ∷ cond 6 (sharedMemory t) ∷ cond 7 (unfitClass t) ∷ []
 
 -- ---- the function: "9 for a rebuild class when the function is read"
 unfoldable pub inRebuilt : RegInfo → ℕ → List ℕ → List Condition
@@ -176,3 +176,7 @@ pub record Refusals (l : List ℕ) : Type 0 where
 -- 1, said of the bytes alone: they do not begin with a number in its form
 abbrev pub NoNumber : Type 0
 NoNumber = (l : List ℕ) → Bytes l → (unread (number l) ≡ true) ↔ ((n : ℕ) (r : List ℕ) → n < 4294967296 → l ≡ encoded n ++ r → ⊥)
+
+-- "1, 2, 3 as read": of a target that was read neither 2 nor 3 is left
+abbrev pub TargetRead : Type 0
+TargetRead = (l : List ℕ) (t : RegInfo) (r : List ℕ) → target l ≡ got t r → (outsideLimits t ≡ false) × (listedTwice t ≡ false)
