@@ -5,3 +5,4 @@ pub mod Exactly
 pub mod WasRead
 pub mod Conditions
 pub mod ReadTarget
+pub mod Trials

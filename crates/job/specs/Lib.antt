@@ -2,3 +2,4 @@ pub mod Job
 pub mod Steps
 pub mod Claim
 pub mod Conditions
+pub mod Trials
