@@ -1,11 +1,10 @@
 -- A part of a job whose refusal is that of the first condition which holds: alone, and before others.
 use Prim.Native.Nat.{ℕ, zero, suc, _+_}
-use mathlib.Core.Path.{_≡_, refl, sym, ap, _∙_}
+use mathlib.Core.Path.{_≡_, refl, _∙_}
 use mathlib.Core.Bool.{Bool, true, false}
 use mathlib.Core.List.{List, [], _∷_, _++_}
 use mathlib.Core.Option.{Option, none, some}
-use native.Mathlib.Omega.{arith}
-use lib.Dec.{ltb, leb}
+use lib.Dec.{ltb}
 use Rattle.entity.specs.Logic.{pick, no, has}
 use Rattle.reginfo.specs.Refused.{Condition, cond, orElse, firstOf}
 use Rattle.number.specs.Read.{Read, got, refused, then}
@@ -32,7 +31,8 @@ unfolding firstOf
 first-append [] ys = refl
 first-append (x ∷ xs) ys = go (x .holds) (first-append xs ys)
   where
-    go : (b : Bool) → firstOf (xs ++ ys) ≡ orThen (firstOf xs) (firstOf ys) → orElse b (x .number) (firstOf (xs ++ ys)) ≡ orThen (orElse b (x .number) (firstOf xs)) (firstOf ys)
+    go : (b : Bool) → firstOf (xs ++ ys) ≡ orThen (firstOf xs) (firstOf ys)
+        → orElse b (x .number) (firstOf (xs ++ ys)) ≡ orThen (orElse b (x .number) (firstOf xs)) (firstOf ys)
     go true on = refl
     go false on = on
 
@@ -42,11 +42,13 @@ unfolding firstOf
 nothing = refl
 
 -- one part after another
-pub after : {A B : Type 0} (d : Read A) (cs : List Condition) (next : A → List ℕ → Read B) (ns : A → List ℕ → List Condition) → Exactly d cs → ((x : A) (r : List ℕ) → d ≡ got x r → Exactly (next x r) (ns x r)) → Exactly (then d next) (cs ++ afterGot d ns)
+pub after : {A B : Type 0} (d : Read A) (cs : List Condition) (next : A → List ℕ → Read B) (ns : A → List ℕ → List Condition)
+    → Exactly d cs → ((x : A) (r : List ℕ) → d ≡ got x r → Exactly (next x r) (ns x r)) → Exactly (then d next) (cs ++ afterGot d ns)
 unfolding firstOf
 after {A = A} d cs next ns e on = first-append cs (afterGot d ns) ∙ rw e (go d on)
   where
-    go : (d : Read A) → ((x : A) (r : List ℕ) → d ≡ got x r → Exactly (next x r) (ns x r)) → orThen (refusalOf d) (firstOf (afterGot d ns)) ≡ refusalOf (then d next)
+    go : (d : Read A) → ((x : A) (r : List ℕ) → d ≡ got x r → Exactly (next x r) (ns x r))
+        → orThen (refusalOf d) (firstOf (afterGot d ns)) ≡ refusalOf (then d next)
     go (got x r) on = on x r refl
     go (refused k) on = refl
 
@@ -59,7 +61,8 @@ made {A = A} d cs g e = e ∙ go d
     go (refused k) = refl
 
 -- a condition before a part
-pub unless : {A : Type 0} (b : Bool) (k : ℕ) (d : Read A) (cs : List Condition) → (b ≡ false → Exactly d cs) → Exactly (pick b (refused k) d) (cond k b ∷ cs)
+pub unless : {A : Type 0} (b : Bool) (k : ℕ) (d : Read A) (cs : List Condition)
+    → (b ≡ false → Exactly d cs) → Exactly (pick b (refused k) d) (cond k b ∷ cs)
 unfolding firstOf
 unless true k d cs e = refl
 unless false k d cs e = e refl
@@ -96,21 +99,26 @@ pub tested-exactly : (ok : ℕ → Bool) (l : List ℕ) → Exactly (tested ok l
 unfolding tested inTested
 tested-exactly ok l = after (number l) (inNumber l) _ _ (number-exactly l) (λ n r e. passing (ok n) 2 n r)
 
-pub times-exactly : {A : Type 0} (n : ℕ) (one : List ℕ → Read A) (of : List ℕ → List Condition) → ((l : List ℕ) → Exactly (one l) (of l)) → (l : List ℕ) → Exactly (times n one l) (inTimes n one of l)
+pub times-exactly : {A : Type 0} (n : ℕ) (one : List ℕ → Read A) (of : List ℕ → List Condition)
+    → ((l : List ℕ) → Exactly (one l) (of l)) → (l : List ℕ) → Exactly (times n one l) (inTimes n one of l)
 unfolding times inTimes
 times-exactly zero one of h l = nothing
-times-exactly (suc n) one of h l = after (one l) (of l) _ _ (h l) (λ x r e. made (times n one r) (inTimes n one of r) (λ xs. x ∷ xs) (times-exactly n one of h r))
+times-exactly (suc n) one of h l =
+    after (one l) (of l) _ _ (h l)
+    (λ x r e. made (times n one r) (inTimes n one of r) (λ xs. x ∷ xs) (times-exactly n one of h r))
 
 pub distinct-exactly : (n limit : ℕ) (before l : List ℕ) → Exactly (distinct n limit before l) (inDistinct n limit before l)
 unfolding distinct inDistinct
 distinct-exactly zero limit before l = nothing
 distinct-exactly (suc n) limit before l =
     after (below limit l) (inTested (λ x. ltb x limit) l) _ _ (tested-exactly (λ x. ltb x limit) l)
-    (λ x r e. unless (has x before) 3 _ (inDistinct n limit (x ∷ before) r) (λ _. made (distinct n limit (x ∷ before) r) (inDistinct n limit (x ∷ before) r) (λ xs. x ∷ xs) (distinct-exactly n limit (x ∷ before) r)))
+    (λ x r e. unless (has x before) 3 _ (inDistinct n limit (x ∷ before) r)
+    (λ _. made (distinct n limit (x ∷ before) r) (inDistinct n limit (x ∷ before) r) (λ xs. x ∷ xs) (distinct-exactly n limit (x ∷ before) r)))
 
 pub rising-exactly : (n limit least : ℕ) (l : List ℕ) → Exactly (rising n limit least l) (inRising n limit least l)
 unfolding rising inRising
 rising-exactly zero limit least l = nothing
 rising-exactly (suc n) limit least l =
     after (below limit l) (inTested (λ x. ltb x limit) l) _ _ (tested-exactly (λ x. ltb x limit) l)
-    (λ u r e. unless (ltb u least) 3 _ (inRising n limit (u + 1) r) (λ _. made (rising n limit (u + 1) r) (inRising n limit (u + 1) r) (λ us. u ∷ us) (rising-exactly n limit (u + 1) r)))
+    (λ u r e. unless (ltb u least) 3 _ (inRising n limit (u + 1) r)
+    (λ _. made (rising n limit (u + 1) r) (inRising n limit (u + 1) r) (λ us. u ∷ us) (rising-exactly n limit (u + 1) r)))

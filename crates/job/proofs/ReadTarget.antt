@@ -7,12 +7,12 @@ use native.Mathlib.Omega.{arith}
 use lib.Dec.{eqb, ltb, leb}
 use lib.ListN.{length, getD}
 use borrow.Author.Tests.{ltb-true, leb-true, leb-false, eqb-true, lt-ltb, le-ltb, le-leb, eq-eqb, not-true}
-use Rattle.entity.specs.Logic.{pick, and, or, no, any, all, has, twice, indices}
+use Rattle.entity.specs.Logic.{and, or, no, any, all, has, twice, indices}
 use Rattle.entity.proofs.Laws.{or-false, and-true, all-has, any-at}
 use Rattle.reginfo.specs.RegInfo.{Bank, Reg, Class, RegInfo, noBank, noReg, noClass, numBanks, numRegs, numClasses, spillslotSize, topLevelClass, stackToStackClass, regMemory, bankForReg, regUnits, bankForClass, classSlots, classMembers, allocationOrder}
 use Rattle.reginfo.specs.Refused.{some-below, within, allBelow, orderTotal, countsFit, bankFits, regFits, classFits, outsideLimits, listedTwice}
 use Rattle.slots.proofs.Pigeonhole.{pigeonhole}
-use Rattle.number.specs.Read.{Read, got, refused, then}
+use Rattle.number.specs.Read.{got}
 use Rattle.number.specs.Number.{number}
 use Rattle.reading.specs.Reading.{tested, below, between, times, distinct}
 use Rattle.job_target.specs.Target.{Counted, bank, reg, class, classes, unknownClass, target}
@@ -31,7 +31,8 @@ or-right : (a b : Bool) → b ≡ true → or a b ≡ true
 or-right true b h = refl
 or-right false b h = h
 
-fresh-more : (n limit x : ℕ) (before xs : List ℕ) → ltb x limit ≡ true → has x before ≡ false → Fresh n limit (x ∷ before) xs → Fresh (suc n) limit before (x ∷ xs)
+fresh-more : (n limit x : ℕ) (before xs : List ℕ) → ltb x limit ≡ true → has x before ≡ false
+    → Fresh n limit (x ∷ before) xs → Fresh (suc n) limit before (x ∷ xs)
 unfolding all has twice
 fresh-more n limit x before xs b h i = record {
   long = ap suc (i .long);
@@ -41,7 +42,11 @@ fresh-more n limit x before xs b h i = record {
 }
   where
     other : (q : Bool) (y : ℕ) → eqb y x ≡ q → has y before ≡ true → has y xs ≡ false → or q (has y xs) ≡ false
-    other true y q e z = let is : y ≡ x = eqb-true y x q in let w : true ≡ false = sym e ∙ rw is h in let z : _≡_ {A = ℕ} 0 1 = cc in absurd (omega arith)
+    other true y q e z =
+        let is : y ≡ x = eqb-true y x q in
+        let w : true ≡ false = sym e ∙ rw is h in
+        let z : _≡_ {A = ℕ} 0 1 = cc in
+        absurd (omega arith)
     other false y q e z = z
 
 fresh : (n limit : ℕ) (before l xs r : List ℕ) → distinct n limit before l ≡ got xs r → Fresh n limit before xs
@@ -54,11 +59,15 @@ fresh (suc n) limit before l xs r e =
     let u = unless-got (has (p .0) before) 3 _ xs r (p .3) in
     let q = then-got (distinct n limit (p .0 ∷ before) (p .1)) _ xs r (u .1) in
     let is : p .0 ∷ q .0 ≡ xs = cc in
-    subst (λ (xs : List ℕ). Fresh (suc n) limit before xs) is (fresh-more n limit (p .0) before (q .0) (tested-got (λ x. ltb x limit) l (p .0) (p .1) (p .2)) (u .0) (fresh n limit (p .0 ∷ before) (p .1) (q .0) (q .1) (q .2)))
+    subst (λ (xs : List ℕ). Fresh (suc n) limit before xs) is
+    (fresh-more n limit (p .0) before (q .0) (tested-got (λ x. ltb x limit) l (p .0) (p .1) (p .2)) (u .0)
+    (fresh n limit (p .0 ∷ before) (p .1) (q .0) (q .1) (q .2)))
 
 -- no more than there are
 short : (n limit : ℕ) (before xs : List ℕ) → Fresh n limit before xs → length xs ≤ limit
-short n limit before xs i = pigeonhole 0 limit xs (i .once) (λ x h. (omega arith, omega (arith, ltb-true x limit (all-has (λ x. ltb x limit) xs x (i .low) h))))
+short n limit before xs i =
+    pigeonhole 0 limit xs (i .once)
+    (λ x h. (omega arith, omega (arith, ltb-true x limit (all-has (λ x. ltb x limit) xs x (i .low) h))))
 
 -- ---- banks, registers and classes
 abbrev bankRight : Bank → Type 0
@@ -87,7 +96,8 @@ bank-right l b r e =
     let p = then-got (between 0 31 l) _ b r e in
     let q = then-got (number (p .1)) _ b r (p .3) in
     let o = then-got (number (q .1)) _ b r (q .3) in
-    go (p .0) (q .0) (o .0) (o .1) (and-true (leb 0 (p .0)) (leb (p .0) 31) (tested-got (λ x. and (leb 0 x) (leb x 31)) l (p .0) (p .1) (p .2)) .1) (o .3)
+    go (p .0) (q .0) (o .0) (o .1)
+    (and-true (leb 0 (p .0)) (leb (p .0) 31) (tested-got (λ x. and (leb 0 x) (leb x 31)) l (p .0) (p .1) (p .2)) .1) (o .3)
   where
     go : (size top stack : ℕ) (k : List ℕ) → leb size 31 ≡ true → got (record { size = size; top = top; stack = stack }) k ≡ got b r → bankRight b
     go size top stack k h e = let is : record { size = size; top = top; stack = stack } ≡ b = cc in subst bankRight is h
@@ -103,7 +113,8 @@ module _ (units banks : ℕ) where
       go (p .0) (q .0) (o .0) (k .0) (k .1) (flag l (p .0) (p .1) (p .2)) (tested-got (λ x. ltb x banks) (p .1) (q .0) (q .1) (q .2))
       (tested-got (λ x. and (leb 1 x) (leb x 8)) (q .1) (o .0) (o .1) (o .2)) (fresh (o .0) units [] (o .1) (k .0) (k .1) (k .2)) (k .3)
     where
-      go : (memory b n : ℕ) (us k : List ℕ) → leb memory 1 ≡ true → ltb b banks ≡ true → within 1 8 n ≡ true → Fresh n units [] us → got (record { memory = memory; bank = b; units = us }) k ≡ got x r → RegRight units banks x
+      go : (memory b n : ℕ) (us k : List ℕ) → leb memory 1 ≡ true → ltb b banks ≡ true → within 1 8 n ≡ true → Fresh n units [] us
+          → got (record { memory = memory; bank = b; units = us }) k ≡ got x r → RegRight units banks x
       go memory b n us k hm hb hn i e =
           let is : record { memory = memory; bank = b; units = us } ≡ x = cc in
           subst (λ (x : Reg). RegRight units banks x) is record { memory = hm; bank = hb; count = rw (i .long) hn; low = i .low; once = i .once }
@@ -124,17 +135,25 @@ module _ (banks regs : ℕ) where
       let k = then-got (distinct (o .0) regs [] (o .1)) _ x r (o .3) in
       let j = then-got (tested (λ m. leb (total + m) 4096) (k .1)) _ x r (k .3) in
       let i = then-got (distinct (j .0) regs [] (j .1)) _ x r (j .3) in
-      go (p .0) (q .0) (o .0) (j .0) (k .0) (i .0) (i .1) (tested-got (λ x. ltb x banks) l (p .0) (p .1) (p .2)) (flag (p .1) (q .0) (q .1) (q .2))
-      (fresh (o .0) regs [] (o .1) (k .0) (k .1) (k .2)) (leb-true (total + j .0) 4096 (tested-got (λ m. leb (total + m) 4096) (k .1) (j .0) (j .1) (j .2)))
+      go (p .0) (q .0) (o .0) (j .0) (k .0) (i .0) (i .1)
+      (tested-got (λ x. ltb x banks) l (p .0) (p .1) (p .2)) (flag (p .1) (q .0) (q .1) (q .2))
+      (fresh (o .0) regs [] (o .1) (k .0) (k .1) (k .2))
+      (leb-true (total + j .0) 4096 (tested-got (λ m. leb (total + m) 4096) (k .1) (j .0) (j .1) (j .2)))
       (fresh (j .0) regs [] (j .1) (i .0) (i .1) (i .2)) (i .3)
     where
-      go : (b slots n m : ℕ) (members order k : List ℕ) → ltb b banks ≡ true → leb slots 1 ≡ true → Fresh n regs [] members → total + m ≤ 4096 → Fresh m regs [] order
+      go : (b slots n m : ℕ) (members order k : List ℕ) → ltb b banks ≡ true → leb slots 1 ≡ true → Fresh n regs [] members
+          → total + m ≤ 4096 → Fresh m regs [] order
           → got (record { class = record { bank = b; slots = slots; members = members; order = order }; total = total + m }) k ≡ got x r → CountedRight total x
       go b slots n m members order k hb hs i h j e =
           let is : record { class = record { bank = b; slots = slots; members = members; order = order }; total = total + m } ≡ x = cc in
           subst (λ (x : Counted). CountedRight total x) is
           record {
-            right = record { bank = hb; slots = hs; members = (short n regs [] members i, i .low, i .once); order = (short m regs [] order j, j .low, j .once) };
+            right = record {
+              bank = hb;
+              slots = hs;
+              members = (short n regs [] members i, i .low, i .once);
+              order = (short m regs [] order j, j .low, j .once);
+            };
             more = rw (j .long);
             few = h;
           }
@@ -144,7 +163,8 @@ module _ (banks regs : ℕ) where
     right : (i : ℕ) → i < n → ClassRight banks regs (getD cs i noClass)
     few : total + orderTotal cs ≤ 4096
 
-  classes-right : (n total : ℕ) (l : List ℕ) (cs : List Class) (r : List ℕ) → total ≤ 4096 → classes n banks regs total l ≡ got cs r → ClassesRight n total cs
+  classes-right : (n total : ℕ) (l : List ℕ) (cs : List Class) (r : List ℕ) → total ≤ 4096
+      → classes n banks regs total l ≡ got cs r → ClassesRight n total cs
   unfolding classes orderTotal
   classes-right zero total l cs r h e =
       let is : [] ≡ cs = cc in
@@ -154,7 +174,8 @@ module _ (banks regs : ℕ) where
       let q = then-got (classes n banks regs (p .0 .total) (p .1)) _ cs r (p .3) in
       let x = class-right total l (p .0) (p .1) (p .2) in
       let is : p .0 .class ∷ q .0 ≡ cs = cc in
-      subst (λ (cs : List Class). ClassesRight (suc n) total cs) is (more (p .0) (q .0) x (classes-right n (p .0 .total) (p .1) (q .0) (q .1) (x .few) (q .2)))
+      subst (λ (cs : List Class). ClassesRight (suc n) total cs) is
+      (more (p .0) (q .0) x (classes-right n (p .0 .total) (p .1) (q .0) (q .1) (x .few) (q .2)))
     where
       more : (x : Counted) (cs : List Class) → CountedRight total x → ClassesRight n (x .total) cs → ClassesRight (suc n) total (x .class ∷ cs)
       more x cs a i = record { long = ap suc (i .long); right = each; few = omega (arith, a .more, i .few) }
@@ -194,7 +215,8 @@ module _ (t : RegInfo) (i : Right t) where
   bank-fits : (b : ℕ) → b < numBanks t → no (bankFits t b) ≡ false
   unfolding bankFits spillslotSize topLevelClass stackToStackClass
   bank-fits b h =
-      let w = or-false (leb (numClasses t) (getD (t .banks) b noBank .top)) (leb (numClasses t) (getD (t .banks) b noBank .stack)) (any-at (unknownClass (numClasses t)) (t .banks) b noBank (i .known) h) in
+      let unknown = any-at (unknownClass (numClasses t)) (t .banks) b noBank (i .known) h in
+      let w = or-false (leb (numClasses t) (getD (t .banks) b noBank .top)) (leb (numClasses t) (getD (t .banks) b noBank .stack)) unknown in
       rw (i .bank b h, lt-ltb _ _ (leb-false (numClasses t) _ (w .0)), lt-ltb _ _ (leb-false (numClasses t) _ (w .1)))
 
   reg-fits : (r : ℕ) → r < numRegs t → no (regFits t r) ≡ false
@@ -206,17 +228,23 @@ module _ (t : RegInfo) (i : Right t) where
   class-fits c h =
       let w = i .class c h in
       let m : numRegs t ≤ 512 = leb-true (numRegs t) 512 (and-true (leb 1 (numRegs t)) (leb (numRegs t) 512) (i .regs) .1) in
-      rw (w .bank, w .slots, le-leb (length (getD (t .classes) c noClass .members)) 512 (omega (arith, w .members .0)), w .members .1, le-leb (length (getD (t .classes) c noClass .order)) 512 (omega (arith, w .order .0)), w .order .1)
+      let a = le-leb (length (getD (t .classes) c noClass .members)) 512 (omega (arith, w .members .0)) in
+      let b = le-leb (length (getD (t .classes) c noClass .order)) 512 (omega (arith, w .order .0)) in
+      rw (w .bank, w .slots, a, w .members .1, b, w .order .1)
 
   limits : outsideLimits t ≡ false
   unfolding outsideLimits
   limits =
-      neither _ _ counts-fit (neither _ _ (none-below _ (numBanks t) bank-fits) (neither _ _ (none-below _ (numRegs t) reg-fits) (neither _ _ (none-below _ (numClasses t) class-fits) (le-ltb 4096 (orderTotal (t .classes)) (i .few)))))
+      neither _ _ counts-fit
+      (neither _ _ (none-below _ (numBanks t) bank-fits)
+      (neither _ _ (none-below _ (numRegs t) reg-fits)
+      (neither _ _ (none-below _ (numClasses t) class-fits) (le-ltb 4096 (orderTotal (t .classes)) (i .few)))))
 
   nothing-twice : listedTwice t ≡ false
   unfolding listedTwice regUnits classMembers allocationOrder
   nothing-twice =
-      neither _ _ (none-below _ (numRegs t) (λ r h. i .reg r h .once)) (none-below _ (numClasses t) (λ c h. neither _ _ (i .class c h .members .2) (i .class c h .order .2)))
+      neither _ _ (none-below _ (numRegs t) (λ r h. i .reg r h .once))
+      (none-below _ (numClasses t) (λ c h. neither _ _ (i .class c h .members .2) (i .class c h .order .2)))
 
 target-right : (l : List ℕ) (t : RegInfo) (r : List ℕ) → target l ≡ got t r → Right t
 unfolding target
@@ -240,7 +268,8 @@ target-right l t r e =
   where
     go : (units n m c : ℕ) (banks : List Bank) (regs : List Reg) (cs : List Class) (k : List ℕ)
         → within 1 512 units ≡ true → within 1 8 n ≡ true → within 1 512 m ≡ true → and (within 1 64 c) (no (any (unknownClass c) banks)) ≡ true
-        → (length banks ≡ n) × ((i : ℕ) → i < n → bankRight (getD banks i noBank)) → (length regs ≡ m) × ((i : ℕ) → i < m → RegRight units n (getD regs i noReg))
+        → (length banks ≡ n) × ((i : ℕ) → i < n → bankRight (getD banks i noBank))
+        → (length regs ≡ m) × ((i : ℕ) → i < m → RegRight units n (getD regs i noReg))
         → ClassesRight n m c 0 cs → got (record { units = units; banks = banks; regs = regs; classes = cs }) k ≡ got t r → Right t
     go units n m c banks regs cs k hu hn hm hc b g i e =
         let is : record { units = units; banks = banks; regs = regs; classes = cs } ≡ t = cc in

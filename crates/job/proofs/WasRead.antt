@@ -44,15 +44,18 @@ module _ (t : RegInfo) (f : Function) where
       let q = pick-got (namesPlace t f (placeAt (w .0))) (placeAt (w .0)) p (w .1) r 2 (w .3) in
       rw (q .1) at (q .0)
 
-  move-named : (l : List ℕ) (e : Entry) (r : List ℕ) → then (place t f l) (λ s q. then (place t f q) (λ d p. then (below (numValues f) p) (λ v o. got (move s d v) o))) ≡ got e r → Named e
+  move-named : (l : List ℕ) (e : Entry) (r : List ℕ)
+      → then (place t f l) (λ s q. then (place t f q) (λ d p. then (below (numValues f) p) (λ v o. got (move s d v) o))) ≡ got e r → Named e
   move-named l e r h =
       let w = then-got (place t f l) _ e r h in
       let u = then-got (place t f (w .1)) _ e r (w .3) in
       let x = then-got (below (numValues f) (u .1)) _ e r (u .3) in
       let is : move (w .0) (u .0) (x .0) ≡ e = cc in
-      rw (← is) (place-named l (w .0) (w .1) (w .2), place-named (w .1) (u .0) (u .1) (u .2), tested-got (λ v. ltb v (numValues f)) (u .1) (x .0) (x .1) (x .2))
+      rw (← is)
+      (place-named l (w .0) (w .1) (w .2), place-named (w .1) (u .0) (u .1) (u .2), tested-got (λ v. ltb v (numValues f)) (u .1) (x .0) (x .1) (x .2))
 
-  remat-named : (l : List ℕ) (e : Entry) (r : List ℕ) → then (place t f l) (λ d q. then (below (numValues f) q) (λ v p. got (remat d v) p)) ≡ got e r → Named e
+  remat-named : (l : List ℕ) (e : Entry) (r : List ℕ)
+      → then (place t f l) (λ d q. then (below (numValues f) q) (λ v p. got (remat d v) p)) ≡ got e r → Named e
   remat-named l e r h =
       let w = then-got (place t f l) _ e r h in
       let x = then-got (below (numValues f) (w .1)) _ e r (w .3) in
@@ -66,12 +69,14 @@ module _ (t : RegInfo) (f : Function) where
       go (eqb (w .0) 0) (w .1) (w .3)
     where
       go : (b : Bool) (q : List ℕ)
-          → pick b (then (place t f q) (λ s q. then (place t f q) (λ d p. then (below (numValues f) p) (λ v o. got (move s d v) o)))) (then (place t f q) (λ d q. then (below (numValues f) q) (λ v p. got (remat d v) p))) ≡ got e r
+          → pick b (then (place t f q) (λ s q. then (place t f q) (λ d p. then (below (numValues f) p) (λ v o. got (move s d v) o))))
+          (then (place t f q) (λ d q. then (below (numValues f) q) (λ v p. got (remat d v) p))) ≡ got e r
           → Named e
       go true q h = move-named q e r h
       go false q h = remat-named q e r h
 
-  pub settled : (a : Sorted) (e : Entry) → leb 128 (a .count) ≡ false → Named e → firstOf (entryConditions t f a e) ≡ firstOf (drop 2 (entryConditions t f a e))
+  pub settled : (a : Sorted) (e : Entry) → leb 128 (a .count) ≡ false → Named e
+      → firstOf (entryConditions t f a e) ≡ firstOf (drop 2 (entryConditions t f a e))
   unfolding firstOf entryConditions
   settled a (move s d v) b h = rw (b, h .0, h .1, h .2)
   settled a (remat d v) b h = rw (b, h .0, h .1)
@@ -94,10 +99,12 @@ module _ (t : RegInfo) (f : Function) where
         let g = given-got (firstOf (entryConditions t f a (w .0))) _ es r (w .3) in
         let x = then-got (entries t f n (add t f (w .0) a) (w .1)) _ es r (g .1) in
         let e : w .0 ∷ x .0 ≡ es = cc in
-        subst (λ (es : List Entry). Taken es a) e (one-taken (w .0) (x .0) a (g .0) (entries-taken n (add t f (w .0) a) (w .1) (x .0) (x .1) (x .2)))
+        subst (λ (es : List Entry). Taken es a) e
+        (one-taken (w .0) (x .0) a (g .0) (entries-taken n (add t f (w .0) a) (w .1) (x .0) (x .1) (x .2)))
 
   -- so the call of a patch that was read has its own conditions left
-  pub patch-taken : (l : List ℕ) (p : Patch) (r : List ℕ) → patch t f l ≡ got p r → (room : ℕ) (c : Cache) → resolve t f p room c ≡ resolveSorted t f p room c (sorted t f p)
+  pub patch-taken : (l : List ℕ) (p : Patch) (r : List ℕ) → patch t f l ≡ got p r → (room : ℕ) (c : Cache)
+      → resolve t f p room c ≡ resolveSorted t f p room c (sorted t f p)
   unfolding patch resolve
   patch-taken l p r h room c =
       let w = then-got (number l) _ p r h in
@@ -106,7 +113,8 @@ module _ (t : RegInfo) (f : Function) where
       let y = then-got (entries t f (x .0) nothingSorted (x .1)) _ p r (x .3) in
       go (u .0) (x .0) (x .1) (y .0) (y .1) (y .2) (y .3)
     where
-      go : (free : List ℕ) (n : ℕ) (o : List ℕ) (es : List Entry) (q : List ℕ) → entries t f n nothingSorted o ≡ got es q → got (record { free = free; entries = es }) q ≡ got p r → Taken p room c (p .entries) nothingSorted
+      go : (free : List ℕ) (n : ℕ) (o : List ℕ) (es : List Entry) (q : List ℕ) → entries t f n nothingSorted o ≡ got es q
+          → got (record { free = free; entries = es }) q ≡ got p r → Taken p room c (p .entries) nothingSorted
       go free n o es q h e =
           let z : record { free = free; entries = es } ≡ p = cc in
           rw (ap (λ (q : Patch). q .entries) z) at (entries-taken p room c n nothingSorted o es q h)

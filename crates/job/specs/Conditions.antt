@@ -5,7 +5,7 @@ use Prim.Native.Nat.{ℕ, zero, suc, _+_, _<_}
 use mathlib.Core.Path.{_≡_}
 use mathlib.Core.Bool.{Bool, true, false}
 use mathlib.Core.List.{List, [], _∷_, _++_}
-use mathlib.Core.Option.{Option, none, some}
+use mathlib.Core.Option.{none, some}
 use mathlib.Core.Logic.{_↔_}
 use lib.Dec.{eqb, ltb, leb}
 use lib.ListN.{length, drop}
@@ -21,7 +21,7 @@ use Rattle.rules.specs.Patch as rules
 use Rattle.rules.specs.Refusals.{ranOut}
 use Rattle.number.specs.Read.{Read, got, refused}
 use Rattle.number.specs.Number.{number, encoded, Bytes}
-use Rattle.reading.specs.Reading.{tested, below, between, times, distinct}
+use Rattle.reading.specs.Reading.{tested, times, distinct}
 use Rattle.job_target.specs.Target.{bank, reg, class, unknownClass, target}
 use Rattle.job_function.specs.Reads.{value, function}
 use Rattle.job_patch.specs.Patches.{rising, place, entry, patch}
@@ -111,7 +111,11 @@ unfoldable pub inValue : RegInfo → List ℕ → List Condition
 inValue t l = afterBelow (numBanks t) l (λ b r. afterBelow 3 r (λ cost q. pick (eqb cost 0) [] (inRebuilt t b q)))
 
 unfoldable pub inFunction : RegInfo → List ℕ → List Condition
-inFunction t l = afterBetween 0 4096 l (λ n r. afterBetween 0 4096 r (λ slots q. afterBetween 0 2048 q (λ limit p. inTimes n (value t) (inValue t) p)))
+inFunction t l =
+    afterBetween 0 4096 l
+    (λ n r. afterBetween 0 4096 r
+    (λ slots q. afterBetween 0 2048 q
+    (λ limit p. inTimes n (value t) (inValue t) p)))
 
 -- ---- the patches
 -- 3: "free units not rising"
@@ -138,7 +142,10 @@ module _ (t : RegInfo) (f : Function) where
   -- "each entry 15, 2, 9, 10, 11, 12": 15 "before its bytes are read", 1 and 2 as they are, then the others of its conditions
   unfoldable pub inEntries : ℕ → Sorted → List ℕ → List Condition
   inEntries zero a l = []
-  inEntries (suc n) a l = cond 15 (leb 128 (a .count)) ∷ (inEntry l ++ afterGot (entry t f l) (λ e r. drop 2 (entryConditions t f a e) ++ inEntries n (add t f e a) r))
+  inEntries (suc n) a l =
+      cond 15 (leb 128 (a .count))
+      ∷ (inEntry l ++ afterGot (entry t f l)
+      (λ e r. drop 2 (entryConditions t f a e) ++ inEntries n (add t f e a) r))
 
   unfoldable pub inPatch : List ℕ → List Condition
   inPatch l =

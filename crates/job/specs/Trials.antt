@@ -8,7 +8,7 @@ use Rattle.entity.specs.Place.{reg, slot}
 use Rattle.reginfo.specs.Refused.{Condition, cond}
 use Rattle.rules.specs.Edit.{Move}
 use Rattle.job_target.specs.Trials.{swapGiven}
-use Rattle.job.specs.Job.{Answers, job}
+use Rattle.job.specs.Job.{endsWith, before, job}
 use Rattle.job.specs.Conditions.{jobConditions}
 
 -- behind swap-full's target: "2 0 1 0 0 0 0 1 0 2 0 1 3 0 0 3 1 1", with another L, free units and entries
@@ -60,7 +60,7 @@ pub record Trials : Type 0 where
   -- "M s0 r1 1", "M r1 r0 0", "M r0 s0 1"; made 1
   pub swap-full :
       job swapFull
-      ≡ record { done = record { edits = Move (slot 0) (reg 1) 1 ∷ Move (reg 1) (reg 0) 0 ∷ Move (reg 0) (slot 0) 1 ∷ []; made = 1 } ∷ []; refusal = none }
+      ≡ before (record { edits = Move (slot 0) (reg 1) 1 ∷ Move (reg 1) (reg 0) 0 ∷ Move (reg 0) (slot 0) 1 ∷ []; made = 1 }) (endsWith none)
   -- the length, units, banks, a bank, registers, classes; 4 to 7; values, N, L, two values; the patch count; free units, entries; the call; 8
   pub in-order :
       numbers swapFull
