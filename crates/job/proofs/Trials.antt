@@ -34,6 +34,7 @@ trials = record {
   one-byte-over = refl;
   no-slot = refl;
   free-destination = refl;
+  last-overlaps = refl;
   self-move = refl;
   not-rebuildable = refl;
   same-destination = refl;

@@ -80,8 +80,13 @@ pub record Trials : Type 0 where
   -- the patch's number comes before a byte left over
   pub no-slot : job (jobWith 0 (0 ∷ swapEntries) ++ (0 ∷ [])) .refusal ≡ some 17
   pub free-destination : job (jobWith 1 (1 ∷ 0 ∷ swapEntries)) .refusal ≡ some 13
+  -- two registers of one unit; the value is rebuilt by a class of the first alone, into the second
+  pub last-overlaps :
+      job (1 ∷ 1 ∷ 3 ∷ 0 ∷ 1 ∷ 2 ∷ 0 ∷ 0 ∷ 1 ∷ 0 ∷ 0 ∷ 0 ∷ 1 ∷ 0 ∷ 2 ∷ 0 ∷ 1 ∷ 2 ∷ 0 ∷ 1 ∷ 2 ∷ 0 ∷ 1 ∷ 0 ∷ 0 ∷ 1 ∷ 0 ∷ 1 ∷ 0
+      ∷ 1 ∷ 0 ∷ 1 ∷ 0 ∷ 2 ∷ 1 ∷ 1 ∷ 0 ∷ 1 ∷ 1 ∷ 3 ∷ 0 ∷ []) .refusal
+      ≡ some 14
   -- an entry's number comes before its call's
-  pub self-move : job (jobWith 1 (1 ∷ 0 ∷ 2 ∷ 0 ∷ 1 ∷ 3 ∷ 0 ∷ 0 ∷ 3 ∷ 3 ∷ 0 ∷ [])) .refusal ≡ some 10
+  pub self-move : job (jobWith 1 (1 ∷ 1 ∷ 2 ∷ 0 ∷ 1 ∷ 3 ∷ 0 ∷ 0 ∷ 3 ∷ 3 ∷ 0 ∷ [])) .refusal ≡ some 10
   pub not-rebuildable : job (jobWith 1 (0 ∷ 1 ∷ 1 ∷ 3 ∷ 0 ∷ [])) .refusal ≡ some 11
   pub same-destination : job (jobWith 1 (0 ∷ 2 ∷ 0 ∷ 1 ∷ 3 ∷ 0 ∷ 0 ∷ 5 ∷ 3 ∷ 1 ∷ [])) .refusal ≡ some 12
   pub slot-from-N : job (jobWith 1 (0 ∷ 1 ∷ 0 ∷ 0 ∷ 1 ∷ 0 ∷ [])) .refusal ≡ some 2
