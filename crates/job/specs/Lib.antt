@@ -1,3 +1,5 @@
 pub mod Job
 pub mod Steps
 pub mod Claim
+pub mod Conditions
+pub mod Trials

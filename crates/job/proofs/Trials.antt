@@ -1,0 +1,45 @@
+-- The trials of jobs, computed.
+use mathlib.Core.Path.{refl}
+use Rattle.entity.specs.Logic.{any, all, has, meets, twice, lastOr, indices}
+use Rattle.entity.specs.Place.{placeAt}
+use Rattle.reginfo.specs.RegInfo.{spillslotSize, topLevelClass, stackToStackClass, regMemory, bankForReg, regUnits, bankForClass, classSlots, classMembers, allocationOrder}
+use Rattle.reginfo.specs.Refused.{orderTotal, countsFit, bankFits, regFits, classFits, outsideLimits, listedTwice, unequalWidths, foreignMember, sharedMemory, unfitClass, firstOf, targetRefusal}
+use Rattle.function.specs.Function.{valueBank, rematCost, rematClass}
+use Rattle.rules.specs.Edit.{updated, andThen, each, find, filter}
+use Rattle.rules.specs.Scratch.{acquireFrom, unevict, unevictForReg, slotScratch, evictLast, reuse, orScratch, getScratchReg, moveEdits, doMove}
+use Rattle.rules.specs.Order.{carryOne, carry, remats, rematWithScratch, writerFrom, writersOf, writers, cycleMoveSources, divert, lead, undivert, undivertAll, close, visit, visitUnlessMemory, start, moves}
+use Rattle.rules.specs.Patch.{destinations, add, sortedFrom, entryConditions, patchConditions, run, resolveSorted, resolveFrom, resolve}
+use Rattle.number.specs.Number.{groups, number}
+use Rattle.reading.specs.Reading.{tested, times, distinct}
+use Rattle.job_target.specs.Target.{bank, reg, class, classes, target}
+use Rattle.job_function.specs.Reads.{rebuilt, value, valued, function}
+use Rattle.job_patch.specs.Patches.{rising, place, entry, entries, patch}
+use Rattle.job.specs.Job.{afterTarget, header, patches, opening, job}
+use Rattle.job.specs.Conditions.{inNumber, inTested, inTimes, inDistinct, inBank, inReg, inClass, inClasses, inTarget, ofTarget, inRebuilt, inValue, inFunction, inRising, inPlace, inEntry, inEntries, inPatch, ofCall, inPatches, inOpening, jobConditions}
+use Rattle.job.specs.Trials.{sameMoves, Trials}
+
+pub trials : Trials
+unfolding placeAt any all has meets twice lastOr indices spillslotSize topLevelClass stackToStackClass regMemory bankForReg regUnits bankForClass classSlots classMembers allocationOrder orderTotal countsFit bankFits regFits classFits outsideLimits listedTwice unequalWidths foreignMember sharedMemory unfitClass firstOf targetRefusal valueBank rematCost rematClass updated andThen each find filter acquireFrom unevict unevictForReg slotScratch evictLast reuse orScratch getScratchReg moveEdits doMove carryOne carry remats rematWithScratch writerFrom writersOf writers cycleMoveSources divert lead undivert undivertAll close visit visitUnlessMemory start moves destinations add sortedFrom entryConditions patchConditions run resolveSorted resolveFrom resolve groups number tested times distinct bank reg class classes target rebuilt value valued function rising place entry entries patch afterTarget header patches opening job inNumber inTested inTimes inDistinct inBank inReg inClass inClasses inTarget ofTarget inRebuilt inValue inFunction inRising inPlace inEntry inEntries inPatch ofCall inPatches inOpening jobConditions sameMoves
+trials = record {
+  swap-full = refl;
+  in-order = refl;
+  no-byte = refl;
+  target-alone = refl;
+  unequal = refl;
+  no-member = refl;
+  memory-shared = refl;
+  top-without-slots = refl;
+  foreign-class = refl;
+  foreign-place = refl;
+  one-byte-over = refl;
+  no-slot = refl;
+  free-destination = refl;
+  last-overlaps = refl;
+  self-move = refl;
+  not-rebuildable = refl;
+  same-destination = refl;
+  slot-from-N = refl;
+  not-rising = refl;
+  entries-128 = refl;
+  entries-129 = refl;
+}

@@ -1,0 +1,96 @@
+-- Jobs of bytes, by computation: 01's job swap-full and what it is answered with, and jobs that are refused.
+use Prim.Native.Nat.{ℕ, zero, suc}
+use mathlib.Core.Path.{_≡_}
+use mathlib.Core.Bool.{true, false}
+use mathlib.Core.List.{List, [], _∷_, _++_, map}
+use mathlib.Core.Option.{none, some}
+use Rattle.entity.specs.Place.{reg, slot}
+use Rattle.reginfo.specs.Refused.{Condition, cond}
+use Rattle.rules.specs.Edit.{Move}
+use Rattle.job_target.specs.Trials.{swapGiven}
+use Rattle.job.specs.Job.{endsWith, before, job}
+use Rattle.job.specs.Conditions.{jobConditions}
+
+-- behind swap-full's target: "2 0 1 0 0 0 0 1 0 2 0 1 3 0 0 3 1 1", with another L, free units and entries
+abbrev pub jobWith : ℕ → List ℕ → List ℕ
+jobWith limit patch = swapGiven ++ (2 ∷ 0 ∷ limit ∷ 0 ∷ 0 ∷ 0 ∷ 0 ∷ 1 ∷ patch)
+
+abbrev pub swapEntries : List ℕ
+swapEntries = 2 ∷ 0 ∷ 1 ∷ 3 ∷ 0 ∷ 0 ∷ 3 ∷ 1 ∷ 1 ∷ []
+
+abbrev pub swapFull : List ℕ
+swapFull = jobWith 1 (0 ∷ swapEntries)
+
+abbrev pub numbers : List ℕ → List ℕ
+numbers l = map (λ (c : Condition). c .number) (jobConditions l)
+
+-- the numbers of the conditions of a register, a class and an entry of swap-full
+abbrev pub aReg : List ℕ
+aReg = 1 ∷ 2 ∷ 1 ∷ 2 ∷ 1 ∷ 2 ∷ 1 ∷ 2 ∷ 3 ∷ []
+
+abbrev pub aClass : List ℕ
+aClass = 1 ∷ 2 ∷ 1 ∷ 2 ∷ 1 ∷ 1 ∷ 2 ∷ 3 ∷ 1 ∷ 2 ∷ 3 ∷ 1 ∷ 2 ∷ 3 ∷ 1 ∷ 2 ∷ 1 ∷ 2 ∷ 3 ∷ 1 ∷ 2 ∷ 3 ∷ 1 ∷ 2 ∷ 3 ∷ []
+
+abbrev pub anEntry : List ℕ
+anEntry = 15 ∷ 1 ∷ 2 ∷ 1 ∷ 2 ∷ 1 ∷ 2 ∷ 1 ∷ 2 ∷ 9 ∷ 10 ∷ 12 ∷ []
+
+-- n moves of value 0 from r0 to r1
+unfoldable pub sameMoves : ℕ → List ℕ
+sameMoves zero = []
+sameMoves (suc n) = 0 ∷ 1 ∷ 3 ∷ 0 ∷ sameMoves n
+
+-- the bytes of swap-full's target with another register 0 and other classes
+abbrev pub targetWith : List ℕ → List ℕ → List ℕ → List ℕ
+targetWith r top stack = 3 ∷ 1 ∷ 3 ∷ 0 ∷ 1 ∷ 3 ∷ (r ++ (0 ∷ 0 ∷ 1 ∷ 1 ∷ 0 ∷ 0 ∷ 1 ∷ 2 ∷ 2 ∷ (top ++ stack)))
+
+abbrev pub r0 : List ℕ
+r0 = 0 ∷ 0 ∷ 1 ∷ 0 ∷ []
+
+-- a class of all registers, with slots or without
+abbrev pub allOf : ℕ → List ℕ
+allOf slots = 0 ∷ slots ∷ 3 ∷ 0 ∷ 1 ∷ 2 ∷ 3 ∷ 0 ∷ 1 ∷ 2 ∷ []
+
+-- two banks of one register each, with the classes that they need; then a function of one value
+abbrev pub twoBanks : List ℕ → List ℕ
+twoBanks more =
+    2 ∷ 2 ∷ 3 ∷ 0 ∷ 1 ∷ 3 ∷ 2 ∷ 3 ∷ 2 ∷ 0 ∷ 0 ∷ 1 ∷ 0 ∷ 0 ∷ 1 ∷ 1 ∷ 1
+    ∷ 4 ∷ 0 ∷ 1 ∷ 1 ∷ 0 ∷ 1 ∷ 0 ∷ 0 ∷ 0 ∷ 1 ∷ 0 ∷ 1 ∷ 0 ∷ 1 ∷ 1 ∷ 1 ∷ 1 ∷ 1 ∷ 1 ∷ 1 ∷ 0 ∷ 1 ∷ 1 ∷ 1 ∷ 1 ∷ 1 ∷ 0 ∷ 1 ∷ more
+
+pub record Trials : Type 0 where
+  -- "M s0 r1 1", "M r1 r0 0", "M r0 s0 1"; made 1
+  pub swap-full :
+      job swapFull
+      ≡ before (record { edits = Move (slot 0) (reg 1) 1 ∷ Move (reg 1) (reg 0) 0 ∷ Move (reg 0) (slot 0) 1 ∷ []; made = 1 }) (endsWith none)
+  -- the length, units, banks, a bank, registers, classes; 4 to 7; values, N, L, two values; the patch count; free units, entries; the call; 8
+  pub in-order :
+      numbers swapFull
+      ≡ 2 ∷ 1 ∷ 2 ∷ 1 ∷ 2 ∷ 1 ∷ 2 ∷ 1 ∷ 1 ∷ 1 ∷ 2 ∷ (aReg ++ (aReg ++ (aReg ++ (1 ∷ 2 ∷ (aClass ++ (aClass ++ (4 ∷ 5 ∷ 6 ∷ 7
+      ∷ 1 ∷ 2 ∷ 1 ∷ 2 ∷ 1 ∷ 2 ∷ 1 ∷ 2 ∷ 1 ∷ 2 ∷ 1 ∷ 2 ∷ 1 ∷ 2 ∷ 1 ∷ 2 ∷ 1 ∷ 1 ∷ (anEntry ++ (anEntry ++ (13 ∷ 14 ∷ 16 ∷ 17 ∷ 8 ∷ []))))))))))
+  pub no-byte : jobConditions [] ≡ cond 2 false ∷ cond 1 true ∷ []
+  -- the target's rules come before the function's first number, and rise
+  pub target-alone : job (targetWith r0 (allOf 1) (allOf 0)) .refusal ≡ some 1
+  pub unequal : job (targetWith (0 ∷ 0 ∷ 2 ∷ 0 ∷ 1 ∷ []) (allOf 0) (allOf 0)) .refusal ≡ some 4
+  pub no-member : job (targetWith r0 (allOf 0) (0 ∷ 0 ∷ 2 ∷ 0 ∷ 1 ∷ 3 ∷ 0 ∷ 1 ∷ 2 ∷ [])) .refusal ≡ some 5
+  pub memory-shared : job (targetWith (1 ∷ 0 ∷ 1 ∷ 1 ∷ []) (allOf 0) (allOf 0)) .refusal ≡ some 6
+  pub top-without-slots : job (targetWith r0 (allOf 0) (allOf 0)) .refusal ≡ some 7
+  -- a rebuild class of the other bank comes before the patch count; a place of it, with its entry
+  pub foreign-class : job (twoBanks (0 ∷ 1 ∷ 2 ∷ [])) .refusal ≡ some 9
+  pub foreign-place : job (twoBanks (0 ∷ 0 ∷ 1 ∷ 0 ∷ 1 ∷ 0 ∷ 3 ∷ 3 ∷ 0 ∷ [])) .refusal ≡ some 9
+  pub one-byte-over : job (swapFull ++ (0 ∷ [])) .refusal ≡ some 8
+  -- the patch's number comes before a byte left over
+  pub no-slot : job (jobWith 0 (0 ∷ swapEntries) ++ (0 ∷ [])) .refusal ≡ some 17
+  pub free-destination : job (jobWith 1 (1 ∷ 0 ∷ swapEntries)) .refusal ≡ some 13
+  -- two registers of one unit; the value is rebuilt by a class of the first alone, into the second
+  pub last-overlaps :
+      job (1 ∷ 1 ∷ 3 ∷ 0 ∷ 1 ∷ 2 ∷ 0 ∷ 0 ∷ 1 ∷ 0 ∷ 0 ∷ 0 ∷ 1 ∷ 0 ∷ 2 ∷ 0 ∷ 1 ∷ 2 ∷ 0 ∷ 1 ∷ 2 ∷ 0 ∷ 1 ∷ 0 ∷ 0 ∷ 1 ∷ 0 ∷ 1 ∷ 0
+      ∷ 1 ∷ 0 ∷ 1 ∷ 0 ∷ 2 ∷ 1 ∷ 1 ∷ 0 ∷ 1 ∷ 1 ∷ 3 ∷ 0 ∷ []) .refusal
+      ≡ some 14
+  -- an entry's number comes before its call's
+  pub self-move : job (jobWith 1 (1 ∷ 1 ∷ 2 ∷ 0 ∷ 1 ∷ 3 ∷ 0 ∷ 0 ∷ 3 ∷ 3 ∷ 0 ∷ [])) .refusal ≡ some 10
+  pub not-rebuildable : job (jobWith 1 (0 ∷ 1 ∷ 1 ∷ 3 ∷ 0 ∷ [])) .refusal ≡ some 11
+  pub same-destination : job (jobWith 1 (0 ∷ 2 ∷ 0 ∷ 1 ∷ 3 ∷ 0 ∷ 0 ∷ 5 ∷ 3 ∷ 1 ∷ [])) .refusal ≡ some 12
+  pub slot-from-N : job (jobWith 1 (0 ∷ 1 ∷ 0 ∷ 0 ∷ 1 ∷ 0 ∷ [])) .refusal ≡ some 2
+  pub not-rising : job (jobWith 1 (2 ∷ 2 ∷ 2 ∷ swapEntries)) .refusal ≡ some 3
+  -- "that same move 128 times taken, a 129th 15": also where its bytes are not there
+  pub entries-128 : job (jobWith 1 (0 ∷ 128 ∷ 1 ∷ sameMoves 128)) .refusal ≡ none
+  pub entries-129 : job (jobWith 1 (0 ∷ 129 ∷ 1 ∷ sameMoves 128)) .refusal ≡ some 15
