@@ -1,0 +1,4 @@
+pub mod Placing
+pub mod Nexting
+pub mod Going
+pub mod Opening

@@ -1,0 +1,55 @@
+use Rattle.parallel_moves.proofs.Resolving.{fresh}
+use Rattle.answer.proofs.Opening.{turned-away, known, all-answered}
+use borrow.Author.Needs.{needs}
+use Rattle.answer.proofs.answer_job.Statement.{statement}
+use Rattle.answer.proofs.answer_job.Tie as tie
+use Rattle.answer.proofs.answer_job.Reads as reads
+use Rattle.answer.proofs.answer_job.Lts as lts
+use Rattle.answer.proofs.answer_patches.Reads as answer-patches-reads
+use Rattle.job.proofs.read_opening.Reads as read-opening-reads
+use Rattle.slots.proofs.clear.Reads as clear-reads
+
+read-opening-requires : tie.Need-read-opening-requires
+read-opening-requires c κs = search needs
+
+enum-known-k : tie.Need-enum-known-k
+enum-known-k c = search needs
+
+enum-known-count : tie.Need-enum-known-count
+enum-known-count c = search needs
+
+clear-requires : tie.Need-clear-requires
+clear-requires c κs = search needs
+
+answer-patches-requires : tie.Need-answer-patches-requires
+answer-patches-requires c κs =
+    let read = c .before .before .before .before .before .before .before .before .before .before .before .before .before .before .before .before .before .before .before .before .read-opening in
+    (known (c .before .before .before .before .before .before .before .before .before .before .before .before .before .before .before .before .before .before .before .before .before .before .before .before .before .args .s .now) (read .last .1 .0) (read .last .1 .1 .0) _ _ (rw (c .before .before .before .before .before .before .before .before .before .before .before .before .before .before .before .before .before .before .count .given .1) at (read .ensures)), fresh (read .last .1 .1 .0) _ (c .before .before .before .before .before .before .before .before .before .before .before .before .before .before .before .clear .ensures))
+
+returns : tie.Need-returns
+returns c =
+    let read = c .before .before .before .read-opening in
+    turned-away (c .before .before .before .before .before .before .before .before .args .s .now) (read .last .1 .0) (read .last .1 .1 .0) (c .before .before .before .before .before .before .before .before .args .words .now) _ (rw (c .before .k .given .1) at (read .ensures))
+
+same-length : tie.Need-same-length
+same-length c = search needs
+
+returns-2 : tie.Need-returns-2
+returns-2 c =
+    let s = c .before .before .before .before .before .before .before .before .before .before .before .before .before .before .before .before .before .before .before .before .before .before .before .before .before .before .before .before in
+    let read = c .before .before .before .before .before .before .before .before .before .before .before .before .before .before .before .before .before .before .before .before .before .before .before .read-opening in
+    let p = c .before .before .answer-patches in
+    all-answered (s .args .s .now) (read .last .1 .0) (read .last .1 .1 .0) _ _ (s .args .words .now) _ (p .last .1 .1 .1 .1 .1 .1 .1 .1 .1 .1 .1 .1 .1 .1 .1 .1 .1 .0) (p .result) (rw (c .before .before .before .before .before .before .before .before .before .before .before .before .before .before .before .before .before .before .before .before .before .count .given .1) at (read .ensures)) (c .before .before .before .before .before .before .before .before .before .before .before .before .before .before .before .before .before .before .clear .ensures) (p .ensures)
+
+pub answer-job-spec : {M : Type 1} → statement M
+answer-job-spec =
+    tie.close
+    (tie.spec
+    read-opening-requires
+    enum-known-k
+    enum-known-count
+    clear-requires
+    answer-patches-requires
+    returns
+    same-length
+    returns-2)

@@ -1,0 +1,263 @@
+// 01, The job: a whole job answered into lent words, for callers in the same process. What the working tables held does not matter.
+use carried::Carried;
+use edit::Edits;
+use entity::wide;
+use entries::Entries;
+use function::Function;
+use job::Step;
+use number::Number;
+use reginfo::RegInfo;
+use scratch::Diverted;
+use slots::SlotCache;
+use slots::Slots;
+use small_set::RegUnitSet;
+use sparse::SparseMap;
+use visits::Marks;
+ghost use mathlib.Core.Path.{_≡_};
+ghost use Prim.Native.Nat.{ℕ, _+_, _<_, _≤_};
+ghost use mathlib.Core.List.{_∷_};
+ghost use lib.ListN.{length, take, drop};
+ghost use Rattle.reginfo.specs.Table.{regInfoOf};
+ghost use Rattle.function.specs.Known.{Checked};
+ghost use Rattle.function.specs.Table.{functionOf};
+ghost use Rattle.slots.specs.Stacks.{cacheOf};
+ghost use Rattle.parallel_moves.specs.Given.{CacheOk};
+ghost use Rattle.print.specs.Put.{Put};
+ghost use Rattle.answer_text.specs.Heads.{headWord};
+ghost use Rattle.job.specs.Job.{job, patches};
+ghost use Rattle.answer.specs.Whole.{Fitted, Next, Wholly};
+
+// How many words the patches that were resolved have, after a refusal too; or that the lent words are too few for them.
+pub enum Whole {
+    Answered(usize),
+    Refused(u8, usize),
+    Short,
+}
+
+// Where the next patch stands and how many words there are then; or why there is none.
+pub enum Onward {
+    At(usize, usize),
+    Refused(u8),
+    Short,
+}
+
+// It does nothing: a call tells the length of the list that is passed.
+fn told(list: [u64; 1024]) -> bool
+    ensures { λ _. ⌜ length list ≡ 1024 ⌝ }
+{
+    true
+}
+
+fn long(x: u32) -> usize
+    ensures { λ r. ⌜ r ≡ x ⌝ }
+{
+    x as usize
+}
+
+// The word before a patch's edits: how many they are, and how many slots the function has made.
+pub fn head(count: usize, made: usize) -> u64
+    requires { ⌜ (count ≤ 1024) × (made < 65536) ⌝ }
+    ensures { λ r. ⌜ r ≡ headWord count made ⌝ }
+{
+    (made as u64 * 65536 + count as u64) * 8
+}
+
+// The first `count` words of a list, from the n-th lent word on.
+fn put_words(words: &mut [u64], n: usize, list: &[u64], count: usize) -> usize
+    requires { ⌜ (n + count ≤ length (now words)) × (count ≤ length (now list)) ⌝ }
+    ensures { λ r. ⌜ Put (now (words .entry)) (now (words .exit)) n (take count (now (list .entry))) r ⌝ }
+{
+    let mut i = 0;
+    while i < count {
+        words[n + i] = list[i];
+        i += 1;
+    }
+    n + i
+}
+
+// A patch's head and its edits' words, if they fit.
+fn put_patch(
+    words: &mut [u64],
+    n: usize,
+    list: &[u64; 1024],
+    count: usize,
+    made: usize,
+    next: usize,
+) -> Onward
+    requires { ⌜ (n ≤ length (now words)) × (count ≤ 1024) × (made < 65536) ⌝ }
+    ensures { λ r. ⌜ Fitted (now (words .entry)) n (headWord count made ∷ take count (now (list .entry))) next r (now (words .exit)) ⌝ }
+{
+    told(*list);
+    if words.len() - n <= count {
+        return Onward::Short;
+    }
+    words[n] = head(count, made);
+    Onward::At(next, put_words(words, n + 1, list, count))
+}
+
+// The patch at an offset: read, resolved, and its words put.
+fn answer_next(
+    t: &RegInfo,
+    f: &Function,
+    s: &[u8],
+    at: usize,
+    cache: &mut SlotCache,
+    list: &mut [u64; 1024],
+    free: &mut RegUnitSet,
+    e: &mut Entries,
+    w: &mut SparseMap,
+    available: &mut RegUnitSet,
+    sources: &mut RegUnitSet,
+    edits: &mut Edits,
+    slots: &mut Slots,
+    d: &mut Diverted,
+    marks: &mut Marks,
+    c: &mut Carried,
+    words: &mut [u64],
+    n: usize,
+) -> Onward
+    requires { ⌜ Checked (now t) (now f) × CacheOk (now f) (now cache) × (n ≤ length (now words)) ⌝ }
+    ensures { λ r. ⌜ Next (now (t .entry)) (now (f .entry)) (now (s .entry)) at (now (cache .entry)) (now (cache .exit)) (now (words .entry)) (now (words .exit)) n r ⌝ }
+{
+    told(*list);
+    match job::answer_patch(
+        t,
+        f,
+        s,
+        at,
+        cache,
+        list,
+        free,
+        e,
+        w,
+        available,
+        sources,
+        edits,
+        slots,
+        d,
+        marks,
+        c,
+    ) {
+        Step::Refused(k) => Onward::Refused(k),
+        Step::Edits(count, next) => {
+            let made = wide(slots::made(cache));
+            put_patch(words, n, list, count, made, next)
+        }
+    }
+}
+
+// The patches of a job, from an offset on.
+fn answer_patches(
+    t: &RegInfo,
+    f: &Function,
+    s: &[u8],
+    from: usize,
+    count: u32,
+    cache: &mut SlotCache,
+    list: &mut [u64; 1024],
+    free: &mut RegUnitSet,
+    e: &mut Entries,
+    w: &mut SparseMap,
+    available: &mut RegUnitSet,
+    sources: &mut RegUnitSet,
+    edits: &mut Edits,
+    slots: &mut Slots,
+    d: &mut Diverted,
+    marks: &mut Marks,
+    c: &mut Carried,
+    words: &mut [u64],
+) -> Whole
+    requires { ⌜ Checked (now t) (now f) × CacheOk (now f) (now cache) ⌝ }
+    ensures { λ r. ⌜ Wholly (now (words .entry)) (patches (regInfoOf (now (t .entry))) (functionOf (now (f .entry))) count (cacheOf (now (cache .entry))) (drop from (now (s .entry)))) r (now (words .exit)) ⌝ }
+{
+    let mut at = from;
+    let mut n = 0;
+    let mut left = long(count);
+    while 0 < left {
+        match answer_next(
+            t,
+            f,
+            s,
+            at,
+            cache,
+            list,
+            free,
+            e,
+            w,
+            available,
+            sources,
+            edits,
+            slots,
+            d,
+            marks,
+            c,
+            words,
+            n,
+        ) {
+            Onward::Refused(k) => {
+                return Whole::Refused(k, n);
+            }
+            Onward::Short => {
+                return Whole::Short;
+            }
+            Onward::At(next, m) => {
+                at = next;
+                n = m;
+            }
+        }
+        left -= 1;
+    }
+    if at < s.len() {
+        return Whole::Refused(8, n);
+    }
+    Whole::Answered(n)
+}
+
+// A whole job. `t`, `f` and `cache` are working tables too.
+pub fn answer_job(
+    s: &[u8],
+    words: &mut [u64],
+    t: &mut RegInfo,
+    f: &mut Function,
+    cache: &mut SlotCache,
+    list: &mut [u64; 1024],
+    free: &mut RegUnitSet,
+    e: &mut Entries,
+    w: &mut SparseMap,
+    available: &mut RegUnitSet,
+    sources: &mut RegUnitSet,
+    edits: &mut Edits,
+    slots: &mut Slots,
+    d: &mut Diverted,
+    marks: &mut Marks,
+    c: &mut Carried,
+) -> Whole
+    ensures { λ r. ⌜ Wholly (now (words .entry)) (job (now (s .entry))) r (now (words .exit)) ⌝ }
+{
+    match job::read_opening(s, t, f) {
+        Number::Refused(k) => Whole::Refused(k, 0),
+        Number::Is(count, at) => {
+            slots::clear(cache);
+            answer_patches(
+                t,
+                f,
+                s,
+                at,
+                count,
+                cache,
+                list,
+                free,
+                e,
+                w,
+                available,
+                sources,
+                edits,
+                slots,
+                d,
+                marks,
+                c,
+                words,
+            )
+        }
+    }
+}

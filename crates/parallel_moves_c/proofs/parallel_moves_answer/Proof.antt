@@ -1,0 +1,53 @@
+use Rattle.job.specs.Job.{job}
+use Rattle.parallel_moves_c.proofs.Answering.{answered, refused, too-short}
+use borrow.Author.Needs.{needs}
+use Rattle.parallel_moves_c.proofs.parallel_moves_answer.Statement.{statement}
+use Rattle.parallel_moves_c.proofs.parallel_moves_answer.Tie as tie
+use Rattle.parallel_moves_c.proofs.parallel_moves_answer.Reads as reads
+use Rattle.parallel_moves_c.proofs.parallel_moves_answer.Lts as lts
+use Rattle.answer.proofs.answer_job.Reads as answer-job-reads
+
+answer-job-requires : tie.Need-answer-job-requires
+answer-job-requires c κs = search needs
+
+enum-known-n : tie.Need-enum-known-n
+enum-known-n c = search needs
+
+enum-known-k : tie.Need-enum-known-k
+enum-known-k c = search needs
+
+enum-told : tie.Need-enum-told
+enum-told c = search needs
+
+same-length : tie.Need-same-length
+same-length c = search needs
+
+returns : tie.Need-returns
+returns c = let p = c .before .before .before .before .before .answer-job in answered (c .before .before .before .before .before .before .before .before .before .before .before .before .before .before .before .before .before .before .before .before .before .before .before .args .words .now) (job (c .before .before .before .before .before .before .before .before .before .before .before .before .before .before .before .before .before .before .before .before .before .before .before .args .bytes .now)) (p .last .1 .0) _ (rw (c .before .n .given .1) at (p .ensures))
+
+same-length-2 : tie.Need-same-length-2
+same-length-2 c = search needs
+
+returns-2 : tie.Need-returns-2
+returns-2 c = let p = c .before .before .before .before .before .answer-job in refused (c .before .before .before .before .before .before .before .before .before .before .before .before .before .before .before .before .before .before .before .before .before .before .before .args .words .now) (job (c .before .before .before .before .before .before .before .before .before .before .before .before .before .before .before .before .before .before .before .before .before .before .before .args .bytes .now)) (p .last .1 .0) _ _ (rw (c .before .k .given .1) at (p .ensures))
+
+same-length-3 : tie.Need-same-length-3
+same-length-3 c = search needs
+
+returns-3 : tie.Need-returns-3
+returns-3 c = let p = c .before .before .before .before .answer-job in too-short (c .before .before .before .before .before .before .before .before .before .before .before .before .before .before .before .before .before .before .before .before .before .before .args .words .now) (job (c .before .before .before .before .before .before .before .before .before .before .before .before .before .before .before .before .before .before .before .before .before .before .args .bytes .now)) (p .last .1 .0) (rw (c .enum-told .given .1) at (p .ensures))
+
+pub parallel-moves-answer-spec : {M : Type 1} → statement M
+parallel-moves-answer-spec =
+    tie.close
+    (tie.spec
+    answer-job-requires
+    enum-known-n
+    enum-known-k
+    enum-told
+    same-length
+    returns
+    same-length-2
+    returns-2
+    same-length-3
+    returns-3)

@@ -1,0 +1,82 @@
+// The functions that a program in C or in Rust calls. They ask nothing of what they are lent: what the working tables held does not matter,
+// and a list that is too short is refused.
+use answer::Whole;
+use carried::Carried;
+use edit::Edits;
+use entries::Entries;
+use function::Function;
+use reginfo::RegInfo;
+use scratch::Diverted;
+use slots::SlotCache;
+use slots::Slots;
+use small_set::RegUnitSet;
+use sparse::SparseMap;
+use visits::Marks;
+ghost use Rattle.answer_text.specs.Lines.{answerText, Printed};
+ghost use Rattle.job.specs.Job.{job};
+ghost use Rattle.parallel_moves_c.specs.Answered.{AnsweredAs};
+
+// A whole job: answers how many words the patches that were resolved have, and sets `refusal` to 01's number or 0. Where `words` is too short
+// both are 0: an answered job has at least one word.
+#[no_mangle]
+pub extern "C" fn parallel_moves_answer(
+    bytes: &[u8],
+    words: &mut [u64],
+    refusal: &mut u8,
+    target: &mut RegInfo,
+    function: &mut Function,
+    cache: &mut SlotCache,
+    list: &mut [u64; 1024],
+    free: &mut RegUnitSet,
+    entries: &mut Entries,
+    writers: &mut SparseMap,
+    available: &mut RegUnitSet,
+    sources: &mut RegUnitSet,
+    edits: &mut Edits,
+    slots: &mut Slots,
+    diverted: &mut Diverted,
+    marks: &mut Marks,
+    carried: &mut Carried,
+) -> usize
+    ensures { λ r. ⌜ AnsweredAs (now (words .entry)) (job (now (bytes .entry))) r (now (refusal .exit)) (now (words .exit)) ⌝ }
+{
+    match answer::answer_job(
+        bytes,
+        words,
+        target,
+        function,
+        cache,
+        list,
+        free,
+        entries,
+        writers,
+        available,
+        sources,
+        edits,
+        slots,
+        diverted,
+        marks,
+        carried,
+    ) {
+        Whole::Answered(n) => {
+            *refusal = 0;
+            n
+        }
+        Whole::Refused(k, n) => {
+            *refusal = k;
+            n
+        }
+        Whole::Short => {
+            *refusal = 0;
+            0
+        }
+    }
+}
+
+// The text of an answer, as the program `resolve` prints it: answers its length, or 0 where `text` is too short.
+#[no_mangle]
+pub extern "C" fn parallel_moves_text(words: &[u64], refusal: u8, text: &mut [u8]) -> usize
+    ensures { λ r. ⌜ Printed (now (text .entry)) (now (text .exit)) (answerText (now (words .entry)) refusal) r ⌝ }
+{
+    answer_text::put_answer(text, words, refusal)
+}
