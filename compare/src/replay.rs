@@ -22,9 +22,9 @@ const NUMBERS: [u32; 16] = [1, 2, 3, 4, 5, 6, 7, 8, 9, 10, 11, 12, 13, 14, 15, 1
 /// text together may be.
 const ACCEPTED: [(&str, usize, usize); 6] = [
     ("small", 60, 1000),
-    ("big", 8, 7000),
-    ("shared", 45, 2000),
-    ("memory", 45, 1500),
+    ("big", 7, 7000),
+    ("shared", 38, 2000),
+    ("memory", 42, 1500),
     ("remat", 45, 1500),
     ("patches", 8, 4000),
 ];
