@@ -327,7 +327,9 @@ fn report(task: &Task, found: Found, options: &Options) -> Result<(), Box<dyn Er
             })
         };
         let builder = thread::Builder::new().stack_size(STACK);
-        builder.spawn_scoped(scope, make_small)?.join()
+        builder
+            .spawn_scoped(scope, make_small)?
+            .join()
             .map_err(|_| io::Error::other("a thread panicked"))
     })?;
     println!("made small: {} bytes of {length}", small.len());

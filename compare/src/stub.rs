@@ -10,14 +10,14 @@ use judge::{answer, words};
 
 /// The faults, each in some answers only.
 const FAULTS: [&str; 9] = [
-    "order",      // two edits change places in a patch with four or more
-    "place",      // a copy into slot 3 goes to slot 1
-    "made",       // a slot too many is counted from the second patch on
-    "patch",      // of five patches and more, the last has no answer
-    "number",     // 12 for 13
-    "accepted",   // bytes left over are accepted
-    "text",       // the text of rebuilds is wrong, their words are right
-    "words",      // the words of rebuilds are wrong, their text is right
+    "order",       // two edits change places in a patch with four or more
+    "place",       // a copy into slot 3 goes to slot 1
+    "made",        // a slot too many is counted from the second patch on
+    "patch",       // of five patches and more, the last has no answer
+    "number",      // 12 for 13
+    "accepted",    // bytes left over are accepted
+    "text",        // the text of rebuilds is wrong, their words are right
+    "words",       // the words of rebuilds are wrong, their text is right
     "little-room", // no heed is paid to the room that there is
 ];
 

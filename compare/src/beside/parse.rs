@@ -48,7 +48,11 @@ fn read(reader: &mut Reader) -> Result<Draft, Refused> {
         values: several(reader, values, |reader| {
             let bank = number(reader)?;
             let cost = number(reader)?;
-            let class = if cost == COST_NONE { 0 } else { number(reader)? };
+            let class = if cost == COST_NONE {
+                0
+            } else {
+                number(reader)?
+            };
             Ok(Value { bank, cost, class })
         })?,
         patches: list(reader, |reader| {

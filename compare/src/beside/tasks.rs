@@ -135,20 +135,23 @@ const TRIALS: [&str; 10] = [
     "same-move-128-times",
 ];
 
-/// Generated jobs that are damaged: the first accepted one of a mode that has
-/// so many bytes, and in its answer an edit of such a kind.
-const CHOSEN: [(&str, usize, usize, char); 10] = [
+/// Generated jobs that are damaged: the first accepted one of a mode that has so
+/// many bytes, and in its answer an edit of such a kind.
+const CHOSEN: [(&str, usize, usize, char); 9] = [
     ("small", 80, 150, 'S'),
     ("small", 150, 250, 'R'),
     ("shared", 150, 300, 'L'),
-    ("shared", 350, 600, 'R'),
+    ("shared", 450, 600, 'R'),
     ("memory", 100, 200, 'S'),
-    ("memory", 250, 400, 'R'),
-    ("remat", 100, 200, 'R'),
-    ("remat", 250, 400, 'S'),
-    ("patches", 300, 450, 'L'),
+    ("memory", 300, 500, 'R'),
+    ("remat", 350, 600, 'S'),
+    ("patches", 450, 600, 'L'),
     ("limits", 80, 250, 'R'),
 ];
+
+/// One more: the first accepted one of a mode that has so many bytes, and is
+/// refused by such a number if one byte is changed.
+const CHOSEN_BY_REFUSAL: (&str, usize, usize, &str) = ("remat", 100, 250, "refused 14\n");
 
 /// The seed that they are chosen by.
 const CHOSEN_BY: u64 = 20;
@@ -161,22 +164,29 @@ pub fn damaged(trials: &Path) -> io::Result<Vec<Task>> {
         let job = fs::read(trials.join(format!("{name}.job")))?;
         jobs.push((name.into(), job.into()));
     }
-    for (index, (wanted, least, most, kind)) in CHOSEN.into_iter().enumerate() {
-        let known = MODES.iter().find(|(name, _, _)| *name == wanted);
-        let &(name, mode, _) = known.expect("the mode is one of the table");
-        let mut generator = Generator::new(CHOSEN_BY, mode);
-        let job = loop {
-            let job = generator.job();
-            if (least..=most).contains(&job.len()) {
-                let text = answer::answer(&job);
-                if !text.contains("refused") && text.lines().any(|line| line.starts_with(kind)) {
-                    break job;
-                }
-            }
-        };
-        let name = format!("{name} job (number {} of the list)", TRIALS.len() + index + 1);
-        jobs.push((name.into(), job.into()));
+    for (mode, least, most, kind) in CHOSEN {
+        let job = first(mode, least, most, |_, text| {
+            text.lines().any(|line| line.starts_with(kind))
+        });
+        jobs.push((format!("a {mode} job of {} bytes", job.len()).into(), job));
     }
+    let (mode, least, most, refused) = CHOSEN_BY_REFUSAL;
+    let job = first(mode, least, most, |job, _| {
+        let job: Arc<[u8]> = job.into();
+        (0..job.len()).any(|offset| {
+            let changed = Task::Changed {
+                name: mode.into(),
+                job: job.clone(),
+                offset,
+            };
+            let test = |job: &[u8]| match answer::answer(job).ends_with(refused) {
+                true => ControlFlow::Break(()),
+                false => ControlFlow::Continue(()),
+            };
+            changed.each(test).is_break()
+        })
+    });
+    jobs.push((format!("a {mode} job of {} bytes", job.len()).into(), job));
 
     let mut tasks = Vec::new();
     for (name, job) in jobs {
@@ -197,4 +207,20 @@ pub fn damaged(trials: &Path) -> io::Result<Vec<Task>> {
         }
     }
     Ok(tasks)
+}
+
+/// The first accepted job of a mode that has so many bytes and is such.
+fn first(mode: &str, least: usize, most: usize, such: impl Fn(&[u8], &str) -> bool) -> Arc<[u8]> {
+    let known = MODES.iter().find(|(name, _, _)| *name == mode);
+    let &(_, mode, _) = known.expect("the mode is one of the table");
+    let mut generator = Generator::new(CHOSEN_BY, mode);
+    loop {
+        let job = generator.job();
+        if (least..=most).contains(&job.len()) {
+            let text = answer::answer(&job);
+            if !text.contains("refused") && such(&job, &text) {
+                return job.into();
+            }
+        }
+    }
 }
