@@ -18,15 +18,15 @@ const MOST_TEXT: usize = 60_000;
 /// The numbers that a job can be refused by.
 const NUMBERS: [u32; 16] = [1, 2, 3, 4, 5, 6, 7, 8, 9, 10, 11, 12, 13, 14, 15, 17];
 
-/// The modes of mostly accepted jobs: how many to take, and how long job and
-/// text together may be.
-const ACCEPTED: [(&str, usize, usize); 6] = [
-    ("small", 60, 1000),
-    ("big", 7, 7000),
-    ("shared", 38, 2000),
-    ("memory", 42, 1500),
-    ("remat", 45, 1500),
-    ("patches", 8, 4000),
+/// The modes of mostly accepted jobs: how many to take, how many lines the text
+/// has at least, and how long job and text together may be.
+const ACCEPTED: [(&str, usize, usize, usize); 6] = [
+    ("small", 60, 1, 1000),
+    ("big", 7, 110, 7000),
+    ("shared", 35, 1, 2000),
+    ("memory", 40, 1, 1500),
+    ("remat", 42, 1, 1500),
+    ("patches", 8, 1, 4000),
 ];
 
 /// Of mode `refused`: how many to take for each number, of what length, out of
@@ -117,9 +117,10 @@ pub fn trials(folder: &Path) -> io::Result<Vec<Record>> {
 /// The records that a seed decides, after those of the trials.
 pub fn records(seed: u64, trials: Vec<Record>) -> Result<Vec<Record>, String> {
     let mut records = trials;
-    for (mode, wanted, most) in ACCEPTED {
+    for (mode, wanted, lines, most) in ACCEPTED {
         let accepted = jobs(seed, mode)
             .filter(|record| record.refusal() == 0 && record.fits() && record.bytes() <= most)
+            .filter(|record| record.text.lines().count() >= lines)
             .take(wanted);
         records.extend(accepted);
     }
