@@ -22,8 +22,14 @@ const OUT_OF_SLOTS: Refused = Refused(17);
 /// The text printed for a job. A panic of the original is its last line, the
 /// word `panic` and the message.
 pub fn answer(job: &[u8]) -> String {
+    answer_and_place(job).0
+}
+
+/// The same, and how many bytes were read.
+pub fn answer_and_place(job: &[u8]) -> (String, usize) {
     let mut text = String::new();
-    let outcome = panic::catch_unwind(AssertUnwindSafe(|| run(job, &mut text)));
+    let mut reader = Reader::new(job);
+    let outcome = panic::catch_unwind(AssertUnwindSafe(|| run(&mut reader, &mut text)));
     match outcome {
         Ok(Ok(())) => {}
         Ok(Err(Refused(number))) => put(&mut text, format_args!("refused {number}\n")),
@@ -37,7 +43,7 @@ pub fn answer(job: &[u8]) -> String {
             put(&mut text, format_args!("panic {message}\n"));
         }
     }
-    text
+    (text, reader.place())
 }
 
 /// Keeps panics from being reported anywhere but in the answer.
@@ -45,18 +51,17 @@ pub fn silence_panics() {
     panic::set_hook(Box::new(|_| {}));
 }
 
-fn run(job: &[u8], text: &mut String) -> Result<(), Refused> {
-    if job.len() > MOST_BYTES {
+fn run(reader: &mut Reader, text: &mut String) -> Result<(), Refused> {
+    if reader.len() > MOST_BYTES {
         return Err(NAMES_NOTHING);
     }
-    let mut reader = Reader::new(job);
-    let target = Target::read(&mut reader)?;
-    let values = Values::read(&mut reader, &target)?;
+    let target = Target::read(reader)?;
+    let values = Values::read(reader, &target)?;
     let mut resolver = Resolver::new(&target, &values);
 
     let patch_count = reader.within(1, MOST_PATCHES)?;
     for number in 1..=patch_count {
-        let patch = Patch::read(&mut reader, &target, &values)?;
+        let patch = Patch::read(reader, &target, &values)?;
         let edits = resolver.resolve(&patch)?;
         let made = resolver.made;
         put(

@@ -85,11 +85,11 @@ pub struct Field {
 }
 
 impl Target {
-    /// The units of a place in a table over all units.
-    pub fn units_of(&self, place: Place) -> Vec<usize> {
+    /// Whether some unit of a place, in a table over all units, is such.
+    pub fn any_unit(&self, place: Place, mut such: impl FnMut(usize) -> bool) -> bool {
         match place {
-            Place::Register(reg) => self.registers[reg].units.clone(),
-            Place::Slot(slot) => vec![FIRST_SLOT_UNIT + slot],
+            Place::Register(reg) => self.registers[reg].units.iter().any(|&unit| such(unit)),
+            Place::Slot(slot) => such(FIRST_SLOT_UNIT + slot),
         }
     }
 
@@ -101,8 +101,7 @@ impl Target {
     }
 
     pub fn overlap(&self, a: Place, b: Place) -> bool {
-        let units = self.units_of(b);
-        self.units_of(a).iter().any(|unit| units.contains(unit))
+        self.any_unit(a, |unit| self.any_unit(b, |other| other == unit))
     }
 
     pub fn class_has(&self, class: usize, place: Place) -> bool {

@@ -2,7 +2,7 @@
 
 mod accepted;
 mod damaged;
-mod limits;
+pub mod limits;
 mod patches;
 mod refused;
 mod targets;

@@ -1,25 +1,15 @@
 //! Answers jobs with the original module, and makes jobs to answer.
 
-mod answer;
-mod draft;
-mod encode;
-mod frame;
-mod generate;
-mod number;
-mod patch;
-mod random;
-mod tally;
-mod target;
-mod values;
-
 use std::error::Error;
 use std::fs;
 use std::io::{self, BufReader, BufWriter, Read, Write};
 use std::path::Path;
 use std::process::ExitCode;
 
-use generate::{Generator, MODES};
-use tally::Tally;
+use judge::generate::{Generator, MODES};
+use judge::replay::{self, Record};
+use judge::tally::Tally;
+use judge::{answer, encode, frame};
 
 const HELP: &str = "\
 compare answer
@@ -38,6 +28,12 @@ compare encode
     Words: 12 (a number), 0x8f (a byte), ( 0 1 3 0 )*128 (repeated), # comment.
 compare trials FILE FOLDER
     Writes NAME.job and NAME.out into the folder for each trial in the file.
+compare replay SEED FOLDER
+    Writes a fixed choice of jobs and answers: each as the job's length and the
+    answer's, as 4 bytes, lowest first, then the job and the answer. The trials
+    of the folder are among them. Says on standard error what was chosen.
+compare replay-trials FILE
+    Writes the same of the trials in the file.
 compare tally
     Reads answers, each after its length, and prints counts over them.
     Fails if there is a panic among them.
@@ -58,6 +54,8 @@ fn main() -> ExitCode {
         }
         ["encode"] => encode(),
         ["trials", file, folder] => write_trials(file, Path::new(folder)),
+        ["replay", seed, folder] => write_replay(seed, Path::new(folder)),
+        ["replay-trials", file] => write_replay_of_trials(file),
         ["tally"] => tally(),
         ["--help" | "help"] => io::stdout()
             .write_all(help().as_bytes())
@@ -144,6 +142,35 @@ fn write_trials(file: &str, folder: &Path) -> Outcome {
         fs::write(folder.join(format!("{}.job", trial.name)), trial.job)?;
         fs::write(folder.join(format!("{}.out", trial.name)), trial.printed)?;
     }
+    Ok(())
+}
+
+fn write_replay(seed: &str, folder: &Path) -> Outcome {
+    let seed = seed.parse().map_err(|_| "SEED is not a number")?;
+    let records = replay::records(seed, replay::trials(folder)?)?;
+    eprint!("{}", replay::table(&records));
+    write_records(&records)
+}
+
+fn write_replay_of_trials(file: &str) -> Outcome {
+    let mut records = Vec::new();
+    for trial in encode::trials(&fs::read_to_string(file)?)? {
+        let record = Record::new("trials", trial.job);
+        if record.text != trial.printed {
+            return Err(format!("{} prints something else", trial.name).into());
+        }
+        records.push(record);
+    }
+    eprint!("{}", replay::table(&records));
+    write_records(&records)
+}
+
+fn write_records(records: &[Record]) -> Outcome {
+    let mut output = BufWriter::new(io::stdout().lock());
+    for record in records {
+        record.write(&mut output)?;
+    }
+    output.flush()?;
     Ok(())
 }
 

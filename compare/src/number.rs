@@ -27,6 +27,16 @@ impl<'a> Reader<'a> {
         Reader { bytes, next: 0 }
     }
 
+    /// How many bytes there are.
+    pub fn len(&self) -> usize {
+        self.bytes.len()
+    }
+
+    /// How many bytes were read.
+    pub fn place(&self) -> usize {
+        self.next
+    }
+
     /// Whether every byte was read.
     pub fn at_end(&self) -> bool {
         self.next == self.bytes.len()

@@ -7,10 +7,24 @@ use crate::draft::{
 };
 use crate::random::Random;
 
+/// A number is drawn below this; some kinds of jobs have several numbers.
+const DRAWN: usize = 24;
+
+/// A number of each kind.
+pub const KINDS: [usize; 20] = [
+    0, 1, 2, 3, 4, 5, 6, 7, 8, 9, 10, 11, 12, 13, 14, 15, 16, 18, 19, 20,
+];
+
 /// A job at a limit, or one past it.
 pub fn job(random: &mut Random) -> Vec<u8> {
     let past = random.below(2);
-    match random.below(24) {
+    let kind = random.below(DRAWN);
+    job_of(random, kind, past)
+}
+
+/// A job of a kind, at the limit if `past` is 0 and one past it if it is 1.
+pub fn job_of(random: &mut Random, kind: usize, past: usize) -> Vec<u8> {
+    match kind {
         0 => units(random, past),
         1 => banks(random, past),
         2 => registers(past),
@@ -198,6 +212,24 @@ fn order_entries(random: &mut Random, past: usize) -> Vec<u8> {
             members: vec![0],
             order: Vec::new(),
         });
+    }
+    draft.patches[0].entries = vec![entry(Place::Register(0), Place::Register(1), 0)];
+    draft.job()
+}
+
+/// The same limit in few bytes: 64 classes, each with 64 of 65 registers in
+/// its order.
+pub fn order_entries_in_few_bytes(past: usize) -> Vec<u8> {
+    let mut draft = plain(65, 2, 0);
+    for class in &mut draft.target.classes {
+        class.order.truncate(64);
+    }
+    while draft.target.classes.len() < 64 {
+        let again = draft.target.classes[1].clone();
+        draft.target.classes.push(again);
+    }
+    if past == 1 {
+        draft.target.classes[63].order.push(64);
     }
     draft.patches[0].entries = vec![entry(Place::Register(0), Place::Register(1), 0)];
     draft.job()

@@ -114,8 +114,7 @@ impl<'a> PatchMaker<'a> {
     fn open_place(&mut self, bank: usize) -> Option<Place> {
         for _ in 0..6 {
             let place = self.any_place(bank);
-            let units = self.draft.target.units_of(place);
-            if !units.iter().any(|&unit| self.taken[unit]) {
+            if !self.draft.target.any_unit(place, |unit| self.taken[unit]) {
                 return Some(place);
             }
         }
@@ -126,8 +125,7 @@ impl<'a> PatchMaker<'a> {
     fn written_place(&mut self, bank: usize) -> Place {
         for _ in 0..8 {
             let place = self.any_place(bank);
-            let units = self.draft.target.units_of(place);
-            if units.iter().any(|&unit| self.written[unit]) {
+            if self.draft.target.any_unit(place, |unit| self.written[unit]) {
                 return place;
             }
         }
@@ -141,17 +139,18 @@ impl<'a> PatchMaker<'a> {
             dest,
             value,
         };
-        let units = self.draft.target.units_of(dest);
+        let target = &self.draft.target;
         if source == Some(dest)
-            || units.iter().any(|&unit| self.taken[unit])
+            || target.any_unit(dest, |unit| self.taken[unit])
             || self.draft.evicts_destination(&entry)
         {
             return false;
         }
-        for unit in units {
+        target.any_unit(dest, |unit| {
             self.taken[unit] = true;
             self.written[unit] = true;
-        }
+            false
+        });
         if source.is_some() {
             self.homes[value] = source;
         }
@@ -335,7 +334,7 @@ impl<'a> PatchMaker<'a> {
         for place in all.into_iter().map(Place::Register) {
             if target.overlap(place, under)
                 && !target.overlap(place, other)
-                && !target.units_of(place).iter().any(|&unit| self.taken[unit])
+                && !target.any_unit(place, |unit| self.taken[unit])
                 && !lying.iter().any(|&before| target.overlap(before, place))
             {
                 lying.push(place);

@@ -1,0 +1,123 @@
+//! One job, answered by the original and by ours.
+
+use judge::{answer, words};
+
+use crate::ours::Ours;
+
+/// How a job is compared.
+#[derive(Clone, Copy, Default)]
+pub struct Way {
+    /// Also with too little room for the words, and for the text.
+    pub with_little_room: bool,
+    /// Ours' answer is spoiled first, to see that it is found.
+    pub spoiled: Option<Spoiled>,
+}
+
+/// What of an answer is spoiled.
+#[derive(Clone, Copy, PartialEq, Eq)]
+pub enum Spoiled {
+    Text,
+    /// The last word, or the refusal if there are none.
+    Words,
+}
+
+/// What both say of a job.
+pub struct Outcome {
+    /// 0 if the job is accepted.
+    pub refusal: u32,
+    pub patches: u64,
+    pub edits: u64,
+}
+
+/// What is not the same.
+pub struct Difference {
+    pub what: String,
+    pub original: String,
+    /// What ours prints.
+    pub printed: String,
+    /// What the words of ours come to.
+    pub decoded: String,
+}
+
+/// Compares the answers to a job.
+pub fn compare(ours: &mut Ours, job: &[u8], way: Way) -> Result<Outcome, Box<Difference>> {
+    let original = answer::answer(job);
+    let (count, mut refusal) = ours.answer(job, None);
+    let printed = ours.text(count, refusal, None).unwrap_or_default();
+    let length = printed.len();
+    let same_text = printed == original.as_bytes() && way.spoiled != Some(Spoiled::Text);
+    let printed = (!same_text).then(|| {
+        let mut text = String::from_utf8_lossy(printed).into_owned();
+        if way.spoiled == Some(Spoiled::Text) {
+            text.push_str("spoiled\n");
+        }
+        text
+    });
+    if way.spoiled == Some(Spoiled::Words) {
+        match ours.words(count).and_then(|words| words.last_mut()) {
+            Some(word) => *word ^= 1 << 20,
+            None => refusal ^= 1,
+        }
+    }
+    let decoded = match ours.words(count) {
+        Some(words) => words::answer(words, refusal),
+        None => Err(format!("{count} words")),
+    };
+
+    let what = match &decoded {
+        _ if !same_text => "the text that ours prints".to_owned(),
+        Err(wrong) => format!("the words of ours: {wrong}"),
+        Ok(decoded) if decoded.text != original => "the words of ours".to_owned(),
+        Ok(decoded) => {
+            let wrong = if way.with_little_room {
+                little_room(ours, job, count, refusal, length)
+            } else {
+                None
+            };
+            match wrong {
+                Some(wrong) => wrong,
+                None => {
+                    return Ok(Outcome {
+                        refusal,
+                        patches: decoded.patches,
+                        edits: decoded.edits,
+                    });
+                }
+            }
+        }
+    };
+    Err(Box::new(Difference {
+        what,
+        printed: printed.unwrap_or_else(|| original.clone()),
+        original,
+        decoded: decoded.map_or_else(|wrong| format!("{wrong}\n"), |decoded| decoded.text),
+    }))
+}
+
+/// What ours does wrong when it has too little room, if anything.
+fn little_room(
+    ours: &mut Ours,
+    job: &[u8],
+    count: usize,
+    refusal: u32,
+    length: usize,
+) -> Option<String> {
+    // The text first: the words of the whole answer are still there.
+    for room in [0, length / 2, length - 1] {
+        if let Some(text) = ours.text(count, refusal, Some(room)) {
+            let given = text.len();
+            return Some(format!("{given} bytes of text, with room for {room}"));
+        }
+    }
+    if count > 0 {
+        for room in [0, count / 2, count - 1] {
+            let (given, number) = ours.answer(job, Some(room));
+            if (given, number) != (0, 0) {
+                return Some(format!(
+                    "{given} words and refusal {number}, with room for {room} words of {count}"
+                ));
+            }
+        }
+    }
+    None
+}

@@ -1,0 +1,204 @@
+//! Ours: the static library, with the memory that it is lent.
+
+use judge::answer::{MOST_BYTES, MOST_PATCHES};
+
+/// The words of the longest answer: a move has four bytes of a job and at most
+/// 8 edits, a rebuild three and 5.
+const MOST_WORDS: usize = 2 * MOST_BYTES + MOST_PATCHES;
+/// A line of an edit has at most 19 bytes, one of a patch or refusal at most 36.
+const MOST_TEXT: usize = 19 * 2 * MOST_BYTES + 36 * (MOST_PATCHES + 1);
+
+#[cfg(stub)]
+extern crate stub;
+
+#[cfg_attr(not(stub), link(name = "parallel_moves_c", kind = "static"))]
+unsafe extern "C" {
+    fn parallel_moves_answer(
+        job: *const u8,
+        job_len: usize,
+        words: *mut u64,
+        words_len: usize,
+        refusal: *mut u32,
+        target: *mut u16,
+        function: *mut u16,
+        cache: *mut u16,
+        list: *mut u64,
+        free_units: *mut u8,
+        entries: *mut u16,
+        writers: *mut u16,
+        available: *mut u8,
+        sources: *mut u8,
+        edits: *mut u64,
+        slots: *mut u16,
+        diverted: *mut u16,
+        marks: *mut u8,
+        carried: *mut u16,
+    ) -> usize;
+
+    fn parallel_moves_text(
+        words: *const u64,
+        words_len: usize,
+        refusal: u32,
+        text: *mut u8,
+        text_len: usize,
+    ) -> usize;
+}
+
+/// An array that is lent, and past its end some that is not.
+struct Lent<T> {
+    all: Vec<T>,
+    len: usize,
+    not_lent: T,
+}
+
+/// How many numbers past the end of an array are watched.
+const WATCHED: usize = 32;
+
+impl<T: Copy + PartialEq> Lent<T> {
+    /// An array of any content, here two numbers in turn.
+    fn new(len: usize, content: [T; 2]) -> Self {
+        let all = (0..len + WATCHED).map(|index| content[index % 2]).collect();
+        let mut lent = Lent {
+            all,
+            len,
+            not_lent: content[1],
+        };
+        lent.all[len..].fill(content[1]);
+        lent
+    }
+
+    fn pointer(&mut self) -> *mut T {
+        self.all.as_mut_ptr()
+    }
+
+    fn is_kept(&self) -> bool {
+        self.all[self.len..].iter().all(|&n| n == self.not_lent)
+    }
+}
+
+/// Ours, with memory that is used again for each job.
+pub struct Ours {
+    words: Lent<u64>,
+    text: Lent<u8>,
+    target: Lent<u16>,
+    function: Lent<u16>,
+    cache: Lent<u16>,
+    list: Lent<u64>,
+    /// A flag is 0 or 1 in one byte.
+    free_units: Lent<u8>,
+    entries: Lent<u16>,
+    writers: Lent<u16>,
+    available: Lent<u8>,
+    sources: Lent<u8>,
+    edits: Lent<u64>,
+    slots: Lent<u16>,
+    diverted: Lent<u16>,
+    marks: Lent<u8>,
+    carried: Lent<u16>,
+}
+
+impl Ours {
+    pub fn new() -> Self {
+        let shorts = |len| Lent::new(len, [0xa5a5, 3]);
+        let longs = |len| Lent::new(len, [u64::MAX / 3, 9]);
+        let flags = |len| Lent::new(len, [0, 1]);
+        Ours {
+            words: longs(MOST_WORDS),
+            text: Lent::new(MOST_TEXT, [b'?', b'!']),
+            target: shorts(107_520),
+            function: shorts(16_387),
+            cache: shorts(65_600),
+            list: longs(1024),
+            free_units: flags(512),
+            entries: shorts(1028),
+            writers: shorts(6657),
+            available: flags(512),
+            sources: flags(512),
+            edits: longs(1025),
+            slots: shorts(32_834),
+            diverted: shorts(12_288),
+            marks: Lent::new(129, [0xa5, 1]),
+            carried: shorts(2049),
+        }
+    }
+
+    /// How many words a job's answer has, and the refusal, when it is lent
+    /// `room` words, or as many as can be needed.
+    pub fn answer(&mut self, job: &[u8], room: Option<usize>) -> (usize, u32) {
+        let room = room.unwrap_or(MOST_WORDS).min(MOST_WORDS);
+        let mut refusal = 0x5a5a_5a5a;
+        // SAFETY: each array is as long as the function says, the flags are 0
+        // or 1, and none lies on another.
+        let count = unsafe {
+            parallel_moves_answer(
+                job.as_ptr(),
+                job.len(),
+                self.words.pointer(),
+                room,
+                &mut refusal,
+                self.target.pointer(),
+                self.function.pointer(),
+                self.cache.pointer(),
+                self.list.pointer(),
+                self.free_units.pointer(),
+                self.entries.pointer(),
+                self.writers.pointer(),
+                self.available.pointer(),
+                self.sources.pointer(),
+                self.edits.pointer(),
+                self.slots.pointer(),
+                self.diverted.pointer(),
+                self.marks.pointer(),
+                self.carried.pointer(),
+            )
+        };
+        (count, refusal)
+    }
+
+    /// The first words of the last answer.
+    pub fn words(&mut self, count: usize) -> Option<&mut [u64]> {
+        self.words.all[..MOST_WORDS].get_mut(..count)
+    }
+
+    /// The text of the last answer's first `count` words, when it is lent
+    /// `room` bytes, or as many as can be needed. `None` if there is no room.
+    pub fn text(&mut self, count: usize, refusal: u32, room: Option<usize>) -> Option<&[u8]> {
+        let room = room.unwrap_or(MOST_TEXT).min(MOST_TEXT);
+        let count = count.min(MOST_WORDS);
+        // SAFETY: words and text are as long as the function is told.
+        let length = unsafe {
+            let words = self.words.pointer();
+            parallel_moves_text(words, count, refusal, self.text.pointer(), room)
+        };
+        if length == 0 {
+            None
+        } else {
+            self.text.all[..MOST_TEXT].get(..length)
+        }
+    }
+
+    /// Whether nothing was written past the end of an array.
+    pub fn kept_to_its_own(&self) -> bool {
+        let shorts = [
+            &self.target,
+            &self.function,
+            &self.cache,
+            &self.entries,
+            &self.writers,
+            &self.slots,
+            &self.diverted,
+            &self.carried,
+        ];
+        let longs = [&self.words, &self.list, &self.edits];
+        let bytes = [
+            &self.text,
+            &self.free_units,
+            &self.available,
+            &self.sources,
+            &self.marks,
+        ];
+        shorts.iter().all(|lent| lent.is_kept())
+            && longs.iter().all(|lent| lent.is_kept())
+            && bytes.iter().all(|lent| lent.is_kept())
+    }
+}
