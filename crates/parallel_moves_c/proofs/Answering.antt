@@ -1,28 +1,13 @@
 -- What `answer_job` answers, as a count and a number.
-use Prim.Native.Nat.{ℕ, _<_}
+use Prim.Native.Nat.{ℕ}
 use mathlib.Core.Path.{_≡_, refl}
 use mathlib.Core.List.{List}
-use mathlib.Core.Option.{Option, none, some}
 use native.Mathlib.Omega.{arith}
-use lib.ListN.{length}
 use Rattle.job.specs.Job.{Answers}
-use Rattle.answer.specs.Words.{wordsOf, numberOf}
-use Rattle.answer.specs.declared.Whole.{Whole}
 use Rattle.answer.specs.declared.Whole.the-variants.{Answered, Refused, Short}
-use Rattle.answer.specs.Whole.{ended, Wholly}
+use Rattle.answer.specs.Whole.{Wholly}
+use Rattle.answer.proofs.Ending.{none-refused, one-refused, no-short}
 use Rattle.parallel_moves_c.specs.Answered.{AnsweredAs}
-
-none-refused : (n m : ℕ) (o : Option ℕ) → Answered n ≡ ended o m → (n ≡ m) × (0 ≡ numberOf o)
-none-refused n m none e = (cc, refl)
-none-refused n m (some k) e = absurd (let z : _≡_ {A = ℕ} 0 1 = cc in omega arith)
-
-one-refused : (k n m : ℕ) (o : Option ℕ) → Refused k n ≡ ended o m → (n ≡ m) × (k ≡ numberOf o)
-one-refused k n m none e = absurd (let z : _≡_ {A = ℕ} 0 1 = cc in omega arith)
-one-refused k n m (some j) e = (cc, cc)
-
-no-short : (m : ℕ) (o : Option ℕ) → Short ≡ ended o m → ⊥
-no-short m none e = absurd (let z : _≡_ {A = ℕ} 0 1 = cc in omega arith)
-no-short m (some k) e = absurd (let z : _≡_ {A = ℕ} 0 1 = cc in omega arith)
 
 module _ (words : List ℕ) (a : Answers) (words′ : List ℕ) where
   pub answered : (n : ℕ) → Wholly words a (Answered n) words′ → AnsweredAs words a n 0 words′

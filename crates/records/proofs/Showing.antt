@@ -1,0 +1,30 @@
+-- A text that was told: it stands at the front of the lent bytes.
+use Prim.Native.Nat.{ℕ, _≤_}
+use mathlib.Core.Path.{_≡_, refl}
+use mathlib.Core.Bool.{Bool, true, false}
+use mathlib.Core.List.{List}
+use native.Mathlib.Omega.{arith}
+use borrow.Author.Tests.{ltb-true, ltb-false}
+use lib.Dec.{ltb}
+use lib.ListN.{length, take, drop}
+use lib.Seq.{take-at}
+use Rattle.answer_text.specs.Lines.{Printed}
+use Rattle.records.specs.Told.{jobWords, jobText, Told}
+
+printed : (out out′ text : List ℕ) (n : ℕ) → Printed out out′ text n → (n ≡ 0 → ⊥) → (n ≤ length out) × (take n out′ ≡ text)
+printed out out′ text n p there = go (ltb (length out) (length text)) refl
+  where
+    go : (b : Bool) → ltb (length out) (length text) ≡ b → (n ≤ length out) × (take n out′ ≡ text)
+    go true h = absurd (there (p .short (ltb-true _ _ h)))
+    go false h =
+        let few : length text ≤ length out = ltb-false _ _ h in
+        let f = p .fits few in
+        (omega (arith, few, f .0), rw (f .1, f .0) (take-at text (drop (length text) out) (length text) refl))
+
+module _ (s out out′ : List ℕ) (n : ℕ) (t : Told s out out′ n) where
+  pub shown : (n ≡ 0 → ⊥) → (n ≤ length out) × (take n out′ ≡ jobText s)
+  shown there = go (ltb 16384 (length (jobWords s))) refl
+    where
+      go : (b : Bool) → ltb 16384 (length (jobWords s)) ≡ b → (n ≤ length out) × (take n out′ ≡ jobText s)
+      go true h = absurd (there (t .short (ltb-true _ _ h)))
+      go false h = printed out out′ (jobText s) n (t .fits (ltb-false _ _ h)) there
