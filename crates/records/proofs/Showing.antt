@@ -1,6 +1,6 @@
 -- A text that was told: it stands at the front of the lent bytes.
 use Prim.Native.Nat.{ℕ, _≤_}
-use mathlib.Core.Path.{_≡_, refl}
+use mathlib.Core.Path.{_≡_, refl, subst}
 use mathlib.Core.Bool.{Bool, true, false}
 use mathlib.Core.List.{List}
 use native.Mathlib.Omega.{arith}
@@ -9,7 +9,9 @@ use lib.Dec.{ltb}
 use lib.ListN.{length, take, drop}
 use lib.Seq.{take-at}
 use Rattle.answer_text.specs.Lines.{Printed}
-use Rattle.records.specs.Told.{jobWords, jobText, Told}
+use Rattle.records.specs.declared.Record.{Record}
+use Rattle.records.specs.declared.Record.the-variants.{Is}
+use Rattle.records.specs.Told.{Within, jobWords, jobText, Told}
 
 printed : (out out′ text : List ℕ) (n : ℕ) → Printed out out′ text n → (n ≡ 0 → ⊥) → (n ≤ length out) × (take n out′ ≡ text)
 printed out out′ text n p there = go (ltb (length out) (length text)) refl
@@ -28,3 +30,7 @@ module _ (s out out′ : List ℕ) (n : ℕ) (t : Told s out out′ n) where
       go : (b : Bool) → ltb 16384 (length (jobWords s)) ≡ b → (n ≤ length out) × (take n out′ ≡ jobText s)
       go true h = absurd (there (t .short (ltb-true _ _ h)))
       go false h = printed out out′ (jobText s) n (t .fits (ltb-false _ _ h)) there
+
+-- a record that was read lies within the lent bytes
+pub within : (job text : List ℕ) (r : Record) (n m : ℕ) → Within job text r → r ≡ Is n m → (n ≤ length job) × (m ≤ length text)
+within job text r n m w e = subst (λ (x : Record). Within job text x) e w
