@@ -2,3 +2,4 @@ pub mod Placing
 pub mod Nexting
 pub mod Going
 pub mod Opening
+pub mod Printed
