@@ -4,7 +4,8 @@
 use std::env;
 use std::path::{Path, PathBuf};
 
-/// Names the folder of the library, where it is another than the repository's.
+/// Names the folder of the library by its whole path, where it is another than
+/// the repository's.
 const VARIABLE: &str = "PARALLEL_MOVES_LIB_DIR";
 const ARCHIVE: &str = "libparallel_moves_c.a";
 

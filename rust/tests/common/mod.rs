@@ -80,7 +80,7 @@ fn compare(what: &str) -> Option<PathBuf> {
 
 /// Jobs that `compare` makes, or `None` if it is not built.
 pub fn generated(seed: u64, count: usize, mode: &str) -> Option<Vec<Vec<u8>>> {
-    let program = compare(&format!("generated jobs, {mode}"))?;
+    let program = compare("generated jobs")?;
     let words = [
         "generate".to_owned(),
         seed.to_string(),
