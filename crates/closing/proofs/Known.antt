@@ -11,26 +11,17 @@ use Rattle.entity.proofs.Laws.{code-there}
 use Rattle.reginfo.specs.RegInfo.{numRegs}
 use Rattle.reginfo.specs.Known.{KnownPlace}
 use Rattle.reginfo.proofs.Accepted.{regs-fit}
-use Rattle.function.specs.Function.{numValues, valueBank, rematClass, rematCost, canRematerialize}
+use Rattle.function.specs.Function.{numValues, valueBank}
 use Rattle.function.specs.Known.{Checked}
 use Rattle.function.specs.Table.{functionOf}
 use Rattle.function.proofs.Laws.{few-values, few-slots}
 use Rattle.rules.specs.Order.{noMove}
 use Rattle.rules.specs.Sorted.{MoveOk, SortedOk}
-use Rattle.machine.proofs.Bound.{Placed, placed}
 use Rattle.entries.specs.Known.{EntriesOk}
 use Rattle.scratch.specs.State.{T, F, PlaceFits}
 use Rattle.visits.specs.Marks.{movesOf}
 use Rattle.visits.proofs.Writers.{ready}
 use Rattle.closing.specs.State.{MovesOk, Given, KeptValue}
-
-pub same-bank : (f : List ℕ) (v : ℕ) → valueBank (F f) v ≡ valueBank (functionOf f) v
-unfolding valueBank
-same-bank f v = refl
-
-pub placed-unlimited : (t f : List ℕ) → Checked t f → Placed (T t) (F f)
-unfolding valueBank rematClass rematCost
-placed-unlimited t f known = let p = placed (T t) (functionOf f) (known .function) in record { bank = p .bank; class = p .class }
 
 low-code : (regs slots : ℕ) (p : Place) → names regs slots p ≡ true → regs ≤ 512 → slots ≤ 4096 → codeOf p < 16384
 low-code regs slots (reg r) h a b = omega (arith, ltb-true r regs h)

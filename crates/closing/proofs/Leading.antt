@@ -31,11 +31,12 @@ use Rattle.scratch.specs.Contracts.{Tables, stateOf, FitsIn, Moved}
 use Rattle.scratch.specs.Diversions.{Diversion, Diverting, countAt, allocAt, scratchAt, diversionAt, divertBy, Noted, Diverts}
 use Rattle.scratch.proofs.Bounds.{fewer}
 use Rattle.scratch.proofs.Agree.{divert-is}
+use Rattle.scratch.proofs.Unlimited.{same-bank}
 use Rattle.visits.specs.Marks.{movesOf, statesOf, isDone, isNoted}
 use Rattle.visits.specs.Carry.{RowsAgree, Counted, CarriedAs}
 use Rattle.closing.specs.State.{Work, Given, KeptValue, Live, Diversions, Stands, Emits}
 use Rattle.closing.specs.Steps.{PaidFor, leadDiverted, Gone, Leads, Led}
-use Rattle.closing.proofs.Known.{same-bank, value-there, kept-low, source-fits}
+use Rattle.closing.proofs.Known.{value-there, kept-low, source-fits}
 use Rattle.closing.proofs.Room.{roomy}
 
 -- only the value carried is put to what the moves carry
