@@ -19,6 +19,7 @@ use Rattle.rules.specs.Order.{noMove}
 use Rattle.rules.specs.Sorted.{MoveOk, SortedOk}
 use Rattle.entries.specs.Known.{EntriesOk}
 use Rattle.scratch.specs.State.{T, F, PlaceFits}
+use Rattle.scratch.specs.Diversions.{countAt, allocAt, scratchAt, OthersStay}
 use Rattle.visits.specs.Marks.{movesOf}
 use Rattle.visits.proofs.Writers.{ready}
 use Rattle.closing.specs.State.{MovesOk, Given, KeptValue}
@@ -56,6 +57,17 @@ module _ (t f e : List ℕ) (ok : MovesOk t f e) where
 
   pub kept-low : (v : ℕ) → KeptValue e v → v < 4096
   kept-low v k = omega (arith, kept-there v k, few-values (T t) (functionOf f) (ok .checked .function))
+
+  -- a value's diversion is noted: another value's cells are not touched
+  pub cells-stay : (d d′ : List ℕ) (v : ℕ) → KeptValue e v → OthersStay v d d′ → (y : ℕ) → KeptValue e y → (y ≡ v → ⊥)
+      → (countAt d′ y ≡ countAt d y) × (allocAt d′ y ≡ allocAt d y) × (scratchAt d′ y ≡ scratchAt d y)
+  cells-stay d d′ v kv others y ky n =
+      let a : y < 4096 = kept-low y ky in
+      let b : v < 4096 = kept-low v kv in (
+        others y n (λ q. omega arith) (λ q. omega arith),
+        others (4096 + y) (λ q. omega arith) (λ q. n (omega arith)) (λ q. omega arith),
+        others (8192 + y) (λ q. omega arith) (λ q. omega arith) (λ q. n (omega arith)),
+      )
 
   pub source-fits : (m code : ℕ) → m < length (movesOf e) → placeAt code ≡ getD (movesOf e) m noMove .source → PlaceFits t code
   source-fits m code h q = place-fits t f (ok .checked) _ code (ok .named m h .source-named) (ok .kept .sources m h .known) q
