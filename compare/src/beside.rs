@@ -161,7 +161,7 @@ struct Counts {
     patches: u64,
     edits: u64,
     /// Jobs by the number that they are refused by, 0 for none.
-    by_refusal: BTreeMap<u32, u64>,
+    by_refusal: BTreeMap<u8, u64>,
 }
 
 impl Counts {

@@ -36,7 +36,7 @@ fn fault() -> &'static str {
 }
 
 /// The words and the refusal of a text.
-fn words_of(text: &str) -> (Vec<u64>, u32) {
+fn words_of(text: &str) -> (Vec<u64>, u8) {
     let mut words = Vec::new();
     let mut refusal = 0;
     for line in text.lines() {
@@ -50,7 +50,7 @@ fn words_of(text: &str) -> (Vec<u64>, u32) {
             ["S", to, from] => edit(3, code(to), code(from), 0),
             ["L", to, from] => edit(4, code(to), code(from), 0),
             ["refused", word] => {
-                refusal = number(word) as u32;
+                refusal = number(word) as u8;
                 continue;
             }
             _ => continue,
@@ -74,7 +74,7 @@ fn edit(kind: u64, to: u64, from: u64, value: u64) -> u64 {
 }
 
 /// Puts the fault in, if the answer is one to have it.
-fn spoil(words: &mut Vec<u64>, refusal: &mut u32) {
+fn spoil(words: &mut Vec<u64>, refusal: &mut u8) {
     match (fault(), *refusal) {
         ("number", 13) => *refusal = 12,
         ("accepted", 8) => *refusal = 0,
@@ -117,7 +117,7 @@ pub unsafe extern "C" fn parallel_moves_answer(
     job_len: usize,
     words: *mut u64,
     words_len: usize,
-    refusal: *mut u32,
+    refusal: *mut u8,
     _target: *mut u16,
     _function: *mut u16,
     _cache: *mut u16,
@@ -154,7 +154,7 @@ pub unsafe extern "C" fn parallel_moves_answer(
 pub unsafe extern "C" fn parallel_moves_text(
     words: *const u64,
     words_len: usize,
-    refusal: u32,
+    refusal: u8,
     text: *mut u8,
     text_len: usize,
 ) -> usize {

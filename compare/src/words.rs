@@ -22,7 +22,7 @@ pub struct Answer {
 ///
 /// This reads the words on its own, so that what ours prints and what ours
 /// gives as words are held to the original apart from each other.
-pub fn answer(words: &[u64], refusal: u32) -> Result<Answer, String> {
+pub fn answer(words: &[u64], refusal: u8) -> Result<Answer, String> {
     let mut text = String::with_capacity(20 * words.len() + 16);
     let mut patches = 0;
     let mut edits = 0;

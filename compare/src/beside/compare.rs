@@ -24,7 +24,7 @@ pub enum Spoiled {
 /// What both say of a job.
 pub struct Outcome {
     /// 0 if the job is accepted.
-    pub refusal: u32,
+    pub refusal: u8,
     pub patches: u64,
     pub edits: u64,
 }
@@ -99,7 +99,7 @@ fn little_room(
     ours: &mut Ours,
     job: &[u8],
     count: usize,
-    refusal: u32,
+    refusal: u8,
     length: usize,
 ) -> Option<String> {
     // The text first: the words of the whole answer are still there.

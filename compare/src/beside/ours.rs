@@ -18,7 +18,7 @@ unsafe extern "C" {
         job_len: usize,
         words: *mut u64,
         words_len: usize,
-        refusal: *mut u32,
+        refusal: *mut u8,
         target: *mut u16,
         function: *mut u16,
         cache: *mut u16,
@@ -38,7 +38,7 @@ unsafe extern "C" {
     fn parallel_moves_text(
         words: *const u64,
         words_len: usize,
-        refusal: u32,
+        refusal: u8,
         text: *mut u8,
         text_len: usize,
     ) -> usize;
@@ -124,9 +124,9 @@ impl Ours {
 
     /// How many words a job's answer has, and the refusal, when it is lent
     /// `room` words, or as many as can be needed.
-    pub fn answer(&mut self, job: &[u8], room: Option<usize>) -> (usize, u32) {
+    pub fn answer(&mut self, job: &[u8], room: Option<usize>) -> (usize, u8) {
         let room = room.unwrap_or(MOST_WORDS).min(MOST_WORDS);
-        let mut refusal = 0x5a5a_5a5a;
+        let mut refusal = 0x5a;
         // SAFETY: each array is as long as the function says, the flags are 0
         // or 1, and none lies on another.
         let count = unsafe {
@@ -162,7 +162,7 @@ impl Ours {
 
     /// The text of the last answer's first `count` words, when it is lent
     /// `room` bytes, or as many as can be needed. `None` if there is no room.
-    pub fn text(&mut self, count: usize, refusal: u32, room: Option<usize>) -> Option<&[u8]> {
+    pub fn text(&mut self, count: usize, refusal: u8, room: Option<usize>) -> Option<&[u8]> {
         let room = room.unwrap_or(MOST_TEXT).min(MOST_TEXT);
         let count = count.min(MOST_WORDS);
         // SAFETY: words and text are as long as the function is told.

@@ -13,7 +13,7 @@ use Rattle.print.specs.Put.{Put}
 use Rattle.print.proofs.Putting.{nothing-put, then-put, same-length}
 use Rattle.answer_text.specs.Heads.{patchWords}
 use Rattle.job.specs.Job.{Done, Answers, endsWith, before, leftOver, patches}
-use Rattle.answer.specs.Words.{wordsOf}
+use Rattle.answer.specs.Words.{wordsOf, Packed, AllPacked}
 use Rattle.answer.specs.declared.Onward.the-variants as O
 use Rattle.answer.specs.declared.Whole.{Whole}
 use Rattle.answer.specs.declared.Whole.the-variants.{Short}
@@ -36,23 +36,28 @@ words-front : (d : Done) (l : List Done) → length (wordsOf (d ∷ l)) ≡ leng
 unfolding wordsOf
 words-front d l = length-append (patchWords (d .edits) (d .made)) (wordsOf l)
 
+packed-append : (l m : List Done) → AllPacked l → AllPacked m → AllPacked (l ++ m)
+packed-append [] m p q = q
+packed-append (d ∷ l) m p q = (p .0, packed-append l m (p .1) q)
+
 -- the answers of the patches so far stand in the words, and the others are still to come
 pub record Going (t f s : List ℕ) (a : Answers) (words₀ cache words : List ℕ) (at n left : ℕ) : Type 0 where
   pub done : List Done
   pub is : a ≡ after done (rest t f s at cache left)
   pub put : Put words₀ words 0 (wordsOf done) n
   pub cached : CacheOk f cache
+  pub packed : AllPacked done
 
 -- the answers end here
-module _ (a : Answers) (words₀ words : List ℕ) (n : ℕ) (l : List Done) (p : Put words₀ words 0 (wordsOf l) n) where
-  all-told : (k : Option ℕ) → a ≡ after l (endsWith k) → Wholly words₀ a (ended k n) words
-  all-told k e =
+module _ (a : Answers) (words₀ words : List ℕ) (n : ℕ) (l : List Done) (p : Put words₀ words 0 (wordsOf l) n) (k : AllPacked l) where
+  all-told : (o : Option ℕ) → a ≡ after l (endsWith o) → Wholly words₀ a (ended o n) words
+  all-told o e =
       let d : a .done ≡ l = ap (λ (x : Answers). x .done) e ∙ append-nil l in
-      let r : a .refusal ≡ k = ap (λ (x : Answers). x .refusal) e in
+      let r : a .refusal ≡ o = ap (λ (x : Answers). x .refusal) e in
       let z : 0 + length (wordsOf l) ≡ length (wordsOf l) = omega arith in
       rw (d, r)
       record {
-        fits = λ h. (ap (ended k) (p .next ∙ z), rw z at (p .stands));
+        fits = λ h. (ap (ended o) (p .next ∙ z), rw z at (p .stands), k);
         short = λ h. absurd (omega (arith, p .room));
       }
 
@@ -74,7 +79,7 @@ none-over (b ∷ l) h = absurd (omega arith)
 module _ (t f s : List ℕ) (a : Answers) (words₀ : List ℕ) where
   pub begun : (cache : List ℕ) (at left : ℕ) → a ≡ rest t f s at cache left → CacheOk f cache → Going t f s a words₀ cache words₀ at 0 left
   unfolding wordsOf
-  begun cache at left e c = record { done = []; is = e; put = nothing-put record { fits = omega arith }; cached = c }
+  begun cache at left e c = record { done = []; is = e; put = nothing-put record { fits = omega arith }; cached = c; packed = tt }
 
   module _ (cache words : List ℕ) (at n left : ℕ) (g : Going t f s a words₀ cache words at n left) where
     pub room : n ≤ length words
@@ -85,12 +90,12 @@ module _ (t f s : List ℕ) (a : Answers) (words₀ : List ℕ) where
 
     pub refused-here : (cache′ words′ : List ℕ) (k : ℕ) → 0 < left → Next t f s at cache cache′ words words′ n (O.Refused k) → Wholly words₀ a (ended (some k) n) words′
     refused-here cache′ words′ k h x =
-        rw (x .1) (all-told a words₀ words n (g .done) (g .put) (some k) (some-left h ∙ ap (after (g .done)) (x .0 (left - 1))))
+        rw (x .1) (all-told a words₀ words n (g .done) (g .put) (g .packed) (some k) (some-left h ∙ ap (after (g .done)) (x .0 (left - 1))))
 
     pub short-here : (cache′ words′ : List ℕ) → 0 < left → Next t f s at cache cache′ words words′ n O.Short → Wholly words₀ a Short words′
     short-here cache′ words′ h x =
         let b = x .1 (left - 1) in
-        no-room a words₀ words n (g .done) (g .put) (x .0) (b .0) (some-left h ∙ ap (after (g .done)) (b .1)) (x .2) words′
+        no-room a words₀ words n (g .done) (g .put) (g .packed) (x .0) (b .0) (some-left h ∙ ap (after (g .done)) (b .1)) (x .2) words′
 
     pub goes-on : (cache′ words′ : List ℕ) (next m : ℕ) → 0 < left → Next t f s at cache cache′ words words′ n (O.At next m) → Going t f s a words₀ cache′ words′ next m (left - 1)
     goes-on cache′ words′ next m h x =
@@ -101,13 +106,14 @@ module _ (t f s : List ℕ) (a : Answers) (words₀ : List ℕ) where
           is = some-left h ∙ ap (after (g .done)) (x .1 (left - 1)) ∙ rw (append-assoc (g .done) (x .0 ∷ []) (rest t f s next cache′ (left - 1) .done));
           put = rw e (then-put (g .put) (x .2));
           cached = x .3;
+          packed = packed-append (g .done) (x .0 ∷ []) (g .packed) (x .5, tt);
         }
 
     ended-here : (k : Option ℕ) → left ≤ 0 → leftOver (drop at s) ≡ endsWith k → Wholly words₀ a (ended k n) words
     unfolding patches
     ended-here k h e =
         let z : left ≡ 0 = omega arith in
-        all-told a words₀ words n (g .done) (g .put) k (g .is ∙ ap (λ (k : ℕ). after (g .done) (rest t f s at cache k)) z ∙ ap (after (g .done)) e)
+        all-told a words₀ words n (g .done) (g .put) (g .packed) k (g .is ∙ ap (λ (k : ℕ). after (g .done) (rest t f s at cache k)) z ∙ ap (after (g .done)) e)
 
     pub left-over : left ≤ 0 → at < length s → Wholly words₀ a (ended (some 8) n) words
     left-over h q = ended-here (some 8) h (over (drop at s) (rw (length-drop at s) (omega arith)))

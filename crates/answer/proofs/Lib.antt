@@ -3,3 +3,4 @@ pub mod Nexting
 pub mod Going
 pub mod Opening
 pub mod Ending
+pub mod Printed

@@ -13,7 +13,7 @@ use Rattle.rules.specs.Edit.{Edit}
 use Rattle.rules.specs.Scratch.{Cache}
 use Rattle.rules.specs.Patch.{Patch, Answer, resolve}
 use Rattle.rules.specs.Patch as rules
-use Rattle.edit.specs.Word.{wordOf}
+use Rattle.edit.specs.Word.{wordOf, AllInRange}
 use Rattle.slots.specs.Stacks.{cacheOf}
 use Rattle.number.specs.Read.{Read, got, refused}
 use Rattle.parallel_moves.specs.Given.{CacheOk}
@@ -24,6 +24,7 @@ use Rattle.job_patch.specs.Patches.{patch}
 use Rattle.job.specs.declared.Step.the-variants.{Edits, Refused}
 use Rattle.job.specs.Job.{Done, Answers, endsWith, before, afterRead, afterCall, patches}
 use Rattle.job.specs.Steps.{CallAt, StepAt}
+use Rattle.answer.specs.Words.{Packed}
 use Rattle.answer.specs.declared.Onward.{Onward}
 use Rattle.answer.specs.declared.Onward.the-variants as O
 use Rattle.answer.specs.Whole.{Fitted, rest, doneWords, Next}
@@ -68,6 +69,7 @@ module _ (t f s : List ℕ) (at : ℕ) (list : List ℕ) (len : length list ≡ 
     pub counted : count ≡ length (done .edits)
     pub listed : take count list′ ≡ map wordOf (done .edits)
     pub within : count ≤ length list′
+    pub ranged : AllInRange (done .edits)
     pub made : cacheOf cache′ .made ≡ done .made
     pub cached : CacheOk f cache′
     pub past : next ≤ length s
@@ -83,6 +85,7 @@ module _ (t f s : List ℕ) (at : ℕ) (list : List ℕ) (len : length list ≡ 
         counted = n;
         listed = rw n (front-words list′ _ es (h .2) (h .1) .are);
         within = rw n (front-fits list′ _ es (h .1));
+        ranged = h .2;
         made = ap (λ (d : Cache). d .made) (h .3);
         cached = h .4;
         past = rw x q;
@@ -100,13 +103,14 @@ module _ (t f s : List ℕ) (at : ℕ) (list : List ℕ) (len : length list ≡ 
       let e : made ≡ g .done .made = m ∙ g .made in
       rw (g .listed, g .counted, e)
 
-  next-fitted : (r : Onward) (count next : ℕ) (g : Resolved count next) (words words′ : List ℕ) (n : ℕ) → Fitted words n (doneWords t f s at cache (g .done)) next r words′ → Next t f s at cache cache′ words words′ n r
-  next-fitted (O.At x m) count next g words words′ n h = (g .done, rw (h .0) (g .goes-on), h .1, g .cached, rw (h .0) (g .past))
-  next-fitted (O.Refused k) count next g words words′ n h = absurd h
-  next-fitted O.Short count next g words words′ n h = (g .done, λ left. (_, g .goes-on left), h .0)
+  next-fitted : (r : Onward) (count next : ℕ) (g : Resolved count next) (words words′ : List ℕ) (n : ℕ) → Packed (g .done) → Fitted words n (doneWords t f s at cache (g .done)) next r words′ → Next t f s at cache cache′ words words′ n r
+  next-fitted (O.At x m) count next g words words′ n k h = (g .done, rw (h .0) (g .goes-on), h .1, g .cached, rw (h .0) (g .past), k)
+  next-fitted (O.Refused j) count next g words words′ n k h = absurd h
+  next-fitted O.Short count next g words words′ n k h = (g .done, λ left. (_, g .goes-on left), h .0)
 
-  pub next-put : (r : Onward) (count next made : ℕ) (words words′ : List ℕ) (n : ℕ) → StepAt t f s (patch T F (drop at s)) (Edits count next) list list′ cache cache′ → made ≡ cacheOf cache′ .made
+  pub next-put : (r : Onward) (count next made : ℕ) (words words′ : List ℕ) (n : ℕ) → length list′ ≡ 1024 → made < 65536 → StepAt t f s (patch T F (drop at s)) (Edits count next) list list′ cache cache′ → made ≡ cacheOf cache′ .made
       → Fitted words n (headWord count made ∷ take count list′) next r words′ → Next t f s at cache cache′ words words′ n r
-  next-put r count next made words words′ n h m z =
+  next-put r count next made words words′ n long small h m z =
       let g = resolved count next h in
-      next-fitted r count next g words words′ n (subst (λ (l : List ℕ). Fitted words n l next r words′) (fitted count next made g m) z)
+      let k : Packed (g .done) = record { ranged = g .ranged; few = omega (arith, g .counted, g .within); small = omega (arith, m, g .made) } in
+      next-fitted r count next g words words′ n k (subst (λ (l : List ℕ). Fitted words n l next r words′) (fitted count next made g m) z)

@@ -33,7 +33,7 @@ header-refused s t f k (got x r) h = absurd (let z : _≡_ {A = ℕ} 0 1 = cc in
 
 none-told : (words : List ℕ) (k : ℕ) → Wholly words (endsWith (some k)) (Refused k 0) words
 unfolding wordsOf
-none-told words k = record { fits = λ h. (refl, refl); short = λ h. absurd (omega arith) }
+none-told words k = record { fits = λ h. (refl, refl, tt); short = λ h. absurd (omega arith) }
 
 pub turned-away : (s t f words : List ℕ) (k : ℕ) → HeaderAt s (opening s) (N.Refused k) t f → Wholly words (job s) (Refused k 0) words
 turned-away s t f words k h = rw (opens s, header-refused s t f k (opening s) h) (none-told words k)

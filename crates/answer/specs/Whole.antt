@@ -11,7 +11,7 @@ use Rattle.parallel_moves.specs.Given.{CacheOk}
 use Rattle.print.specs.Put.{Put}
 use Rattle.answer_text.specs.Heads.{patchWords}
 use Rattle.job.specs.Job.{Done, Answers, endsWith, before, patches}
-use Rattle.answer.specs.Words.{wordsOf}
+use Rattle.answer.specs.Words.{wordsOf, Packed, AllPacked}
 use Rattle.answer.specs.declared.Onward.{Onward}
 use Rattle.answer.specs.declared.Onward.the-variants as O
 use Rattle.answer.specs.declared.Whole.{Whole}
@@ -35,7 +35,7 @@ module _ (t f s : List ℕ) (at : ℕ) (cache : List ℕ) where
   abbrev pub Next : (cache′ words words′ : List ℕ) → ℕ → Onward → Type 0
   Next cache′ words words′ n (O.At next m) =
       (d : Done) × ((left : ℕ) → rest (suc left) ≡ before d (patches (regInfoOf t) (functionOf f) left (cacheOf cache′) (drop next s)))
-      × Put words words′ n (doneWords d) m × CacheOk f cache′ × (next ≤ length s)
+      × Put words words′ n (doneWords d) m × CacheOk f cache′ × (next ≤ length s) × Packed d
   Next cache′ words words′ n (O.Refused k) = ((left : ℕ) → rest (suc left) ≡ endsWith (some k)) × (words′ ≡ words)
   Next cache′ words words′ n O.Short = (d : Done) × ((left : ℕ) → (a : Answers) × (rest (suc left) ≡ before d a)) × (length words < n + length (doneWords d))
 
@@ -48,4 +48,5 @@ ended (some k) n = Refused k n
 pub record Wholly (words : List ℕ) (a : Answers) (r : Whole) (words′ : List ℕ) : Type 0 where
   pub fits : length (wordsOf (a .done)) ≤ length words
       → (r ≡ ended (a .refusal) (length (wordsOf (a .done)))) × (words′ ≡ wordsOf (a .done) ++ drop (length (wordsOf (a .done))) words)
+      × AllPacked (a .done)
   pub short : length words < length (wordsOf (a .done)) → r ≡ Short

@@ -1,8 +1,13 @@
--- A job's answers as words.
-use Prim.Native.Nat.{ℕ}
+-- A job's answers as words, and as text.
+use Prim.Native.Nat.{ℕ, _+_, _<_}
+use mathlib.Core.Path.{_≡_}
 use mathlib.Core.List.{List, [], _∷_, _++_}
 use mathlib.Core.Option.{Option, none, some}
+use lib.ListN.{length}
+use Rattle.edit.specs.Word.{AllInRange}
+use Rattle.print.specs.Text.{patchText}
 use Rattle.answer_text.specs.Heads.{patchWords}
+use Rattle.answer_text.specs.Lines.{refusalText, answerText}
 use Rattle.job.specs.Job.{Done, Answers}
 
 -- patch by patch
@@ -14,3 +19,26 @@ wordsOf (d ∷ l) = patchWords (d .edits) (d .made) ++ wordsOf l
 abbrev pub numberOf : Option ℕ → ℕ
 numberOf none = 0
 numberOf (some k) = k
+
+-- the patches are numbered from k on
+unfoldable pub doneText : ℕ → List Done → List ℕ
+doneText k [] = []
+doneText k (d ∷ l) = patchText k (d .edits) (d .made) ++ doneText (k + 1) l
+
+-- 01, The job: all that is printed of a job
+abbrev pub jobText : Answers → List ℕ
+jobText a = doneText 1 (a .done) ++ refusalText (numberOf (a .refusal))
+
+-- each edit has a word of its own, and the head tells how many edits and slots there are
+pub record Packed (d : Done) : Type 0 where
+  pub ranged : AllInRange (d .edits)
+  pub few : length (d .edits) < 65536
+  pub small : d .made < 65536
+
+abbrev pub AllPacked : List Done → Type 0
+AllPacked [] = Unit {0}
+AllPacked (d ∷ l) = Packed d × AllPacked l
+
+-- then the words print as the job
+abbrev pub JobPrinted : Type 0
+JobPrinted = (a : Answers) → AllPacked (a .done) → answerText (wordsOf (a .done)) (numberOf (a .refusal)) ≡ jobText a

@@ -16,7 +16,7 @@ use Rattle.scratch.specs.State.{T, F}
 use Rattle.visits.specs.Marks.{movesOf, statesOf, isDone, isNoted}
 use Rattle.closing.specs.State.{Work, MovesOk, Given, Stands}
 use Rattle.closing.specs.Steps.{PaidFor, Gone, Leads, Led, LetsGo, Closes}
-use Rattle.closing.proofs.Known.{placed-unlimited}
+use Rattle.scratch.proofs.Unlimited.{all-placed}
 use Rattle.closing.proofs.Room.{unclosed-done}
 
 abbrev marked : Work → List ℕ → Work
@@ -47,7 +47,7 @@ module _ (t f cache e : List ℕ) (m : ℕ) (low : m < length (movesOf e)) (p : 
               room = omega (arith, h .stands .room, unclosed-done (length (movesOf e)) m (p .state) low (h .unclosed));
               fits = h .stands .fits;
             };
-        paid = done-paid (T t) (F f) (ok .checked .target) (placed-unlimited t f (ok .checked)) (movesOf e) (ok .named) m low 1016 p (h .paid);
+        paid = done-paid (T t) (F f) (ok .checked .target) (all-placed t f (ok .checked)) (movesOf e) (ok .named) m low 1016 p (h .paid);
         closed = ap isPending (updated-same m Done (p .state));
       }
 
@@ -55,7 +55,7 @@ module _ (t f cache e : List ℕ) (m : ℕ) (low : m < length (movesOf e)) (p : 
     paid₁ : PaidFor t f cache e 1024 (led .gone .next)
     paid₁ =
         subst (All (Paid (T t) (F f) (movesOf e) 1024)) (led .gone .is)
-        (lead-paid (T t) (F f) (ok .checked .target) (placed-unlimited t f (ok .checked)) (movesOf e) (ok .named) m low 1016 1024 done (leads .paid) (omega arith))
+        (lead-paid (T t) (F f) (ok .checked .target) (all-placed t f (ok .checked)) (movesOf e) (ok .named) m low 1016 1024 done (leads .paid) (omega arith))
 
     -- what it carries is left to let go
     pub lets : LetsGo t f cache e m 0 (countOf (w₁ .carried)) (led .gone .next) k₁ w₁

@@ -14,9 +14,10 @@ use Rattle.rules.specs.Order.{noMove, value, dest}
 use Rattle.scratch.specs.declared.ScratchAllocator.{ScratchAllocator}
 use Rattle.scratch.specs.State.{T, F, PlaceFits, Movable}
 use Rattle.scratch.specs.Contracts.{Tables, Moved}
+use Rattle.scratch.proofs.Unlimited.{same-bank}
 use Rattle.visits.specs.Marks.{movesOf}
 use Rattle.closing.specs.State.{Emits}
-use Rattle.closing.proofs.Known.{same-bank, value-there, value-low, dest-fits}
+use Rattle.closing.proofs.Known.{value-there, value-low, dest-fits}
 
 module _ (t f e : List ℕ) (m b to from v : ℕ) (ok : Emits t f e m from) (ev : v ≡ getD (movesOf e) m noMove .value) (eb : b ≡ valueBank (functionOf f) v) (et : placeAt to ≡ getD (movesOf e) m noMove .dest) where
   pub movable : Movable t f b to from v

@@ -11,26 +11,18 @@ use Rattle.entity.proofs.Laws.{code-there}
 use Rattle.reginfo.specs.RegInfo.{numRegs}
 use Rattle.reginfo.specs.Known.{KnownPlace}
 use Rattle.reginfo.proofs.Accepted.{regs-fit}
-use Rattle.function.specs.Function.{numValues, valueBank, rematClass, rematCost, canRematerialize}
+use Rattle.function.specs.Function.{numValues, valueBank}
 use Rattle.function.specs.Known.{Checked}
 use Rattle.function.specs.Table.{functionOf}
 use Rattle.function.proofs.Laws.{few-values, few-slots}
 use Rattle.rules.specs.Order.{noMove}
 use Rattle.rules.specs.Sorted.{MoveOk, SortedOk}
-use Rattle.machine.proofs.Bound.{Placed, placed}
 use Rattle.entries.specs.Known.{EntriesOk}
 use Rattle.scratch.specs.State.{T, F, PlaceFits}
+use Rattle.scratch.specs.Diversions.{countAt, allocAt, scratchAt, OthersStay}
 use Rattle.visits.specs.Marks.{movesOf}
 use Rattle.visits.proofs.Writers.{ready}
 use Rattle.closing.specs.State.{MovesOk, Given, KeptValue}
-
-pub same-bank : (f : List ℕ) (v : ℕ) → valueBank (F f) v ≡ valueBank (functionOf f) v
-unfolding valueBank
-same-bank f v = refl
-
-pub placed-unlimited : (t f : List ℕ) → Checked t f → Placed (T t) (F f)
-unfolding valueBank rematClass rematCost
-placed-unlimited t f known = let p = placed (T t) (functionOf f) (known .function) in record { bank = p .bank; class = p .class }
 
 low-code : (regs slots : ℕ) (p : Place) → names regs slots p ≡ true → regs ≤ 512 → slots ≤ 4096 → codeOf p < 16384
 low-code regs slots (reg r) h a b = omega (arith, ltb-true r regs h)
@@ -65,6 +57,17 @@ module _ (t f e : List ℕ) (ok : MovesOk t f e) where
 
   pub kept-low : (v : ℕ) → KeptValue e v → v < 4096
   kept-low v k = omega (arith, kept-there v k, few-values (T t) (functionOf f) (ok .checked .function))
+
+  -- a value's diversion is noted: another value's cells are not touched
+  pub cells-stay : (d d′ : List ℕ) (v : ℕ) → KeptValue e v → OthersStay v d d′ → (y : ℕ) → KeptValue e y → (y ≡ v → ⊥)
+      → (countAt d′ y ≡ countAt d y) × (allocAt d′ y ≡ allocAt d y) × (scratchAt d′ y ≡ scratchAt d y)
+  cells-stay d d′ v kv others y ky n =
+      let a : y < 4096 = kept-low y ky in
+      let b : v < 4096 = kept-low v kv in (
+        others y n (λ q. omega arith) (λ q. omega arith),
+        others (4096 + y) (λ q. omega arith) (λ q. n (omega arith)) (λ q. omega arith),
+        others (8192 + y) (λ q. omega arith) (λ q. omega arith) (λ q. n (omega arith)),
+      )
 
   pub source-fits : (m code : ℕ) → m < length (movesOf e) → placeAt code ≡ getD (movesOf e) m noMove .source → PlaceFits t code
   source-fits m code h q = place-fits t f (ok .checked) _ code (ok .named m h .source-named) (ok .kept .sources m h .known) q

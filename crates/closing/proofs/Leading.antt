@@ -31,11 +31,12 @@ use Rattle.scratch.specs.Contracts.{Tables, stateOf, FitsIn, Moved}
 use Rattle.scratch.specs.Diversions.{Diversion, Diverting, countAt, allocAt, scratchAt, diversionAt, divertBy, Noted, Diverts}
 use Rattle.scratch.proofs.Bounds.{fewer}
 use Rattle.scratch.proofs.Agree.{divert-is}
+use Rattle.scratch.proofs.Unlimited.{same-bank}
 use Rattle.visits.specs.Marks.{movesOf, statesOf, isDone, isNoted}
 use Rattle.visits.specs.Carry.{RowsAgree, Counted, CarriedAs}
 use Rattle.closing.specs.State.{Work, Given, KeptValue, Live, Diversions, Stands, Emits}
 use Rattle.closing.specs.Steps.{PaidFor, leadDiverted, Gone, Leads, Led}
-use Rattle.closing.proofs.Known.{same-bank, value-there, kept-low, source-fits}
+use Rattle.closing.proofs.Known.{value-there, kept-low, source-fits, cells-stay}
 use Rattle.closing.proofs.Room.{roomy}
 
 -- only the value carried is put to what the moves carry
@@ -136,15 +137,6 @@ module _ (t f cache e sparse : List ℕ) (given : Given t f e sparse) (m : ℕ) 
     still : (y : ℕ) → isPending (p .state y) ≡ false → p .diverted .values y ≡ carriedBy (w .carried) y → carrying .values y ≡ carriedBy c y
     still y q g = grown .only y q ∙ g ∙ sym (did .still y (rw (← state-is) q))
 
-    cells-stay : (y : ℕ) → KeptValue e y → (y ≡ v → ⊥) → (countAt d y ≡ countAt (w .diverted) y) × (allocAt d y ≡ allocAt (w .diverted) y) × (scratchAt d y ≡ scratchAt (w .diverted) y)
-    cells-stay y ky n =
-        let a : y < 4096 = kept-low t f e (given .moves) y ky in
-        let b : v < 4096 = kept-low t f e (given .moves) v kept in (
-          div .noted .others y n (λ q. omega arith) (λ q. omega arith),
-          div .noted .others (4096 + y) (λ q. omega arith) (λ q. n (omega arith)) (λ q. omega arith),
-          div .noted .others (8192 + y) (λ q. omega arith) (λ q. omega arith) (λ q. n (omega arith)),
-        )
-
     first-fits : PlaceFits t (allocAt d v)
     first-fits =
         rw (div .noted .alloc-is)
@@ -161,7 +153,7 @@ module _ (t f cache e sparse : List ℕ) (given : Given t f e sparse) (m : ℕ) 
       counts-next : (y : ℕ) → KeptValue e y → carrying .refCount y ≡ countAt d y
       counts-next y ky =
           ⊎-elim (λ q. rw q (counted .more ∙ ap (λ (n : ℕ). n + added) (h .stands .diversions .counts v kept) ∙ sym (div .noted .count-is)))
-          (λ n. counted .others y n ∙ h .stands .diversions .counts y ky ∙ sym (cells-stay y ky n .0)) (same? y v)
+          (λ n. counted .others y n ∙ h .stands .diversions .counts y ky ∙ sym (cells-stay t f e (given .moves) (w .diverted) d v kept (div .noted .others) y ky n .0)) (same? y v)
 
       live-next : (y : ℕ) → KeptValue e y → 0 < countAt d y → Live t f cache e next d y
       live-next y ky pos = ⊎-elim (λ q. rw q here) (λ n. there n) (same? y v)
@@ -171,7 +163,7 @@ module _ (t f cache e sparse : List ℕ) (given : Given t f e sparse) (m : ℕ) 
 
           there : (y ≡ v → ⊥) → Live t f cache e next d y
           there n =
-              let s = cells-stay y ky n in
+              let s = cells-stay t f e (given .moves) (w .diverted) d v kept (div .noted .others) y ky n in
               let l = h .stands .diversions .live y ky (rw (s .0) at pos) in
               record { alloc = rw (s .1) (a-there y n ∙ l .alloc); scratch = rw (s .2) (s-there y n ∙ l .scratch); alloc-fits = rw (s .1) (l .alloc-fits); scratch-fits = rw (s .2) (l .scratch-fits) }
 

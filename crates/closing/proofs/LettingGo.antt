@@ -29,11 +29,12 @@ use Rattle.scratch.specs.Contracts.{Tables, stateOf, FitsIn}
 use Rattle.scratch.specs.Diversions.{Diversion, countAt, allocAt, scratchAt, diversionAt, undivertBy, Noted, Undiverts}
 use Rattle.scratch.proofs.Bounds.{fewer}
 use Rattle.scratch.proofs.Agree.{diversionIn, undivert-is}
+use Rattle.scratch.proofs.Unlimited.{same-bank, all-placed, owed-is}
 use Rattle.visits.specs.Marks.{movesOf, isDone}
 use Rattle.closing.specs.State.{Work, MovesOk, KeptValue, Live, Diversions, Stands}
 use Rattle.closing.specs.Steps.{PaidFor, Gone, LetsGo, RowGone}
-use Rattle.closing.proofs.Known.{same-bank, placed-unlimited, kept-there, kept-low}
-use Rattle.closing.proofs.Room.{owed-is, refit}
+use Rattle.closing.proofs.Known.{kept-there, kept-low, cells-stay}
+use Rattle.closing.proofs.Room.{refit}
 
 has-later : (z v : ℕ) (l : List ℕ) → has z l ≡ true → has z (v ∷ l) ≡ true
 unfolding has
@@ -91,7 +92,7 @@ module _ (t f cache e : List ℕ) (ok : MovesOk t f e) (m i n : ℕ) (p : Parall
   copy-room : FitsIn t f cache 0 2 4 k (w .tables)
   copy-room =
       refit t f cache 4 k (w .tables) (h .stands .fits)
-      (omega (arith, h .paid .paid, live-some (T t) (F f) (ok .checked .target) (placed-unlimited t f (ok .checked)) (movesOf e) (ok .named) (p .diverted) v value-named value-lives, ap bound.owed (h .stands .allocator), owed-is t f cache k (w .tables)))
+      (omega (arith, h .paid .paid, live-some (T t) (F f) (ok .checked .target) (all-placed t f (ok .checked)) (movesOf e) (ok .named) (p .diverted) v value-named value-lives, ap bound.owed (h .stands .allocator), owed-is t f cache k (w .tables)))
 
   -- what `undivert` asks
   pub undivertible :
@@ -112,24 +113,14 @@ module _ (t f cache e : List ℕ) (ok : MovesOk t f e) (m i n : ℕ) (p : Parall
 
     after : PaidFor t f cache e 1024 next × (next .diverted .values m ≡ rest)
     after =
-        subst (All (Left (T t) (F f) (ok .checked .target) (placed-unlimited t f (ok .checked)) (movesOf e) (ok .named) m (h .kept) 1024 v rest p carries (h .paid))) undiverts
-        (undivert-paid (T t) (F f) (ok .checked .target) (placed-unlimited t f (ok .checked)) (movesOf e) (ok .named) m (h .kept) 1024 v rest p carries (h .paid))
-
-    -- another value's cells are not touched
-    cells-stay : (y : ℕ) → KeptValue e y → (y ≡ v → ⊥) → (countAt d′ y ≡ countAt (w .diverted) y) × (allocAt d′ y ≡ allocAt (w .diverted) y) × (scratchAt d′ y ≡ scratchAt (w .diverted) y)
-    cells-stay y ky d =
-        let low : y < 4096 = kept-low t f e ok y ky in
-        let vlow : v < 4096 = kept-low t f e ok v kept in (
-          u .noted .others y d (λ q. omega arith) (λ q. omega arith),
-          u .noted .others (4096 + y) (λ q. omega arith) (λ q. d (omega arith)) (λ q. omega arith),
-          u .noted .others (8192 + y) (λ q. omega arith) (λ q. omega arith) (λ q. d (omega arith)),
-        )
+        subst (All (Left (T t) (F f) (ok .checked .target) (all-placed t f (ok .checked)) (movesOf e) (ok .named) m (h .kept) 1024 v rest p carries (h .paid))) undiverts
+        (undivert-paid (T t) (F f) (ok .checked .target) (all-placed t f (ok .checked)) (movesOf e) (ok .named) m (h .kept) 1024 v rest p carries (h .paid))
 
     counts-next : (y : ℕ) → KeptValue e y → next .diverted .refCount y ≡ countAt d′ y
     counts-next y ky =
         updated-at (λ z. z ≡ countAt d′ y) v (pred (p .diverted .refCount v)) (p .diverted .refCount) y
         (λ q. rw q (ap pred (h .stands .diversions .counts v kept) ∙ sym (u .noted .count-is)))
-        (λ d. h .stands .diversions .counts y ky ∙ sym (cells-stay y ky d .0))
+        (λ d. h .stands .diversions .counts y ky ∙ sym (cells-stay t f e ok (w .diverted) d′ v kept (u .noted .others) y ky d .0))
 
     live-next : (y : ℕ) → KeptValue e y → 0 < countAt d′ y → Live t f cache e next d′ y
     live-next y ky pos = ⊎-elim (λ q. rw q same) (λ d. other d) (same? y v)
@@ -139,7 +130,7 @@ module _ (t f cache e : List ℕ) (ok : MovesOk t f e) (m i n : ℕ) (p : Parall
 
         other : (y ≡ v → ⊥) → Live t f cache e next d′ y
         other d =
-            let s = cells-stay y ky d in
+            let s = cells-stay t f e ok (w .diverted) d′ v kept (u .noted .others) y ky d in
             let l = h .stands .diversions .live y ky (rw (s .0) at pos) in
             record { alloc = rw (s .1) (l .alloc); scratch = rw (s .2) (l .scratch); alloc-fits = rw (s .1) (l .alloc-fits); scratch-fits = rw (s .2) (l .scratch-fits) }
 

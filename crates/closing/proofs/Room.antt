@@ -12,32 +12,23 @@ use Rattle.rules.proofs.Steps.{updated-same, updated-other}
 use Rattle.rules.proofs.Sum.{bit, bit-yes, sum, sum-change}
 use Rattle.machine.proofs.Bound as bound
 use Rattle.edit.specs.Buffer.{countOf}
-use Rattle.edit.proofs.Laws.{length-edits}
 use Rattle.scratch.proofs.Bounds as bounds
-use Rattle.scratch.specs.declared.Evicted.{Evicted}
-use Rattle.scratch.specs.declared.Evicted.the-variants.{Nothing, Held}
+use Rattle.scratch.proofs.Unlimited.{owed-is}
 use Rattle.scratch.specs.declared.ScratchAllocator.{ScratchAllocator}
-use Rattle.scratch.specs.State.{T, F, evictedOf, owed, Fits}
+use Rattle.scratch.specs.State.{T, F, owed, Fits}
 use Rattle.scratch.specs.Contracts.{Tables, stateOf, FitsIn}
 use Rattle.visits.specs.Marks.{movesOf, isDone}
 use Rattle.closing.specs.State.{Work, Stands, unclosed}
 use Rattle.closing.specs.Steps.{PaidFor}
 
-length-evicted : (v : Evicted) → length (evictedOf v) ≡ owed v
-length-evicted Nothing = refl
-length-evicted (Held r s z) = refl
-
 module _ (t f cache : List ℕ) where
-  pub owed-is : (k : ScratchAllocator) (w : Tables) → bound.owed (stateOf t f cache k w) ≡ countOf (w .edits) + owed (k .evicted)
-  owed-is k w = omega (arith, length-edits (w .edits), length-evicted (k .evicted))
-
   -- the same tables, with room for n edits
   pub refit : {a b m : ℕ} (n : ℕ) (k : ScratchAllocator) (w : Tables) → FitsIn t f cache a b m k w → countOf (w .edits) + owed (k .evicted) + n ≤ 1024 → FitsIn t f cache a b n k w
   refit n k w h few = bounds.refit n few h
 
   -- what is paid for leaves room
   pub roomy : (e : List ℕ) (rows a n : ℕ) (p : ParallelMoves) (k : ScratchAllocator) (w : Work) → Stands t f cache e rows p k w → PaidFor t f cache e a p → a + n ≤ 1024 → FitsIn t f cache 0 2 n k (w .tables)
-  roomy e rows a n p k w s paid h = refit n k (w .tables) (s .fits) (omega (arith, paid .paid, ap bound.owed (s .allocator), owed-is k (w .tables)))
+  roomy e rows a n p k w s paid h = refit n k (w .tables) (s .fits) (omega (arith, paid .paid, ap bound.owed (s .allocator), owed-is t f cache k (w .tables)))
 
 open-bit : (s : State) → isDone s ≡ false → bit (no (isDone s)) ≡ 1
 unfolding bit

@@ -129,7 +129,7 @@ unfolding editsOf
 length-edits t = length-map (wordsOf t) (λ w. orEdit (editOf w)) ∙ length-newest t (countOf t)
 
 -- ---- whatever the words, the edits that they are read as have words
-abbrev Fits : Option Edit → Type 0
+abbrev pub Fits : Option Edit → Type 0
 Fits o = InRange (orEdit o)
 
 either : (b : Bool) (x y : Option Edit) → Fits x → Fits y → Fits (pick b x y)
@@ -142,7 +142,7 @@ small-parts w = record { to-small = omega arith; from-small = omega arith; value
 halved : (x : ℕ) → x < 16384 → x / 2 < 8192
 halved x h = omega arith
 
-in-range : (w : ℕ) → Fits (editOf w)
+pub in-range : (w : ℕ) → Fits (editOf w)
 unfolding editOf
 in-range w =
     let s = small-parts w in

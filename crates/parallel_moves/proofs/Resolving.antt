@@ -35,7 +35,8 @@ use Rattle.scratch.specs.Contracts.{Tables, stateOf}
 use Rattle.scratch.proofs.Bounds.{stocked}
 use Rattle.entries.specs.Table.{sortedOf}
 use Rattle.entries.specs.Known.{EntriesOk}
-use Rattle.rebuilds.proofs.Known.{same-ok, all-placed}
+use Rattle.scratch.proofs.Unlimited.{all-placed}
+use Rattle.rebuilds.proofs.Known.{same-ok}
 use Rattle.closing.proofs.Known.{given}
 use Rattle.parallel_moves.specs.declared.Resolved as R
 use Rattle.parallel_moves.specs.declared.Resolved.{Resolved}

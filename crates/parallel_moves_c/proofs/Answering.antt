@@ -13,14 +13,14 @@ module _ (words : List ℕ) (a : Answers) (words′ : List ℕ) where
   pub answered : (n : ℕ) → Wholly words a (Answered n) words′ → AnsweredAs words a n 0 words′
   answered n w =
       record {
-        fits = λ h. let e = none-refused n _ (a .refusal) (w .fits h .0) in (e .0, e .1, w .fits h .1);
+        fits = λ h. let e = none-refused n _ (a .refusal) (w .fits h .0) in (e .0, e .1, w .fits h .1, w .fits h .2);
         short = λ h. let e : Answered n ≡ Short = w .short h in absurd (let z : _≡_ {A = ℕ} 0 1 = cc in omega arith);
       }
 
   pub refused : (k n : ℕ) → Wholly words a (Refused k n) words′ → AnsweredAs words a n k words′
   refused k n w =
       record {
-        fits = λ h. let e = one-refused k n _ (a .refusal) (w .fits h .0) in (e .0, e .1, w .fits h .1);
+        fits = λ h. let e = one-refused k n _ (a .refusal) (w .fits h .0) in (e .0, e .1, w .fits h .1, w .fits h .2);
         short = λ h. let e : Refused k n ≡ Short = w .short h in absurd (let z : _≡_ {A = ℕ} 0 1 = cc in omega arith);
       }
 

@@ -1,16 +1,13 @@
 -- How long the text is.
-use Prim.Native.Nat.{ℕ, _+_, _*_, _/_, _<_, _≤_}
-use mathlib.Core.Bool.{Bool, true, false}
+use Prim.Native.Nat.{ℕ, _+_, _*_, _<_, _≤_}
 use mathlib.Core.List.{List, [], _∷_}
 use mathlib.Core.Option.{Option, some, none}
 use native.Mathlib.Omega.{arith}
-use lib.Dec.{eqb}
 use lib.ListN.{length, length-append}
-use Rattle.entity.specs.Logic.{pick, and}
-use Rattle.entity.specs.Place.{Place, reg, slot, codeOf, placeAt}
+use Rattle.entity.specs.Place.{Place, reg, slot, codeOf}
 use Rattle.rules.specs.Edit.{Edit, Move, Rematerialize, EmergencySpill, EmergencyReload}
-use Rattle.edit.specs.Word.{kindIn, toIn, fromIn, valueIn, isReg, isSlot, editOf, InRange, AllInRange}
-use Rattle.edit.proofs.Laws.{move-range, remat-range}
+use Rattle.edit.specs.Word.{editOf, InRange, AllInRange}
+use Rattle.edit.proofs.Laws.{Fits, in-range}
 use Rattle.print.specs.Text.{decimal, placeText, newline, spaced, editLine, editLines, editsWord, madeWord, patchLine, patchText, refusedLine}
 use Rattle.print.specs.Words.{lineOf, wordLine, wordLines, wordsText}
 use Rattle.print.proofs.Decimal.{short}
@@ -57,19 +54,12 @@ pub text-short : (k : ℕ) (es : List Edit) (made : ℕ) → k < 4294967296 → 
 text-short k es made a b c r = rw (length-append (patchLine k (length es) made) (editLines es)) (omega (arith, patch-line-short k (length es) made a b c, lines-short es r))
 
 -- ---- so it is of any words
-either-short : (b : Bool) (x y : Option Edit) → length (lineOf x) ≤ 19 → length (lineOf y) ≤ 19 → length (lineOf (pick b x y)) ≤ 19
-either-short true x y p q = p
-either-short false x y p q = q
+line-short : (o : Option Edit) → Fits o → length (lineOf o) ≤ 19
+line-short (some e) r = edit-short e r
+line-short none r = omega arith
 
 pub word-short : (w : ℕ) → length (wordLine w) ≤ 19
-unfolding editOf
-word-short w =
-    let save : InRange (EmergencySpill (toIn w / 2) (fromIn w / 2)) = record { to-small = omega arith; from-small = omega arith; value-small = omega arith } in
-    let reload : InRange (EmergencyReload (toIn w / 2) (fromIn w / 2)) = record { to-small = omega arith; from-small = omega arith; value-small = omega arith } in
-    either-short (eqb (kindIn w) 1) _ _ (edit-short (Move (placeAt (toIn w)) (placeAt (fromIn w)) (valueIn w)) (move-range (toIn w) (fromIn w) (valueIn w) record { to-small = omega arith; from-small = omega arith; value-small = omega arith }))
-    (either-short (eqb (kindIn w) 2) _ _ (edit-short (Rematerialize (placeAt (toIn w)) (valueIn w)) (remat-range (toIn w) (valueIn w) record { to-small = omega arith; from-small = omega arith; value-small = omega arith }))
-    (either-short (and (eqb (kindIn w) 3) (and (isSlot (toIn w)) (isReg (fromIn w)))) _ _ (edit-short (EmergencySpill (toIn w / 2) (fromIn w / 2)) save)
-    (either-short (and (eqb (kindIn w) 4) (and (isReg (toIn w)) (isSlot (fromIn w)))) (some (EmergencyReload (toIn w / 2) (fromIn w / 2))) none (edit-short (EmergencyReload (toIn w / 2) (fromIn w / 2)) reload) (omega arith))))
+word-short w = line-short (editOf w) (in-range w)
 
 pub word-lines-short : (l : List ℕ) → length (wordLines l) ≤ 19 * length l
 unfolding wordLines

@@ -17,7 +17,6 @@ use Rattle.function.proofs.Laws.{known-value, few-values, cost-there, class-the
 use Rattle.rules.specs.Order.{Remat}
 use Rattle.rules.specs.Patch.{namesPlace}
 use Rattle.rules.specs.Sorted.{RematOk}
-use Rattle.machine.proofs.Bound.{Placed, placed}
 use Rattle.scratch.specs.State.{T, F, PlaceFits}
 use Rattle.entries.specs.Known.{EntriesOk}
 use Rattle.entries.specs.Table.{rebuiltAs}
@@ -38,15 +37,7 @@ read-fits t r to e h = record { known = rw e (h .known); small = omega (arith, h
 pub read-ok : (t f : List ℕ) (direct : Bool) (r : Remat) (to v : ℕ) → placeAt to ≡ r .dest → v ≡ r .value → RematOk (T t) (functionOf f) direct r → RematOk (T t) (functionOf f) direct (rebuiltAs to v)
 read-ok t f direct r to v d u ok = rw (d, u) ok
 
-pub same-class : (f : List ℕ) (v : ℕ) → rematClass (F f) v ≡ rematClass (functionOf f) v
-unfolding rematClass
-same-class f v = refl
-
 module _ (t f : List ℕ) (known : Checked t f) where
-  pub all-placed : Placed (T t) (F f)
-  unfolding valueBank rematCost rematClass
-  all-placed = let p = placed (T t) (functionOf f) (known .function) in record { bank = p .bank; class = p .class }
-
   small-code : (p : Place) → namesPlace (T t) (functionOf f) p ≡ true → codeOf p < 16384
   small-code (reg r) h = omega (arith, ltb-true r (numRegs (T t)) h, few-regs t f known)
   small-code (slot s) h = omega (arith, ltb-true s (functionOf f .slots) h, slots-fit t f known)

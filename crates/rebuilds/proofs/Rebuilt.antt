@@ -21,26 +21,16 @@ use Rattle.machine.proofs.Bound as bound
 use Rattle.edit.specs.Buffer.{newestFirst, countOf, wordsOf, orEdit, editsOf, Written}
 use Rattle.edit.specs.Word.{editOf}
 use Rattle.search.specs.Search.{barredBy}
-use Rattle.scratch.specs.declared.Evicted.{Evicted}
-use Rattle.scratch.specs.declared.Evicted.the-variants.{Nothing, Held}
 use Rattle.scratch.specs.declared.ScratchAllocator.{ScratchAllocator}
 use Rattle.scratch.specs.declared.Scratch.{Scratch}
-use Rattle.scratch.specs.State.{T, F, evictedOf, allocatorOf, Fits, owed}
+use Rattle.scratch.specs.State.{T, F, allocatorOf, Fits, owed}
 use Rattle.scratch.specs.Contracts.{Tables, tables, stateOf, FitsIn, Brought, Found, Moved, Released}
-use Rattle.edit.proofs.Laws.{length-edits}
 use Rattle.scratch.proofs.Bounds.{fewer, refit, pushed}
+use Rattle.scratch.proofs.Unlimited.{same-class, all-placed, owed-is}
 use Rattle.entries.specs.Table.{rebuiltAs}
 use Rattle.visits.specs.Marks.{noRebuild}
 use Rattle.rebuilds.specs.Rebuilds.{throughScratch, Through, Rebuilt}
-use Rattle.rebuilds.proofs.Known.{same-ok, same-class, all-placed}
-
-one-owed : (v : Evicted) → length (evictedOf v) ≡ owed v
-one-owed Nothing = refl
-one-owed (Held r s z) = refl
-
--- what is made and owed is counted alike
-pub owed-is : (t f cache : List ℕ) (k : ScratchAllocator) (w : Tables) → bound.owed (stateOf t f cache k w) ≡ countOf (w .edits) + owed (k .evicted)
-owed-is t f cache k w = omega (arith, length-edits (w .edits), one-owed (k .evicted))
+use Rattle.rebuilds.proofs.Known.{same-ok}
 
 module _ (t f cache : List ℕ) where
   -- the room after the move and the rebuild

@@ -11,7 +11,7 @@ use lib.Seq.{take-at}
 use Rattle.answer_text.specs.Lines.{Printed}
 use Rattle.records.specs.declared.Record.{Record}
 use Rattle.records.specs.declared.Record.the-variants.{Is}
-use Rattle.records.specs.Told.{Within, jobWords, jobText, Told}
+use Rattle.records.specs.Told.{Within, jobWords, textOf, Told}
 
 printed : (out out′ text : List ℕ) (n : ℕ) → Printed out out′ text n → (n ≡ 0 → ⊥) → (n ≤ length out) × (take n out′ ≡ text)
 printed out out′ text n p there = go (ltb (length out) (length text)) refl
@@ -24,12 +24,12 @@ printed out out′ text n p there = go (ltb (length out) (length text)) refl
         (omega (arith, few, f .0), rw (f .1, f .0) (take-at text (drop (length text) out) (length text) refl))
 
 module _ (s out out′ : List ℕ) (n : ℕ) (t : Told s out out′ n) where
-  pub shown : (n ≡ 0 → ⊥) → (n ≤ length out) × (take n out′ ≡ jobText s)
+  pub shown : (n ≡ 0 → ⊥) → (n ≤ length out) × (take n out′ ≡ textOf s)
   shown there = go (ltb 16384 (length (jobWords s))) refl
     where
-      go : (b : Bool) → ltb 16384 (length (jobWords s)) ≡ b → (n ≤ length out) × (take n out′ ≡ jobText s)
+      go : (b : Bool) → ltb 16384 (length (jobWords s)) ≡ b → (n ≤ length out) × (take n out′ ≡ textOf s)
       go true h = absurd (there (t .short (ltb-true _ _ h)))
-      go false h = printed out out′ (jobText s) n (t .fits (ltb-false _ _ h)) there
+      go false h = printed out out′ (textOf s) n (t .fits (ltb-false _ _ h)) there
 
 -- a record that was read lies within the lent bytes
 pub within : (job text : List ℕ) (r : Record) (n m : ℕ) → Within job text r → r ≡ Is n m → (n ≤ length job) × (m ≤ length text)

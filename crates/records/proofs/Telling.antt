@@ -11,12 +11,13 @@ use lib.ListN.{length, take, drop, length-append}
 use lib.Seq.{take-at}
 use Rattle.job.specs.Job.{job}
 use Rattle.answer_text.specs.Lines.{answerText, Printed}
-use Rattle.answer.specs.Words.{numberOf}
+use Rattle.answer.specs.Words.{numberOf, AllPacked}
 use Rattle.answer.specs.declared.Whole.{Whole}
 use Rattle.answer.specs.declared.Whole.the-variants.{Answered, Refused, Short}
 use Rattle.answer.specs.Whole.{ended, Wholly}
 use Rattle.answer.proofs.Ending.{none-refused, one-refused, no-short}
-use Rattle.records.specs.Told.{jobWords, jobText, Told}
+use Rattle.answer.proofs.Printed.{job-printed}
+use Rattle.records.specs.Told.{jobWords, textOf, Told}
 
 module _ (s words words′ : List ℕ) where
   -- the words of an answer that fit are the first n, and the number is that of its refusal
@@ -25,6 +26,7 @@ module _ (s words words′ : List ℕ) where
     pub count : n ≡ length (jobWords s)
     pub number-is : number ≡ numberOf (job s .refusal)
     pub words-are : words′ ≡ jobWords s ++ drop (length (jobWords s)) words
+    pub packed : AllPacked (job s .done)
 
   counted : (n number : ℕ) (r : Whole) → ((m : ℕ) (o : Option ℕ) → r ≡ ended o m → (n ≡ m) × (number ≡ numberOf o)) → (r ≡ Short → ⊥)
       → Wholly words (job s) r words′ → Counted n number
@@ -35,7 +37,7 @@ module _ (s words words′ : List ℕ) where
       go false h =
           let f = w .fits (ltb-false (length words) (length (jobWords s)) h) in
           let e = known (length (jobWords s)) (job s .refusal) (f .0) in
-          record { few = ltb-false _ _ h; count = e .0; number-is = e .1; words-are = f .1 }
+          record { few = ltb-false _ _ h; count = e .0; number-is = e .1; words-are = f .1; packed = f .2 }
 
   pub answered : (n : ℕ) → Wholly words (job s) (Answered n) words′ → Counted n 0
   answered n = counted n 0 (Answered n) (none-refused n) (λ e. let z : _≡_ {A = ℕ} 0 1 = cc in omega arith)
@@ -56,5 +58,5 @@ module _ (s words words′ : List ℕ) where
     pub told : length words ≡ 16384 → (out out′ : List ℕ) (r : ℕ) → Printed out out′ (answerText (take n words′) number) r
         → Told s out out′ r
     told l out out′ r p =
-        let text : answerText (take n words′) number ≡ jobText s = rw (front, c .number-is) refl in
+        let text : answerText (take n words′) number ≡ textOf s = rw (front, c .number-is) (job-printed (job s) (c .packed)) in
         record { fits = λ h. subst (λ (x : List ℕ). Printed out out′ x r) text p; short = λ h. absurd (omega (arith, c .few)) }

@@ -4,8 +4,8 @@ use mathlib.Core.Path.{_≡_}
 use mathlib.Core.List.{List}
 use lib.ListN.{length}
 use Rattle.job.specs.Job.{job}
-use Rattle.answer_text.specs.Lines.{answerText, Printed}
-use Rattle.answer.specs.Words.{wordsOf, numberOf}
+use Rattle.answer_text.specs.Lines.{Printed}
+use Rattle.answer.specs.Words.{wordsOf, jobText}
 use Rattle.records.specs.declared.Record.{Record}
 use Rattle.records.specs.declared.Record.the-variants.{Is, End, Cut}
 
@@ -19,11 +19,11 @@ Within job text Cut = Unit {0}
 abbrev pub jobWords : List ℕ → List ℕ
 jobWords s = wordsOf (job s .done)
 
--- the text of a job's answer
-abbrev pub jobText : List ℕ → List ℕ
-jobText s = answerText (jobWords s) (numberOf (job s .refusal))
+-- all that 01 prints of a job
+abbrev pub textOf : List ℕ → List ℕ
+textOf s = jobText (job s)
 
 -- the text is printed; or its words are too many, and 0 is answered
 pub record Told (s out out′ : List ℕ) (r : ℕ) : Type 0 where
-  pub fits : length (jobWords s) ≤ 16384 → Printed out out′ (jobText s) r
+  pub fits : length (jobWords s) ≤ 16384 → Printed out out′ (textOf s) r
   pub short : 16384 < length (jobWords s) → r ≡ 0

@@ -6,7 +6,7 @@ use mathlib.Core.List.{List}
 use native.Mathlib.Omega.{arith}
 use lib.ListN.{length, take}
 use Rattle.records.specs.Bytes.{sameList}
-use Rattle.records.specs.Told.{jobText, Told}
+use Rattle.records.specs.Told.{textOf, Told}
 use Rattle.records.proofs.Comparing.{same-exactly}
 use Rattle.records.proofs.Showing.{shown}
 use Rattle.replay.specs.Replayed.{Replayed}
@@ -18,15 +18,15 @@ module _ (s text out out′ : List ℕ) (n : ℕ) (t : Told s out out′ n) wher
         same = λ e. absurd (false≢true e);
         all =
             λ e. λ some. λ few. λ words.
-            let long : length text ≡ length (jobText s) = ap length e in
+            let long : length text ≡ length (textOf s) = ap length e in
             absurd (omega (arith, some, long, z, t .fits words .fits (omega (arith, few, long, l)) .0));
       }
 
   pub compared : (n ≡ 0 → ⊥) → (r : Bool) → r ≡ sameList text (take n out′) → Replayed s text r
   compared there r h =
-      let front : take n out′ ≡ jobText s = shown s out out′ n t there .1 in
-      let same : r ≡ sameList text (jobText s) = h ∙ rw front refl in
+      let front : take n out′ ≡ textOf s = shown s out out′ n t there .1 in
+      let same : r ≡ sameList text (textOf s) = h ∙ rw front refl in
       record {
-        same = λ e. same-exactly text (jobText s) .0 (sym same ∙ e);
-        all = λ e. λ some. λ few. λ words. same ∙ same-exactly text (jobText s) .1 e;
+        same = λ e. same-exactly text (textOf s) .0 (sym same ∙ e);
+        all = λ e. λ some. λ few. λ words. same ∙ same-exactly text (textOf s) .1 e;
       }

@@ -3,3 +3,4 @@ pub mod Steps
 pub mod Outcomes
 pub mod Diversions
 pub mod Agree
+pub mod Unlimited

@@ -25,6 +25,7 @@ use Rattle.scratch.specs.State.{T, F, Stacked, PlaceFits, allocatorOf}
 use Rattle.scratch.specs.Contracts.{Tables, tables, stateOf, FitsIn, Brought, Found, Moved, Released}
 use Rattle.scratch.specs.Diversions.{Diversion, Diverting, countAt, allocAt, scratchAt, diversionAt, divertBy, Diverts, Undiverts}
 use Rattle.scratch.proofs.Bounds.{fewer}
+use Rattle.scratch.proofs.Unlimited.{same-bank}
 use Rattle.scratch_trials.specs.Steps.{Started, Ends, slotToSlot, slotsSwapped, rebuilt}
 
 pub never : {A : Type 0} → false ≡ true → A
@@ -64,16 +65,12 @@ cells (some x) g n s p k q e =
     (sym (ap (λ d. d .diversion .refCount) z), sym (ap (λ d. d .diversion .alloc) z), sym (ap (λ d. d .diversion .scratch) z) ∙ ap (λ d. d .place) z)
 
 module _ (t f cache : List ℕ) where
-  same-bank : (v : ℕ) → valueBank (F f) v ≡ valueBank (functionOf f) v
-  unfolding valueBank
-  same-bank v = refl
-
   pub moved-and-brought : (b v : ℕ) (to from : Place) (k k₁ k₂ : ScratchAllocator) (w w₁ w₂ : Tables) → b ≡ valueBank (functionOf f) v → FitsIn t f cache 0 1 4 k w → Moved t f cache k w k₁ w₁ (rules.doMove (T t) (F f) b to from v) → Brought t f cache k₁ w₁ k₂ w₂ (rules.unevictAll (T t) (F f))
       → Ends t f cache (slotToSlot (T t) (F f) to from v) k w k₂ w₂
   unfolding slotToSlot andThen
   moved-and-brought b v to from k k₁ k₂ w w₁ w₂ e h m a =
       record {
-        is = rw (same-bank v, ← e, m .is) (ap some (sym (a .is)));
+        is = rw (same-bank f v, ← e, m .is) (ap some (sym (a .is)));
         few = omega (arith, a .fits 0 0 0 (fewer (omega arith) (omega arith) (omega arith) (m .fits 0 0 0 h)) .few);
       }
 
@@ -96,7 +93,7 @@ module _ (t f cache : List ℕ) where
         → Ends t f cache (slotsSwapped (T t) (F f) barred (placeAt p) (placeAt q) v w (diversionAt d w)) k x k₄ x₅
     unfolding slotsSwapped andThen
     swapped c d₂ k₁ k₂ k₃ k₄ x₂ x₃ x₄ x₅ eb ec first then last all few =
-        record { is = rw (same-bank w, same-bank v, ← eb, ← ec, div .is, first .is, then .is, last .is) (ap some (sym (all .is))); few = few }
+        record { is = rw (same-bank f w, same-bank f v, ← eb, ← ec, div .is, first .is, then .is, last .is) (ap some (sym (all .is))); few = few }
 
   pub through-rebuilt : (b v c : ℕ) (barred : ℕ → Bool) (to : Place) (k k₁ k₂ k₃ k₄ k₅ : ScratchAllocator) (w w₁ : Tables) (r : Scratch) (w₂ w₃ : Tables) (e : List ℕ) (w₄ : Tables) (l : List Bool) (w₅ : Tables) → b ≡ valueBank (functionOf f) v
       → Brought t f cache k w k₁ w₁ (rules.unevictForReg (T t) (F f) to) → Found t f cache k₁ w₁ r w₂ (rules.getScratchReg (T t) (F f) b c barred) → Moved t f cache (r .allocator) w₂ k₂ w₃ (rules.moveEdits (T t) (F f) b to (placeAt (r .place .0)) v)
@@ -108,4 +105,4 @@ module _ (t f cache : List ℕ) where
       let made : stateOf t f cache k₂ (tables e (w₃ .available) (w₃ .slots)) ≡ rules.push (Rematerialize (placeAt (r .place .0)) v) (stateOf t f cache k₂ w₃) = rw pushed in
       let done : stateOf t f cache k₅ w₅ ≡ rules.unevictAll (T t) (F f) (rules.makeAvailable (T t) (F f) to (rules.releasePlace (T t) (F f) (spillslotSize (T t) b) (placeAt (r .place .0)) (rules.push (Rematerialize (placeAt (r .place .0)) v) (stateOf t f cache k₂ w₃)))) =
       all .is ∙ ap (rules.unevictAll (T t) (F f)) (marked ∙ ap (rules.makeAvailable (T t) (F f) to) (released .is ∙ ap (rules.releasePlace (T t) (F f) (spillslotSize (T t) b) (placeAt (r .place .0))) made)) in
-      record { is = rw (same-bank v, ← eb, ← before .is, found .is, moved .is) (ap some (sym done)); few = few }
+      record { is = rw (same-bank f v, ← eb, ← before .is, found .is, moved .is) (ap some (sym done)); few = few }

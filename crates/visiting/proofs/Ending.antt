@@ -24,8 +24,7 @@ use Rattle.scratch.proofs.Bounds.{fewer}
 use Rattle.visits.specs.Marks.{movesOf, statesOf, allNew, isDone, isNoted}
 use Rattle.closing.specs.State.{Work, MovesOk, unclosed, Stands}
 use Rattle.closing.specs.Steps.{PaidFor, Gone}
-use Rattle.closing.proofs.Known.{placed-unlimited}
-use Rattle.closing.proofs.Room.{owed-is}
+use Rattle.scratch.proofs.Unlimited.{all-placed, owed-is}
 use Rattle.visiting.specs.Steps.{Visits, Passed, Moves}
 use Rattle.visiting.proofs.Opened.{paid-more}
 use Rattle.visiting.proofs.Visited.{visitFor}
@@ -69,7 +68,7 @@ module _ (t f cache e : List ℕ) (ok : MovesOk t f e) (k : ScratchAllocator) (w
 
     start-paid : PaidFor t f cache e 1024 p₀
     start-paid =
-        let q = bound.start-paid (T t) (F f) (ok .checked .target) (placed-unlimited t f (ok .checked)) (movesOf e) (ok .named) (stateOf t f cache k (w .tables)) in
+        let q = bound.start-paid (T t) (F f) (ok .checked .target) (all-placed t f (ok .checked)) (movesOf e) (ok .named) (stateOf t f cache k (w .tables)) in
         paid-more t f cache e (bound.owed (stateOf t f cache k (w .tables)) + 8 * n) 1024 p₀ (omega (arith, room .few, owed-is t f cache k (w .tables))) q
 
     pub start-visits : Visits t f cache e p₀ k w

@@ -17,7 +17,7 @@ use Rattle.scratch.specs.State.{T, F}
 use Rattle.visits.specs.Marks.{movesOf, statesOf, isDone, isNoted}
 use Rattle.closing.specs.State.{Work, MovesOk, unclosed, Stands}
 use Rattle.closing.specs.Steps.{PaidFor}
-use Rattle.closing.proofs.Known.{placed-unlimited}
+use Rattle.scratch.proofs.Unlimited.{all-placed}
 use Rattle.visiting.specs.Steps.{Visits}
 
 abbrev pub withMarks : List ℕ → Work → Work
@@ -50,7 +50,7 @@ module _ (t f cache e : List ℕ) (ok : MovesOk t f e) (m : ℕ) (low : m < leng
   -- its 8 edits are left for it
   pub opened-paid : PaidFor t f cache e 1016 (withState m Pending p)
   opened-paid =
-      record { paid = omega (arith, v .paid .paid, opened (T t) (F f) (ok .checked .target) (placed-unlimited t f (ok .checked)) (movesOf e) (ok .named) m low p new-here); counted = v .paid .counted }
+      record { paid = omega (arith, v .paid .paid, opened (T t) (F f) (ok .checked .target) (all-placed t f (ok .checked)) (movesOf e) (ok .named) m low p new-here); counted = v .paid .counted }
 
   pub opened-news : news (length (movesOf e)) (p .state) ≡ suc (news (length (movesOf e)) (withState m Pending p .state))
   opened-news = news-open (length (movesOf e)) m (p .state) low new-here

@@ -19,7 +19,7 @@ use Rattle.scratch.specs.State.{T, F}
 use Rattle.visits.specs.Marks.{movesOf, statesOf}
 use Rattle.closing.specs.State.{Work, MovesOk}
 use Rattle.closing.specs.Steps.{PaidFor}
-use Rattle.closing.proofs.Known.{placed-unlimited}
+use Rattle.scratch.proofs.Unlimited.{all-placed}
 use Rattle.visiting.specs.Steps.{Visits, Visited, Passed}
 use Rattle.visiting.proofs.Visited.{visitFor, old-skips, visited-already, visit-paid-here}
 
@@ -60,7 +60,7 @@ module _ (t f cache e : List ℕ) where
 
   module _ (ok : MovesOk t f e) where
     pub first-paid-here : (m : ℕ) (p : ParallelMoves) → m < n → PaidFor t f cache e 1024 p → All (PaidFor t f cache e 1024) (firstFor m p)
-    first-paid-here m p l q = first-paid (T t) (F f) (ok .checked .target) (placed-unlimited t f (ok .checked)) (movesOf e) (ok .named) 1024 m p l q
+    first-paid-here m p l q = first-paid (T t) (F f) (ok .checked .target) (all-placed t f (ok .checked)) (movesOf e) (ok .named) 1024 m p l q
 
     pub second-paid-here : (m : ℕ) (p : ParallelMoves) → m < n → PaidFor t f cache e 1024 p → All (PaidFor t f cache e 1024) (visitFor t f cache e n m p)
     second-paid-here m p l q = visit-paid-here t f cache e ok 1024 n m p l q

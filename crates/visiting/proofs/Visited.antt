@@ -17,7 +17,7 @@ use Rattle.scratch.specs.State.{T, F}
 use Rattle.visits.specs.Marks.{movesOf, statesOf, isDone, isNoted}
 use Rattle.closing.specs.State.{Work, MovesOk}
 use Rattle.closing.specs.Steps.{PaidFor, Gone, Closes}
-use Rattle.closing.proofs.Known.{placed-unlimited}
+use Rattle.scratch.proofs.Unlimited.{all-placed}
 use Rattle.visiting.specs.Steps.{Visits, Visited}
 use Rattle.visiting.proofs.Stay.{stay-none, still-open, visit-stays}
 use Rattle.visiting.proofs.Opened.{withMarks, new-here, opened-paid, opened-news, opened-visits}
@@ -47,7 +47,7 @@ module _ (t f cache e : List ℕ) where
 
   module _ (ok : MovesOk t f e) where
     pub visit-paid-here : (a depth m : ℕ) (p : ParallelMoves) → m < length (movesOf e) → PaidFor t f cache e a p → All (PaidFor t f cache e a) (visitFor depth m p)
-    visit-paid-here a depth m p l q = visit-paid (T t) (F f) (ok .checked .target) (placed-unlimited t f (ok .checked)) (movesOf e) (ok .named) depth a m p l q
+    visit-paid-here a depth m p l q = visit-paid (T t) (F f) (ok .checked .target) (all-placed t f (ok .checked)) (movesOf e) (ok .named) depth a m p l q
 
     walk-paid : (a depth m : ℕ) (p q : ParallelMoves) → PaidFor t f cache e a p → walkFor m depth p ≡ some q → PaidFor t f cache e a q
     walk-paid a depth m p q h is =

@@ -1,0 +1,131 @@
+//! What several tests need: the jobs of the repository, and the answers of
+//! `compare` to others.
+
+#![allow(dead_code)]
+
+use std::fs::{self, File};
+use std::io::{self, Write};
+use std::path::{Path, PathBuf};
+use std::process::Command;
+
+use parallel_moves::{Answer, Resolver};
+
+/// The repository's root.
+pub fn root() -> &'static Path {
+    let here = Path::new(env!("CARGO_MANIFEST_DIR"));
+    here.parent().expect("the crate lies in a repository")
+}
+
+/// The jobs of a folder, by name.
+pub fn jobs(folder: &str) -> Vec<(String, Vec<u8>)> {
+    let mut jobs = Vec::new();
+    for entry in fs::read_dir(root().join(folder)).expect("the folder is there") {
+        let path = entry.unwrap().path();
+        if path.extension().is_some_and(|extension| extension == "job") {
+            let name = path.file_stem().unwrap().to_str().unwrap();
+            jobs.push((name.to_owned(), fs::read(&path).unwrap()));
+        }
+    }
+    assert!(!jobs.is_empty(), "{folder} has no jobs");
+    jobs.sort();
+    jobs
+}
+
+/// What is printed of the trial with a name.
+pub fn printed(name: &str) -> String {
+    let path = root().join("compare/trials").join(name);
+    fs::read_to_string(path.with_extension("out")).expect("each trial has a .out")
+}
+
+/// The text of an answer, made of its patches, edits and refusal rather than by
+/// the library.
+pub fn text_of_parts(answer: &Answer) -> String {
+    let mut text = String::new();
+    for (index, patch) in answer.patches().enumerate() {
+        let (number, count, made) = (index + 1, patch.edits().len(), patch.made());
+        text += &format!("patch {number} edits {count} made {made}\n");
+        for edit in patch.edits() {
+            text += &format!("{edit}\n");
+        }
+    }
+    if let Some(refusal) = answer.refusal() {
+        assert!((1..=17).contains(&refusal.number()));
+        assert!(!refusal.words().is_empty());
+        text += &format!("refused {}\n", refusal.number());
+    }
+    text
+}
+
+/// Answers a job and checks that the answer says the same as text, printed, and
+/// taken apart.
+pub fn text(resolver: &mut Resolver, job: &[u8]) -> String {
+    let answer = resolver.answer(job);
+    let text = answer.text();
+    assert_eq!(text, text_of_parts(&answer));
+    assert_eq!(text, answer.to_string());
+    text
+}
+
+/// The program `compare`, if it is built; else says what is left out.
+fn compare(what: &str) -> Option<PathBuf> {
+    let path = root().join("compare/target/compare");
+    if path.is_file() {
+        return Some(path);
+    }
+    // Written so that it is seen when the test passes, too.
+    let line = format!("skipped: {what}; compare/target/compare is not there, run compare/build\n");
+    io::stderr().write_all(line.as_bytes()).unwrap();
+    None
+}
+
+/// Jobs that `compare` makes, or `None` if it is not built.
+pub fn generated(seed: u64, count: usize, mode: &str) -> Option<Vec<Vec<u8>>> {
+    let program = compare("generated jobs")?;
+    let words = [
+        "generate".to_owned(),
+        seed.to_string(),
+        count.to_string(),
+        mode.to_owned(),
+    ];
+    let output = Command::new(program).args(words).output().unwrap();
+    assert!(output.status.success());
+    let jobs = unframed(&output.stdout);
+    assert_eq!(jobs.len(), count);
+    Some(jobs)
+}
+
+/// What `compare` answers to jobs, or `None` if it is not built. `what` says
+/// what is asked, in one word.
+pub fn answers(what: &str, jobs: &[Vec<u8>]) -> Option<Vec<String>> {
+    let program = compare(&format!("the answers of compare, {what}"))?;
+    let mut framed = Vec::new();
+    for job in jobs {
+        framed.extend((job.len() as u32).to_le_bytes());
+        framed.extend(job);
+    }
+    let path = Path::new(env!("CARGO_TARGET_TMPDIR")).join(format!("{what}.jobs"));
+    fs::write(&path, framed).unwrap();
+    let output = Command::new(program)
+        .arg("answer-batch")
+        .stdin(File::open(&path).unwrap())
+        .output()
+        .unwrap();
+    assert!(output.status.success());
+    fs::remove_file(&path).unwrap();
+    let answers = unframed(&output.stdout);
+    assert_eq!(answers.len(), jobs.len());
+    let text = |answer| String::from_utf8(answer).unwrap();
+    Some(answers.into_iter().map(text).collect())
+}
+
+/// The parts of a stream in which each follows its length.
+fn unframed(mut stream: &[u8]) -> Vec<Vec<u8>> {
+    let mut parts = Vec::new();
+    while let Some((length, rest)) = stream.split_first_chunk() {
+        let (part, rest) = rest.split_at(u32::from_le_bytes(*length) as usize);
+        parts.push(part.to_owned());
+        stream = rest;
+    }
+    assert!(stream.is_empty());
+    parts
+}

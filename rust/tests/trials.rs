@@ -1,0 +1,62 @@
+//! The trials and examples of the repository, byte for byte.
+
+mod common;
+
+use common::{jobs, printed, text};
+use parallel_moves::{Edit, Place, Resolver};
+
+#[test]
+fn trials() {
+    let mut resolver = Resolver::new();
+    for (name, job) in jobs("compare/trials") {
+        assert_eq!(text(&mut resolver, &job), printed(&name), "{name}");
+    }
+}
+
+#[test]
+fn examples() {
+    let mut resolver = Resolver::new();
+    for (name, job) in jobs("examples") {
+        assert_eq!(text(&mut resolver, &job), printed(&name), "{name}");
+    }
+}
+
+/// A resolver that has seen other jobs answers as a new one does.
+#[test]
+fn used_again() {
+    let mut used = Resolver::new();
+    for (name, job) in jobs("compare/trials").iter().rev() {
+        assert_eq!(used.answer(job), Resolver::new().answer(job), "{name}");
+    }
+}
+
+#[test]
+fn swap_full() {
+    let jobs = jobs("examples");
+    let (_, job) = jobs.iter().find(|(name, _)| name == "swap-full").unwrap();
+    let answer = Resolver::new().answer(job);
+    assert_eq!(answer.refusal(), None);
+    let patches: Vec<_> = answer.patches().collect();
+    assert_eq!(patches.len(), 1);
+    assert_eq!(patches[0].made(), 1);
+    let (r0, r1, s0) = (Place::Register(0), Place::Register(1), Place::Slot(0));
+    let edit = |to, from, value| Edit::Move { to, from, value };
+    let edits = [edit(s0, r1, 1), edit(r1, r0, 0), edit(r0, s0, 1)];
+    assert!(patches[0].edits().eq(edits));
+    assert!(patches[0].edits().rev().eq(edits.into_iter().rev()));
+}
+
+/// The patches before a refused one stand.
+#[test]
+fn refused_17() {
+    let jobs = jobs("examples");
+    let (_, job) = jobs.iter().find(|(name, _)| name == "refused-17").unwrap();
+    let answer = Resolver::new().answer(job);
+    let refusal = answer.refusal().unwrap();
+    assert_eq!(refusal.number(), 17);
+    assert_eq!(
+        refusal.to_string(),
+        format!("refused 17: {}", refusal.words())
+    );
+    assert_eq!(answer.patches().count(), 1);
+}
