@@ -1,0 +1,171 @@
+//! How times grow with the entries of a patch, and that they do not with the
+//! size of the tables.
+
+use crate::draft::{Draft, Entry, Patch, Place, Register, Target, Value};
+use crate::jobs::{LIMIT, with_classes};
+use crate::pairs::{Memory, Pair, Taken, Timed, time_patches};
+use crate::time::Clock;
+
+const ROUNDS: usize = 2001;
+
+/// Kinds of patches, by how the moves hang together.
+#[derive(Clone, Copy, PartialEq, Eq)]
+pub enum Kind {
+    /// Each place to the next, the last move first: one visit inside of another.
+    Chain,
+    /// The same, and the last place to the first.
+    Rotation,
+    /// Pairs of places swapped.
+    Swaps,
+}
+
+/// A place by its number, of one sort.
+pub type Places = fn(usize) -> Place;
+
+/// A patch of so many moves, each of a value of its own; no unit is free but
+/// the one given.
+pub fn patch(kind: Kind, count: usize, place: Places, free: Option<usize>) -> Patch {
+    let next = |index: usize| match kind {
+        Kind::Chain => index + 1,
+        // A rotation of one place is none, nor is there half a swap.
+        Kind::Rotation | Kind::Swaps if count == 1 => 1,
+        Kind::Rotation => (index + 1) % count,
+        Kind::Swaps => index ^ 1,
+    };
+    let entries = (0..count).rev().map(|index| Entry {
+        source: Some(place(index)),
+        dest: place(next(index)),
+        value: index,
+    });
+    Patch {
+        free: free.into_iter().collect(),
+        entries: entries.collect(),
+    }
+}
+
+/// As many registers of one unit in bank 0 as are asked for; the units left are
+/// those of bank 1, eight to a register.
+pub fn target(units: usize, registers: usize) -> Target {
+    let mut all: Vec<Register> = (0..registers)
+        .map(|unit| Register {
+            memory: false,
+            bank: 0,
+            units: vec![unit],
+        })
+        .collect();
+    let rest: Vec<usize> = (registers..units).collect();
+    all.extend(rest.chunks(8).filter(|units| units.len() == 8).map(|units| Register {
+        memory: false,
+        bank: 1,
+        units: units.to_vec(),
+    }));
+    let banks = if rest.len() < 8 { 1 } else { 2 };
+    with_classes(units, all, banks)
+}
+
+/// A job of one patch.
+pub fn job(target: Target, values: usize, slots: usize, patch: Patch) -> Draft {
+    let value = Value {
+        bank: 0,
+        cost: 0,
+        class: 0,
+    };
+    Draft {
+        target,
+        values: vec![value; values],
+        slots,
+        emergency_limit: LIMIT,
+        patches: vec![patch],
+    }
+}
+
+fn time(clock: &Clock, jobs: &[Draft]) -> [Vec<Taken>; 2] {
+    let mut memory = Memory::new();
+    let mut pairs: Vec<Pair> = jobs.iter().map(Pair::open).collect();
+    for pair in &mut pairs {
+        pair.compare_job(&mut memory);
+        for _ in 0..3 {
+            pair.compare(&mut memory);
+        }
+    }
+    [Timed::Resolve, Timed::AddAndResolve]
+        .map(|timed| time_patches(clock, &mut pairs, &mut memory, timed, ROUNDS))
+}
+
+pub fn print() {
+    let clock = Clock::new();
+    print_entries(&clock);
+    println!();
+    print_tables(&clock);
+}
+
+/// Kinds with their places and a free unit.
+const KINDS: [(&str, Kind, Places, Option<usize>); 5] = [
+    ("chain of registers", Kind::Chain, Place::Register, None),
+    (
+        "rotation of registers, one free",
+        Kind::Rotation,
+        Place::Register,
+        Some(130),
+    ),
+    ("swaps of registers, none free", Kind::Swaps, Place::Register, None),
+    ("chain of slots", Kind::Chain, Place::Slot, Some(130)),
+    ("rotation of slots, none free", Kind::Rotation, Place::Slot, None),
+];
+
+fn print_entries(clock: &Clock) {
+    println!("Nanoseconds against entries, medians: 131 registers, 130 values, N = 130.\n");
+    println!("| patch | entries | resolving: original | ours | ratio | ours, by entry | adding and resolving: original | ours | ratio | ours, by entry |");
+    println!("|---|---|---|---|---|---|---|---|---|---|");
+    for (name, kind, place, free) in KINDS {
+        let counts = [1, 2, 4, 8, 16, 32, 64, 128];
+        let jobs = counts.map(|count| job(target(131, 131), 130, 130, patch(kind, count, place, free)));
+        let [resolve, both] = time(clock, &jobs);
+        for (at, count) in counts.into_iter().enumerate() {
+            let cells = [resolve[at], both[at]].map(|taken| {
+                format!(
+                    "{:.0} | {:.0} | {:.2} | {:.1}",
+                    taken.theirs,
+                    taken.ours,
+                    taken.ratio(),
+                    taken.ours / count as f64
+                )
+            });
+            println!("| {name} | {count} | {} |", cells.join(" | "));
+        }
+    }
+}
+
+fn print_tables(clock: &Clock) {
+    println!("The same patch, 16 registers rotated through a free one, or 16 slots, over tables of other sizes; bank 0 has 32 registers.\n");
+    println!("| units | values | N | registers, resolving: original | ours | ratio | adding and resolving: original | ours | slots, resolving: original | ours | ratio | adding and resolving: original | ours |");
+    println!("|---|---|---|---|---|---|---|---|---|---|---|---|---|");
+    let sizes = [
+        (32, 16, 16),
+        (512, 16, 16),
+        (32, 4096, 16),
+        (32, 16, 4096),
+        (512, 4096, 4096),
+    ];
+    let of = |place: Places| {
+        let jobs = sizes.map(|(units, values, slots)| {
+            let patch = patch(Kind::Rotation, 16, place, Some(31));
+            job(target(units, 32), values, slots, patch)
+        });
+        time(clock, &jobs)
+    };
+    let (registers, slots) = (of(Place::Register), of(Place::Slot));
+    for (at, (units, values, n)) in sizes.into_iter().enumerate() {
+        let cells = [&registers, &slots].map(|[resolve, both]| {
+            format!(
+                "{:.0} | {:.0} | {:.2} | {:.0} | {:.0}",
+                resolve[at].theirs,
+                resolve[at].ours,
+                resolve[at].ratio(),
+                both[at].theirs,
+                both[at].ours
+            )
+        });
+        println!("| {units} | {values} | {n} | {} |", cells.join(" | "));
+    }
+}
