@@ -6,7 +6,8 @@ use std::collections::BTreeMap;
 use std::ffi::CString;
 use std::fs;
 
-use crate::jobs::{self, JOBS, PATCHES};
+use crate::growth;
+use crate::jobs::{self, PATCHES, Row};
 use crate::ours::{ours_add, timed_ours_both, timed_ours_job, timed_ours_resolve};
 use crate::pairs::{Memory, Pair};
 use crate::theirs::{
@@ -35,10 +36,17 @@ fn end_part(name: &str) {
     }
 }
 
+/// The rows of the times, and those of the growth with most entries.
+fn rows() -> Vec<Row> {
+    let mut rows = jobs::rows();
+    rows.extend(growth::rows());
+    rows
+}
+
 /// Runs each row, side and kind as a part of its own.
 pub fn count() {
     let mut memory = Memory::new();
-    for (index, row) in jobs::rows().iter().enumerate() {
+    for (index, row) in rows().iter().enumerate() {
         let mut pairs: Vec<Pair> = row.jobs.iter().map(Pair::open).collect();
         for pair in &mut pairs {
             pair.compare_job(&mut memory);
@@ -79,11 +87,7 @@ fn count_ours(pair: &mut Pair, memory: &mut Memory, kind: &str) {
 fn count_theirs(pair: &mut Pair, memory: &mut Memory, kind: &str) {
     let (job, memory) = (&mut pair.theirs, &mut memory.theirs);
     if kind == "job" {
-        timed_original_job(
-            pair.ours.bytes.as_ptr(),
-            pair.ours.bytes.len(),
-            memory,
-        );
+        timed_original_job(pair.ours.bytes.as_ptr(), pair.ours.bytes.len(), memory);
         return;
     }
     for patch in 0..pair.patches {
@@ -115,13 +119,20 @@ pub fn print(folder: &str) {
             counts.insert(name, (total, path));
         }
     }
-    println!("Instructions, on average; of a patch, and of a job of {PATCHES} patches.\n");
+    println!(
+        "Instructions, on average; of a patch, and of a job (those of the first nine rows have {PATCHES} patches, the others one).\n"
+    );
     println!("{HEAD}");
-    for (index, row) in jobs::rows().iter().enumerate() {
-        let cells = [("resolve", PATCHES), ("both", PATCHES), ("job", 1)].map(|(kind, calls)| {
+    for (index, row) in rows().iter().enumerate() {
+        let kinds = [
+            ("resolve", row.count()),
+            ("both", row.count()),
+            ("job", row.jobs.len()),
+        ];
+        let cells = kinds.map(|(kind, calls)| {
             let of = |side: &str| {
                 let (total, _): &(f64, _) = &counts[&format!("{index} {kind} {side}")];
-                total / (JOBS * calls) as f64
+                total / calls as f64
             };
             let (ours, theirs) = (of("ours"), of("original"));
             format!("{theirs:.0} | {ours:.0} | {:.2}", ours / theirs)

@@ -1,7 +1,7 @@
 //! The jobs that are timed, decided by a seed: on a small target, on the
 //! shipped one and on one with 512 units, with few, some or many entries.
 
-use crate::draft::{Bank, Class, Draft, Register, Target};
+use crate::draft::{Bank, Class, Draft, Patch, Register, Target};
 use crate::generate::accepted::Flavour;
 use crate::generate::patches::PatchMaker;
 use crate::generate::targets;
@@ -22,15 +22,20 @@ pub struct Row {
 }
 
 impl Row {
+    fn patches(&self) -> impl Iterator<Item = &Patch> {
+        self.jobs.iter().flat_map(|job| &job.patches)
+    }
+
+    /// How many patches there are.
+    pub fn count(&self) -> usize {
+        self.patches().count()
+    }
+
     /// How many entries a patch has, on average.
     pub fn entries(&self) -> f64 {
-        let count: usize = self.jobs.iter().map(entries).sum();
-        count as f64 / (JOBS * PATCHES) as f64
+        let entries: usize = self.patches().map(|patch| patch.entries.len()).sum();
+        entries as f64 / self.count() as f64
     }
-}
-
-fn entries(job: &Draft) -> usize {
-    job.patches.iter().map(|patch| patch.entries.len()).sum()
 }
 
 /// Few registers and entries; the generator's `small`, with slots enough where
@@ -96,7 +101,7 @@ pub fn large_target() -> Target {
 }
 
 /// A target of registers: each bank has a class with slots and one without,
-/// both of all its registers, rising.
+/// both of all its registers, rising; their orders leave out memory.
 pub fn with_classes(units: usize, registers: Vec<Register>, banks: usize) -> Target {
     let mut target = Target {
         units,
@@ -106,12 +111,14 @@ pub fn with_classes(units: usize, registers: Vec<Register>, banks: usize) -> Tar
     };
     for bank in 0..banks {
         let members = target.registers_of(bank);
+        let mut order = members.clone();
+        order.retain(|&reg| !target.registers[reg].memory);
         for slots in [true, false] {
             target.classes.push(Class {
                 bank,
                 slots,
                 members: members.clone(),
-                order: members.clone(),
+                order: order.clone(),
             });
         }
         target.banks.push(Bank {

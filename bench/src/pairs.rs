@@ -63,7 +63,11 @@ impl Pair {
         let words = timed_original_job(bytes, len, &mut memory.theirs);
         assert_ne!(count, 0, "the job is refused");
         assert_eq!(count, words, "the counts of words differ");
-        assert_eq!(memory.ours.words(count), memory.theirs.words(), "words differ");
+        assert_eq!(
+            memory.ours.words(count),
+            memory.theirs.words(),
+            "words differ"
+        );
     }
 }
 
@@ -150,12 +154,7 @@ pub fn time_patches(
 }
 
 /// The same of whole jobs.
-pub fn time_jobs(
-    clock: &Clock,
-    pairs: &[Pair],
-    memory: &mut Memory,
-    rounds: usize,
-) -> Vec<Taken> {
+pub fn time_jobs(clock: &Clock, pairs: &[Pair], memory: &mut Memory, rounds: usize) -> Vec<Taken> {
     let mut ours = vec![Vec::with_capacity(rounds); pairs.len()];
     let mut theirs = vec![Vec::with_capacity(rounds); pairs.len()];
     for round in 0..rounds {

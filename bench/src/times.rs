@@ -42,8 +42,12 @@ pub fn print() {
         );
         spread.push((row.target, row.size, [resolve, both, jobs]));
     }
-    println!("\nRatios patch by patch (job by job): a tenth are below the first, half below the second, nine tenths below the third.\n");
-    println!("| target | entries | resolving | adding and resolving | whole job |\n|---|---|---|---|---|");
+    println!(
+        "\nRatios patch by patch (job by job): a tenth are below the first, half below the second, nine tenths below the third.\n"
+    );
+    println!(
+        "| target | entries | resolving | adding and resolving | whole job |\n|---|---|---|---|---|"
+    );
     for (target, size, taken) in spread {
         let [resolve, both, jobs] = taken.map(|taken| ratios(&taken));
         println!("| {target} | {size} | {resolve} | {both} | {jobs} |");
