@@ -36,7 +36,7 @@ fn end_part(name: &str) {
     }
 }
 
-/// The rows of the times, and those of the growth with most entries.
+/// The rows of the times, and those of the growth with fewest and most entries.
 fn rows() -> Vec<Row> {
     let mut rows = jobs::rows();
     rows.extend(growth::rows());

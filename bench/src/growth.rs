@@ -3,7 +3,7 @@
 
 use crate::draft::{Draft, Entry, Patch, Place, Register, Target, Value};
 use crate::jobs::{LIMIT, Row, with_classes};
-use crate::pairs::{Memory, Pair, Taken, Timed, time_jobs, time_patches};
+use crate::pairs::{Memory, Pair, Taken, time_jobs, time_patches};
 use crate::time::Clock;
 
 const ROUNDS: usize = 2001;
@@ -88,14 +88,16 @@ pub fn job(target: Target, values: usize, slots: usize, patch: Patch) -> Draft {
     }
 }
 
-/// For counts: 128 entries of each kind.
+/// For counts: one entry and 128 of each kind.
 pub fn rows() -> Vec<Row> {
-    let row = |(name, kind, place, free)| Row {
-        target: name,
-        size: "128",
-        jobs: vec![entries_job(kind, 128, place, free)],
-    };
-    KINDS.into_iter().map(row).collect()
+    let mut rows = Vec::new();
+    for (target, kind, place, free) in KINDS {
+        for (size, count) in [("1", 1), ("128", 128)] {
+            let jobs = vec![entries_job(kind, count, place, free)];
+            rows.push(Row { target, size, jobs });
+        }
+    }
+    rows
 }
 
 /// A job of one patch of so many entries.
@@ -112,8 +114,7 @@ fn time(clock: &Clock, jobs: &[Draft]) -> [Vec<Taken>; 2] {
             pair.compare(&mut memory);
         }
     }
-    [Timed::Resolve, Timed::AddAndResolve]
-        .map(|timed| time_patches(clock, &mut pairs, &mut memory, timed, ROUNDS))
+    time_patches(clock, &mut pairs, &mut memory, ROUNDS)
 }
 
 pub fn print() {

@@ -7,7 +7,7 @@ use crate::ours::{self, ours_add, timed_ours_both, timed_ours_job, timed_ours_re
 use crate::theirs::{
     self, original_add, timed_original_both, timed_original_job, timed_original_resolve,
 };
-use crate::time::{Clock, median, ticks};
+use crate::time::{self, Clock, median};
 
 /// The working memory of both sides.
 pub struct Memory {
@@ -73,7 +73,7 @@ impl Pair {
 
 /// What is timed of a patch.
 #[derive(Clone, Copy, PartialEq, Eq)]
-pub enum Timed {
+enum Timed {
     Resolve,
     AddAndResolve,
 }
@@ -96,13 +96,13 @@ fn time_ours(pair: &mut Pair, memory: &mut Memory, patch: usize, timed: Timed) -
     let (from, to);
     if timed == Timed::Resolve {
         ours_add(job, memory, patch);
-        from = ticks();
+        from = time::ticks();
         black_box(timed_ours_resolve(job, memory, patch));
-        to = ticks();
+        to = time::ticks();
     } else {
-        from = ticks();
+        from = time::ticks();
         black_box(timed_ours_both(job, memory, patch));
-        to = ticks();
+        to = time::ticks();
     }
     (to - from) as f64
 }
@@ -112,63 +112,90 @@ fn time_theirs(pair: &mut Pair, memory: &mut Memory, patch: usize, timed: Timed)
     let (from, to);
     if timed == Timed::Resolve {
         original_add(job, memory, patch);
-        from = ticks();
+        from = time::ticks();
         black_box(timed_original_resolve(job, memory, patch));
-        to = ticks();
+        to = time::ticks();
     } else {
-        from = ticks();
+        from = time::ticks();
         black_box(timed_original_both(job, memory, patch));
-        to = ticks();
+        to = time::ticks();
     }
     (to - from) as f64
 }
 
-/// The sides take turns patch by patch, each first in every other round; of
-/// each patch the median over the rounds.
+/// The ticks that each call took, by what was timed.
+struct Ticks {
+    ours: Vec<Vec<f64>>,
+    theirs: Vec<Vec<f64>>,
+}
+
+impl Ticks {
+    fn new(count: usize, rounds: usize) -> Self {
+        Ticks {
+            ours: vec![Vec::with_capacity(rounds); count],
+            theirs: vec![Vec::with_capacity(rounds); count],
+        }
+    }
+
+    fn medians(self, clock: &Clock) -> Vec<Taken> {
+        let ns = |ticks| clock.ns(median(ticks));
+        self.ours
+            .into_iter()
+            .zip(self.theirs)
+            .map(|(ours, theirs)| Taken {
+                ours: ns(ours),
+                theirs: ns(theirs),
+            })
+            .collect()
+    }
+}
+
+/// Resolving, and adding and resolving. The sides take turns patch by patch,
+/// each first in every other round; of each patch the median over the rounds.
 pub fn time_patches(
     clock: &Clock,
     pairs: &mut [Pair],
     memory: &mut Memory,
-    timed: Timed,
     rounds: usize,
-) -> Vec<Taken> {
+) -> [Vec<Taken>; 2] {
+    let kinds = [Timed::Resolve, Timed::AddAndResolve];
     let count = pairs.iter().map(|pair| pair.patches).sum();
-    let mut ours = vec![Vec::with_capacity(rounds); count];
-    let mut theirs = vec![Vec::with_capacity(rounds); count];
+    let mut ticks = kinds.map(|_| Ticks::new(count, rounds));
     for round in 0..rounds {
         let mut at = 0;
         for pair in &mut *pairs {
             for patch in 0..pair.patches {
-                if round % 2 == 0 {
-                    ours[at].push(time_ours(pair, memory, patch, timed));
-                    theirs[at].push(time_theirs(pair, memory, patch, timed));
-                } else {
-                    theirs[at].push(time_theirs(pair, memory, patch, timed));
-                    ours[at].push(time_ours(pair, memory, patch, timed));
+                for (ticks, timed) in ticks.iter_mut().zip(kinds) {
+                    if round % 2 == 0 {
+                        ticks.ours[at].push(time_ours(pair, memory, patch, timed));
+                        ticks.theirs[at].push(time_theirs(pair, memory, patch, timed));
+                    } else {
+                        ticks.theirs[at].push(time_theirs(pair, memory, patch, timed));
+                        ticks.ours[at].push(time_ours(pair, memory, patch, timed));
+                    }
                 }
                 at += 1;
             }
         }
     }
-    medians(clock, ours, theirs)
+    ticks.map(|ticks| ticks.medians(clock))
 }
 
 /// The same of whole jobs.
 pub fn time_jobs(clock: &Clock, pairs: &[Pair], memory: &mut Memory, rounds: usize) -> Vec<Taken> {
-    let mut ours = vec![Vec::with_capacity(rounds); pairs.len()];
-    let mut theirs = vec![Vec::with_capacity(rounds); pairs.len()];
+    let mut ticks = Ticks::new(pairs.len(), rounds);
     for round in 0..rounds {
         for (at, pair) in pairs.iter().enumerate() {
             let (bytes, len) = (pair.ours.bytes.as_ptr(), pair.ours.bytes.len());
             let mut time_ours = || {
-                let from = ticks();
+                let from = time::ticks();
                 black_box(timed_ours_job(bytes, len, &mut memory.ours));
-                ours[at].push((ticks() - from) as f64);
+                ticks.ours[at].push((time::ticks() - from) as f64);
             };
             let mut time_theirs = || {
-                let from = ticks();
+                let from = time::ticks();
                 black_box(timed_original_job(bytes, len, &mut memory.theirs));
-                theirs[at].push((ticks() - from) as f64);
+                ticks.theirs[at].push((time::ticks() - from) as f64);
             };
             if round % 2 == 0 {
                 time_ours();
@@ -179,15 +206,5 @@ pub fn time_jobs(clock: &Clock, pairs: &[Pair], memory: &mut Memory, rounds: usi
             }
         }
     }
-    medians(clock, ours, theirs)
-}
-
-fn medians(clock: &Clock, ours: Vec<Vec<f64>>, theirs: Vec<Vec<f64>>) -> Vec<Taken> {
-    ours.into_iter()
-        .zip(theirs)
-        .map(|(ours, theirs)| Taken {
-            ours: clock.ns(median(ours)),
-            theirs: clock.ns(median(theirs)),
-        })
-        .collect()
+    ticks.medians(clock)
 }

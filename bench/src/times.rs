@@ -1,7 +1,7 @@
 //! The table of times.
 
 use crate::jobs::{self, PATCHES};
-use crate::pairs::{Memory, Pair, Taken, Timed, time_jobs, time_patches};
+use crate::pairs::{Memory, Pair, Taken, time_jobs, time_patches};
 use crate::time::{Clock, median, part};
 
 pub const HEAD: &str = "| target | entries | on average | resolving: original | ours | ratio | adding and resolving: original | ours | ratio | whole job: original | ours | ratio |
@@ -25,8 +25,7 @@ pub fn print() {
                 pair.compare(&mut memory);
             }
         }
-        let resolve = time_patches(&clock, &mut pairs, &mut memory, Timed::Resolve, 101);
-        let both = time_patches(&clock, &mut pairs, &mut memory, Timed::AddAndResolve, 101);
+        let [resolve, both] = time_patches(&clock, &mut pairs, &mut memory, 101);
         let jobs = time_jobs(&clock, &pairs, &mut memory, 51);
         for pair in &mut pairs {
             pair.compare(&mut memory);
