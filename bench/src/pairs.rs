@@ -161,11 +161,13 @@ pub fn time_patches(
     let kinds = [Timed::Resolve, Timed::AddAndResolve];
     let count = pairs.iter().map(|pair| pair.patches).sum();
     let mut ticks = kinds.map(|_| Ticks::new(count, rounds));
+    // A sweep over all patches for each kind, so that no call follows another
+    // of the same patch on its side.
     for round in 0..rounds {
-        let mut at = 0;
-        for pair in &mut *pairs {
-            for patch in 0..pair.patches {
-                for (ticks, timed) in ticks.iter_mut().zip(kinds) {
+        for (ticks, timed) in ticks.iter_mut().zip(kinds) {
+            let mut at = 0;
+            for pair in &mut *pairs {
+                for patch in 0..pair.patches {
                     if round % 2 == 0 {
                         ticks.ours[at].push(time_ours(pair, memory, patch, timed));
                         ticks.theirs[at].push(time_theirs(pair, memory, patch, timed));
@@ -173,8 +175,8 @@ pub fn time_patches(
                         ticks.theirs[at].push(time_theirs(pair, memory, patch, timed));
                         ticks.ours[at].push(time_ours(pair, memory, patch, timed));
                     }
+                    at += 1;
                 }
-                at += 1;
             }
         }
     }
