@@ -19,6 +19,8 @@ pub enum Kind {
     Rotation,
     /// Pairs of places swapped.
     Swaps,
+    /// No moves: each place rebuilt, without scratch.
+    Rebuilds,
 }
 
 /// A place by its number, of one sort.
@@ -28,14 +30,14 @@ pub type Places = fn(usize) -> Place;
 /// the one given.
 pub fn patch(kind: Kind, count: usize, place: Places, free: Option<usize>) -> Patch {
     let next = |index: usize| match kind {
-        Kind::Flat | Kind::Chain => index + 1,
+        Kind::Flat | Kind::Chain | Kind::Rebuilds => index + 1,
         // A rotation of one place is none, nor is there half a swap.
         Kind::Rotation | Kind::Swaps if count == 1 => 1,
         Kind::Rotation => (index + 1) % count,
         Kind::Swaps => index ^ 1,
     };
     let moves = (0..count).map(|index| Entry {
-        source: Some(place(index)),
+        source: (kind != Kind::Rebuilds).then(|| place(index)),
         dest: place(next(index)),
         value: index,
     });
@@ -72,11 +74,12 @@ pub fn target(units: usize, registers: usize) -> Target {
     with_classes(units, all, banks)
 }
 
-/// A job of one patch.
+/// A job of one patch; its values can be rebuilt if the patch does so.
 pub fn job(target: Target, values: usize, slots: usize, patch: Patch) -> Draft {
+    let rebuilt = patch.entries.iter().any(|entry| entry.source.is_none());
     let value = Value {
         bank: 0,
-        cost: 0,
+        cost: usize::from(rebuilt),
         class: 0,
     };
     Draft {
@@ -127,7 +130,7 @@ pub fn print() {
 }
 
 /// Kinds with their places and a free unit.
-const KINDS: [(&str, Kind, Places, Option<usize>); 6] = [
+const KINDS: [(&str, Kind, Places, Option<usize>); 7] = [
     (
         "chain of registers, first move first",
         Kind::Flat,
@@ -158,6 +161,7 @@ const KINDS: [(&str, Kind, Places, Option<usize>); 6] = [
         Place::Slot,
         Some(130),
     ),
+    ("registers rebuilt", Kind::Rebuilds, Place::Register, None),
     (
         "rotation of slots, none free",
         Kind::Rotation,
