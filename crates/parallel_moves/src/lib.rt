@@ -185,7 +185,7 @@ fn add_entry(
 }
 
 // Adds every entry, or answers the number by which the first is refused.
-fn add_entries(
+pub fn add_entries(
     t: &RegInfo,
     f: &Function,
     e: &mut Entries,

@@ -1,0 +1,292 @@
+//! Ours: the two static libraries, with the memory that they are lent.
+
+use crate::draft::{Draft, Patch, Place};
+
+#[link(name = "bench_c", kind = "static")]
+unsafe extern "C" {
+    fn bench_open(
+        bytes: *const u8,
+        bytes_len: usize,
+        target: *mut u16,
+        function: *mut u16,
+        cache: *mut u16,
+    ) -> usize;
+
+    fn bench_add(
+        target: *const u16,
+        function: *const u16,
+        entries: *mut u16,
+        writers: *mut u16,
+        numbers: *const u32,
+        numbers_len: usize,
+    ) -> usize;
+
+    fn bench_resolve(
+        target: *const u16,
+        function: *const u16,
+        entries: *const u16,
+        writers: *const u16,
+        free_units: *const u8,
+        cache: *mut u16,
+        list: *mut u64,
+        list_len: usize,
+        available: *mut u8,
+        sources: *mut u8,
+        edits: *mut u64,
+        slots: *mut u16,
+        diverted: *mut u16,
+        marks: *mut u8,
+        carried: *mut u16,
+    ) -> usize;
+}
+
+#[link(name = "parallel_moves_c", kind = "static")]
+unsafe extern "C" {
+    fn parallel_moves_answer(
+        job: *const u8,
+        job_len: usize,
+        words: *mut u64,
+        words_len: usize,
+        refusal: *mut u8,
+        target: *mut u16,
+        function: *mut u16,
+        cache: *mut u16,
+        list: *mut u64,
+        free_units: *mut u8,
+        entries: *mut u16,
+        writers: *mut u16,
+        available: *mut u8,
+        sources: *mut u8,
+        edits: *mut u64,
+        slots: *mut u16,
+        diverted: *mut u16,
+        marks: *mut u8,
+        carried: *mut u16,
+    ) -> usize;
+}
+
+/// The words of the longest answer.
+const MOST_WORDS: usize = 2 * 65_536 + 1024;
+
+/// What is kept from patch to patch of a function.
+struct Tables {
+    target: Vec<u16>,
+    function: Vec<u16>,
+    cache: Vec<u16>,
+}
+
+impl Tables {
+    fn new() -> Self {
+        Tables {
+            target: vec![0xa5a5; 107_520],
+            function: vec![0xa5a5; 16_387],
+            cache: vec![0xa5a5; 65_600],
+        }
+    }
+}
+
+/// Working memory: what it holds does not matter.
+pub struct Memory {
+    tables: Tables,
+    words: Vec<u64>,
+    list: Vec<u64>,
+    free_units: Vec<u8>,
+    entries: Vec<u16>,
+    writers: Vec<u16>,
+    available: Vec<u8>,
+    sources: Vec<u8>,
+    edits: Vec<u64>,
+    slots: Vec<u16>,
+    diverted: Vec<u16>,
+    marks: Vec<u8>,
+    carried: Vec<u16>,
+}
+
+impl Memory {
+    pub fn new() -> Self {
+        Memory {
+            tables: Tables::new(),
+            words: vec![0; MOST_WORDS],
+            list: vec![0; 1024],
+            free_units: vec![0; 512],
+            entries: vec![0xa5a5; 1028],
+            writers: vec![0xa5a5; 6657],
+            available: vec![0; 512],
+            sources: vec![0; 512],
+            edits: vec![0; 1025],
+            slots: vec![0xa5a5; 32_834],
+            diverted: vec![0xa5a5; 12_288],
+            marks: vec![0xa5; 129],
+            carried: vec![0xa5a5; 2049],
+        }
+    }
+
+    /// The first words of the last job's answer.
+    pub fn words(&self, count: usize) -> &[u64] {
+        &self.words[..count]
+    }
+
+    /// The first edits of the last patch.
+    pub fn list(&self, count: usize) -> &[u64] {
+        &self.list[..count]
+    }
+}
+
+/// A patch as ours is given it.
+struct Given {
+    free_units: Vec<u8>,
+    numbers: Vec<u32>,
+}
+
+impl Given {
+    fn new(patch: &Patch) -> Self {
+        let mut free_units = vec![0; 512];
+        for &unit in &patch.free {
+            free_units[unit] = 1;
+        }
+        let code = |place| match place {
+            Place::Slot(slot) => 2 * slot as u32,
+            Place::Register(reg) => 2 * reg as u32 + 1,
+        };
+        let mut numbers = Vec::new();
+        for entry in &patch.entries {
+            let (dest, value) = (code(entry.dest), entry.value as u32);
+            numbers.extend(match entry.source {
+                Some(source) => [0, code(source), dest, value],
+                None => [1, dest, value, 0],
+            });
+        }
+        Given {
+            free_units,
+            numbers,
+        }
+    }
+}
+
+/// A job opened, with its patches.
+pub struct Job {
+    pub bytes: Vec<u8>,
+    tables: Tables,
+    patches: Vec<Given>,
+}
+
+impl Job {
+    pub fn open(draft: &Draft) -> Self {
+        let bytes = draft.job();
+        let mut tables = Tables::new();
+        // SAFETY: each array is as long as the function says.
+        let at = unsafe {
+            bench_open(
+                bytes.as_ptr(),
+                bytes.len(),
+                tables.target.as_mut_ptr(),
+                tables.function.as_mut_ptr(),
+                tables.cache.as_mut_ptr(),
+            )
+        };
+        assert_ne!(at, 0, "ours refuses the job");
+        Job {
+            bytes,
+            tables,
+            patches: draft.patches.iter().map(Given::new).collect(),
+        }
+    }
+
+    /// Adds the entries of a patch, which must not be refused.
+    #[inline(always)]
+    fn add(&self, memory: &mut Memory, patch: usize) -> usize {
+        let numbers = &self.patches[patch].numbers;
+        // SAFETY: the tables are as `bench_open` left them.
+        unsafe {
+            bench_add(
+                self.tables.target.as_ptr(),
+                self.tables.function.as_ptr(),
+                memory.entries.as_mut_ptr(),
+                memory.writers.as_mut_ptr(),
+                numbers.as_ptr(),
+                numbers.len(),
+            )
+        }
+    }
+
+    #[inline(always)]
+    fn resolve(&mut self, memory: &mut Memory, patch: usize) -> usize {
+        // SAFETY: the tables are as `bench_open` and the last call left them,
+        // and the entries were added.
+        unsafe {
+            bench_resolve(
+                self.tables.target.as_ptr(),
+                self.tables.function.as_ptr(),
+                memory.entries.as_ptr(),
+                memory.writers.as_ptr(),
+                self.patches[patch].free_units.as_ptr(),
+                self.tables.cache.as_mut_ptr(),
+                memory.list.as_mut_ptr(),
+                1024,
+                memory.available.as_mut_ptr(),
+                memory.sources.as_mut_ptr(),
+                memory.edits.as_mut_ptr(),
+                memory.slots.as_mut_ptr(),
+                memory.diverted.as_mut_ptr(),
+                memory.marks.as_mut_ptr(),
+                memory.carried.as_mut_ptr(),
+            )
+        }
+    }
+}
+
+/// Adds the entries of a patch.
+#[inline(never)]
+#[unsafe(no_mangle)]
+pub extern "C" fn ours_add(job: &mut Job, memory: &mut Memory, patch: usize) -> usize {
+    job.add(memory, patch)
+}
+
+/// Resolves the patch that was added: how many edits it has.
+#[inline(never)]
+#[unsafe(no_mangle)]
+pub extern "C" fn timed_ours_resolve(job: &mut Job, memory: &mut Memory, patch: usize) -> usize {
+    job.resolve(memory, patch)
+}
+
+/// Adds and resolves.
+#[inline(never)]
+#[unsafe(no_mangle)]
+pub extern "C" fn timed_ours_both(job: &mut Job, memory: &mut Memory, patch: usize) -> usize {
+    if job.add(memory, patch) != 0 {
+        return usize::MAX;
+    }
+    job.resolve(memory, patch)
+}
+
+/// Answers a whole job: how many words there are; none if it is refused.
+#[inline(never)]
+#[unsafe(no_mangle)]
+pub extern "C" fn timed_ours_job(bytes: *const u8, len: usize, memory: &mut Memory) -> usize {
+    let mut refusal = 0;
+    // SAFETY: each array is as long as the function says, the flags are 0 or 1.
+    let count = unsafe {
+        parallel_moves_answer(
+            bytes,
+            len,
+            memory.words.as_mut_ptr(),
+            MOST_WORDS,
+            &mut refusal,
+            memory.tables.target.as_mut_ptr(),
+            memory.tables.function.as_mut_ptr(),
+            memory.tables.cache.as_mut_ptr(),
+            memory.list.as_mut_ptr(),
+            memory.free_units.as_mut_ptr(),
+            memory.entries.as_mut_ptr(),
+            memory.writers.as_mut_ptr(),
+            memory.available.as_mut_ptr(),
+            memory.sources.as_mut_ptr(),
+            memory.edits.as_mut_ptr(),
+            memory.slots.as_mut_ptr(),
+            memory.diverted.as_mut_ptr(),
+            memory.marks.as_mut_ptr(),
+            memory.carried.as_mut_ptr(),
+        )
+    };
+    if refusal == 0 { count } else { 0 }
+}
