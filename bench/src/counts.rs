@@ -75,6 +75,7 @@ fn count_ours(pair: &mut Pair, memory: &mut Memory, kind: &str) {
         return;
     }
     for patch in 0..pair.patches {
+        job.lend_free(memory, patch);
         if kind == "resolve" {
             ours_add(job, memory, patch);
             timed_ours_resolve(job, memory, patch);

