@@ -9,10 +9,10 @@ use reginfo::num_classes;
 use reginfo::num_members;
 use reginfo::num_reg_units;
 use reginfo::num_regs;
+use reginfo::order_at;
 use reginfo::order_len;
 use target_limits::cells_twice;
 use target_limits::members_from;
-use target_limits::order_from;
 use target_limits::outside_limits;
 use target_limits::units_from;
 use target_rules::foreign_member;
@@ -75,13 +75,23 @@ fn regs_twice(t: &RegInfo) -> bool
     false
 }
 
+// A class's order; the registers seen in it are marked.
 fn order_twice(t: &RegInfo, c: RegClass) -> bool
     requires { ⌜ (outsideLimits (regInfoOf (now t)) ≡ false) × (c .0 < numClasses (regInfoOf (now t))) ⌝ }
     ensures { λ d. ⌜ d ≡ twice (allocationOrder (regInfoOf (now (t .entry))) (c .0)) ⌝ }
 {
-    let at = order_from(c);
+    let mut seen = [false; 512];
     let n = order_len(t, c);
-    cells_twice(t, at, n)
+    let mut p: usize = 0;
+    while p < n {
+        let r = wide(order_at(t, c, p).0);
+        if seen[r] {
+            return true;
+        }
+        seen[r] = true;
+        p += 1;
+    }
+    false
 }
 
 // Where the index of a class's members begins.
