@@ -1,15 +1,19 @@
 -- The rules 4 to 7 of a target, at one register, class or bank.
-use Prim.Native.Nat.{ℕ}
+use Prim.Native.Nat.{ℕ, _<_}
+use mathlib.Core.Path.{_≡_}
 use mathlib.Core.Bool.{Bool}
-use lib.ListN.{length}
+use mathlib.Core.List.{List}
+use lib.ListN.{length, getD}
 use lib.Dec.{eqb}
 use Rattle.entity.specs.Logic.{and, or, no, any, has, meets}
 use Rattle.reginfo.specs.RegInfo.{RegInfo, numRegs, topLevelClass, stackToStackClass, bankForReg, regUnits, bankForClass, classMembers, allocationOrder, isMemoryReg, includesSpillslots, lastInOrder}
 use Rattle.reginfo.specs.Refused.{some-below}
 
--- 4: r and q are of one bank and have not equally many units
-abbrev pub widthsDiffer : RegInfo → ℕ → ℕ → Bool
-widthsDiffer t r q = and (eqb (bankForReg t r) (bankForReg t q)) (no (eqb (length (regUnits t r)) (length (regUnits t q))))
+-- 4: at each bank the width of its registers below i, all of which have that one; 0 where there is none
+pub record Widths (t : RegInfo) (w : List ℕ) (i : ℕ) : Type 0 where
+  pub long : length w ≡ 8
+  pub same : (r : ℕ) → r < i → getD w (bankForReg t r) 0 ≡ length (regUnits t r)
+  pub from : (b : ℕ) → (getD w b 0 ≡ 0 → ⊥) → (r : ℕ) × (r < i) × (bankForReg t r ≡ b) × (length (regUnits t r) ≡ getD w b 0)
 
 -- 5: the register is not of the bank; it is no member of the class
 abbrev pub foreignTo : RegInfo → ℕ → ℕ → Bool

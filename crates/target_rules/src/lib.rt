@@ -2,6 +2,7 @@
 use entity::PhysReg;
 use entity::RegBank;
 use entity::RegClass;
+use entity::wide;
 use reginfo::RegInfo;
 use reginfo::bank_for_class;
 use reginfo::bank_for_reg;
@@ -27,50 +28,34 @@ ghost use Rattle.entity.specs.Logic.{any, cells};
 ghost use Rattle.reginfo.specs.RegInfo.{numBanks, numRegs, numClasses, bankForClass, classMembers, allocationOrder, isMemoryReg};
 ghost use Rattle.reginfo.specs.Table.{regInfoOf, Indexed};
 ghost use Rattle.reginfo.specs.Refused.{some-below, allBelow, outsideLimits, unequalWidths, foreignMember, sharedMemory, unfitClass};
-ghost use Rattle.target_rules.specs.Rules.{widthsDiffer, foreignTo, noMember, foreignClass, foreignBank, sharesWith, sharedReg, unfitBank, unfitOrder};
+ghost use Rattle.target_rules.specs.Rules.{Widths, foreignTo, noMember, foreignClass, foreignBank, sharesWith, sharedReg, unfitBank, unfitOrder};
 
-// 4: the registers of a bank have equally many units.
-fn widths_differ(t: &RegInfo, r: PhysReg, q: PhysReg) -> bool
-    requires { ⌜ (outsideLimits (regInfoOf (now t)) ≡ false) × (r .0 < numRegs (regInfoOf (now t))) × (q .0 < numRegs (regInfoOf (now t))) ⌝ }
-    ensures { λ d. ⌜ d ≡ widthsDiffer (regInfoOf (now (t .entry))) (r .0) (q .0) ⌝ }
+// 4: the registers of a bank have equally many units. `widths` has the width of each bank's registers before r, 0 where there is none.
+// It notes that of a bank's first register, and answers whether r's is its bank's.
+fn width_agrees(t: &RegInfo, r: PhysReg, widths: &mut [usize; 8]) -> bool
+    requires { ⌜ (outsideLimits (regInfoOf (now t)) ≡ false) × (r .0 < numRegs (regInfoOf (now t))) × Widths (regInfoOf (now t)) (now widths) (r .0) ⌝ }
+    ensures same { λ a. ⌜ (a ≡ true → Widths (regInfoOf (now (t .entry))) (now (widths .exit)) (r .0 + 1)) ⌝ }
+    ensures other { λ a. ⌜ (a ≡ false → unequalWidths (regInfoOf (now (t .entry))) ≡ true) ⌝ }
 {
-    let a = bank_for_reg(t, r);
-    let b = bank_for_reg(t, q);
-    if a.0 != b.0 {
-        return false;
-    }
+    let b = bank_for_reg(t, r);
+    let at = wide(b.0);
     let n = num_reg_units(t, r);
-    let m = num_reg_units(t, q);
-    if n == m {
-        return false;
+    if widths[at] == 0 {
+        widths[at] = n;
+        return true;
     }
-    true
-}
-
-fn reg_widths(t: &RegInfo, r: PhysReg) -> bool
-    requires { ⌜ (outsideLimits (regInfoOf (now t)) ≡ false) × (r .0 < numRegs (regInfoOf (now t))) ⌝ }
-    ensures { λ d. ⌜ d ≡ some-below (numRegs (regInfoOf (now (t .entry)))) (widthsDiffer (regInfoOf (now (t .entry))) (r .0)) ⌝ }
-{
-    let mut i: u16 = 0;
-    let mut left = num_regs(t);
-    while 0 < left {
-        if widths_differ(t, r, PhysReg(i)) {
-            return true;
-        }
-        i += 1;
-        left -= 1;
-    }
-    false
+    widths[at] == n
 }
 
 pub fn unequal_widths(t: &RegInfo) -> bool
     requires { ⌜ outsideLimits (regInfoOf (now t)) ≡ false ⌝ }
     ensures { λ r. ⌜ r ≡ unequalWidths (regInfoOf (now (t .entry))) ⌝ }
 {
+    let mut widths = [0usize; 8];
     let mut i: u16 = 0;
     let mut left = num_regs(t);
     while 0 < left {
-        if reg_widths(t, PhysReg(i)) {
+        if !width_agrees(t, PhysReg(i), &mut widths) {
             return true;
         }
         i += 1;

@@ -1,49 +1,42 @@
--- A search over the registers.
-use Prim.Native.Nat.{ℕ, _+_}
-use mathlib.Core.Path.{_≡_, sym, _∙_}
-use mathlib.Core.Bool.{Bool}
-use mathlib.Core.List.{List}
+-- `unequal_widths` meets its contract. The loop's invariant: the widths are those of the registers below i.
+use Prim.Native.Nat.{_+_}
+use mathlib.Core.Path.{_≡_, sym}
 use native.Mathlib.Omega.{arith}
 use borrow.Author.Needs.{needs}
-use Rattle.entity.specs.Logic.{any, indices}
-use Rattle.entity.proofs.Laws.{indices-step}
+use borrow.Author.Tests.{not-true, not-false}
 use Rattle.reginfo.specs.RegInfo.{numRegs}
 use Rattle.reginfo.specs.Table.{regInfoOf}
-use Rattle.reginfo.specs.Refused.{some-below, unequalWidths}
-use Rattle.target_limits.proofs.Laws.{any-here, any-on}
 use Rattle.target_limits.proofs.Limits.{regs-few, counts-of}
-use Rattle.target_rules.specs.Rules.{widthsDiffer}
+use Rattle.target_rules.specs.Rules.{Widths}
+use Rattle.target_rules.proofs.Widths.{widths-none, widths-equal}
 use Rattle.target_rules.proofs.unequal_widths.Statement.{statement}
 use Rattle.target_rules.proofs.unequal_widths.Tie as tie
 
-abbrev bad : List ℕ → ℕ → Bool
-bad t = λ r. some-below (numRegs (regInfoOf t)) (widthsDiffer (regInfoOf t) r)
-
 abbrev Inv-loop : tie.InvT-loop
-Inv-loop t i₀ left₀ i left = (any (bad t) (indices 0 (numRegs (regInfoOf t))) ≡ any (bad t) (indices i left)) × (i + left ≡ numRegs (regInfoOf t))
+Inv-loop t widths₀ i₀ left₀ widths i left = Widths (regInfoOf t) widths i × (i + left ≡ numRegs (regInfoOf t))
 
 abbrev μ-loop : tie.MeasureT-loop
-μ-loop t i₀ left₀ i left = left
+μ-loop t widths₀ i₀ left₀ widths i left = left
 
 num-regs-requires : tie.Need-num-regs-requires Inv-loop μ-loop
 num-regs-requires c κs = search needs
 
 loop-holds : tie.Need-loop-holds Inv-loop μ-loop
-loop-holds c = (rw (c .num-regs .ensures), omega arith)
+loop-holds c = (widths-none (regInfoOf (c .before .args .t .now)), omega arith)
 
-reg-widths-requires : tie.Need-reg-widths-requires Inv-loop μ-loop
-reg-widths-requires c κs = (c .before .before .before .pre, omega arith)
+width-agrees-requires : tie.Need-width-agrees-requires Inv-loop μ-loop
+width-agrees-requires c κs =
+    let s = c .before .before .before .before in
+    let l = c .before .before .loop in
+    (s .pre, omega arith, l .inv .0)
 
 returns : tie.Need-returns Inv-loop μ-loop
-unfolding unequalWidths
-returns c =
-    let turn = c .before .before .before .loop in
-    sym (turn .inv .0 ∙ any-here (bad (c .before .before .before .before .before .args .t .now)) (indices-step (turn .i) (turn .left) (c .before .before .loop-test .taken)) (sym (c .before .reg-widths .ensures) ∙ c .if1 .taken))
+returns c = sym (c .before .width-agrees .ensures .1 (not-true _ (c .if1 .taken)))
 
 add-i : tie.Need-add-i Inv-loop μ-loop
 add-i c =
-    let start = c .before .before .before .before .before in
-    omega (arith, regs-few (regInfoOf (start .args .t .now)) (counts-of (regInfoOf (start .args .t .now)) (start .pre)))
+    let s = c .before .before .before .before .before .before in
+    omega (arith, regs-few (regInfoOf (s .args .t .now)) (counts-of (regInfoOf (s .args .t .now)) (s .pre)))
 
 sub-left : tie.Need-sub-left Inv-loop μ-loop
 sub-left c = search needs
@@ -52,16 +45,13 @@ loop-less : tie.Need-loop-less Inv-loop μ-loop
 loop-less c = search needs
 
 loop-again : tie.Need-loop-again Inv-loop μ-loop
-loop-again c =
-    let turn = c .before .before .before .loop in
-    (turn .inv .0 ∙ any-on (bad (c .before .before .before .before .before .args .t .now)) (indices-step (turn .i) (turn .left) (c .before .before .loop-test .taken)) (sym (c .before .reg-widths .ensures) ∙ c .if1 .left), omega arith)
+loop-again c = (c .before .width-agrees .ensures .0 (not-false _ (c .if1 .left)), omega arith)
 
 returns-2 : tie.Need-returns-2 Inv-loop μ-loop
-unfolding any indices unequalWidths
 returns-2 c =
-    let turn = c .before .loop in
-    let z : turn .left ≡ 0 = omega arith in
-    sym (turn .inv .0 ∙ rw z)
+    let l = c .before .loop in
+    let e : l .i ≡ numRegs (regInfoOf (c .before .before .before .args .t .now)) = omega arith in
+    sym (widths-equal (regInfoOf (c .before .before .before .args .t .now)) (l .widths) (rw e at (l .inv .0)))
 
 pub unequal-widths-spec : {M : Type 1} → statement M
 unequal-widths-spec =
@@ -71,7 +61,7 @@ unequal-widths-spec =
     μ-loop
     num-regs-requires
     loop-holds
-    reg-widths-requires
+    width-agrees-requires
     returns
     add-i
     sub-left
