@@ -5,9 +5,8 @@ use mathlib.Core.Bool.{Bool}
 use mathlib.Core.List.{List}
 use lib.ListN.{length, getD}
 use lib.Dec.{eqb}
-use Rattle.entity.specs.Logic.{and, or, no, any, has, meets}
-use Rattle.reginfo.specs.RegInfo.{RegInfo, numRegs, topLevelClass, stackToStackClass, bankForReg, regUnits, bankForClass, classMembers, allocationOrder, isMemoryReg, includesSpillslots, lastInOrder}
-use Rattle.reginfo.specs.Refused.{some-below}
+use Rattle.entity.specs.Logic.{and, or, no, any, has}
+use Rattle.reginfo.specs.RegInfo.{RegInfo, topLevelClass, stackToStackClass, bankForReg, regUnits, bankForClass, classMembers, allocationOrder, isMemoryReg, includesSpillslots, lastInOrder}
 
 -- 4: at each bank the width of its registers below i, all of which have that one; 0 where there is none
 pub record Widths (t : RegInfo) (w : List ℕ) (i : ℕ) : Type 0 where
@@ -27,13 +26,6 @@ foreignClass t c = or (any (foreignTo t (bankForClass t c)) (classMembers t c)) 
 
 abbrev pub foreignBank : RegInfo → ℕ → Bool
 foreignBank t b = or (no (eqb (bankForClass t (topLevelClass t b)) b)) (no (eqb (bankForClass t (stackToStackClass t b)) b))
-
--- 6: q isn't memory and shares a unit with r
-abbrev pub sharesWith : RegInfo → ℕ → ℕ → Bool
-sharesWith t r q = and (no (isMemoryReg t q)) (meets (regUnits t r) (regUnits t q))
-
-abbrev pub sharedReg : RegInfo → ℕ → Bool
-sharedReg t r = and (isMemoryReg t r) (some-below (numRegs t) (sharesWith t r))
 
 -- 7: the bank's two classes; the class's order
 abbrev pub unfitBank : RegInfo → ℕ → Bool

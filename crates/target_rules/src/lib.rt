@@ -2,6 +2,7 @@
 use entity::PhysReg;
 use entity::RegBank;
 use entity::RegClass;
+use entity::RegUnit;
 use entity::wide;
 use reginfo::RegInfo;
 use reginfo::bank_for_class;
@@ -16,7 +17,7 @@ use reginfo::num_reg_units;
 use reginfo::num_regs;
 use reginfo::order_last;
 use reginfo::order_len;
-use reginfo::regs_overlap;
+use reginfo::reg_unit;
 use reginfo::stack_to_stack_class;
 use reginfo::top_level_class;
 use target_limits::members_from;
@@ -24,11 +25,13 @@ use target_limits::order_from;
 ghost use mathlib.Core.Path.{_≡_};
 ghost use mathlib.Core.Bool.{true, false};
 ghost use Prim.Native.Nat.{_<_, _≤_, _+_};
+ghost use lib.ListN.{length};
 ghost use Rattle.entity.specs.Logic.{any, cells};
 ghost use Rattle.reginfo.specs.RegInfo.{numBanks, numRegs, numClasses, bankForClass, classMembers, allocationOrder, isMemoryReg};
 ghost use Rattle.reginfo.specs.Table.{regInfoOf, Indexed};
 ghost use Rattle.reginfo.specs.Refused.{some-below, allBelow, outsideLimits, unequalWidths, foreignMember, sharedMemory, unfitClass};
-ghost use Rattle.target_rules.specs.Rules.{Widths, foreignTo, noMember, foreignClass, foreignBank, sharesWith, sharedReg, unfitBank, unfitOrder};
+ghost use Rattle.target_rules.specs.Rules.{Widths, foreignTo, noMember, foreignClass, foreignBank, unfitBank, unfitOrder};
+ghost use Rattle.target_rules.specs.UnitKinds.{kindOf, NotedAt, Differs, Noted};
 
 // 4: the registers of a bank have equally many units. `widths` has the width of each bank's registers before r, 0 where there is none.
 // It notes that of a bank's first register, and answers whether r's is its bank's.
@@ -179,51 +182,70 @@ pub fn foreign_member(t: &RegInfo) -> bool
     banks_foreign(t)
 }
 
-// 6: a memory register shares no unit with one that isn't memory.
-fn shares_with(t: &RegInfo, r: PhysReg, q: PhysReg) -> bool
-    requires { ⌜ (outsideLimits (regInfoOf (now t)) ≡ false) × (r .0 < numRegs (regInfoOf (now t))) × (q .0 < numRegs (regInfoOf (now t))) ⌝ }
-    ensures { λ s. ⌜ s ≡ sharesWith (regInfoOf (now (t .entry))) (r .0) (q .0) ⌝ }
+// 6: a memory register shares no unit with one that isn't memory. A table has a kind for each unit: 0 where no register
+// so far lists it, 1 where one that isn't memory does, 2 where a memory register does.
+// `kinds_told` does nothing: a call tells the length of the table that is passed.
+fn kinds_told(kinds: [u8; 512]) -> bool
+    ensures { λ _. ⌜ length kinds ≡ 512 ⌝ }
 {
-    if is_memory_reg(t, q) {
-        return false;
-    }
-    regs_overlap(t, r, q)
+    true
 }
 
-fn reg_shares(t: &RegInfo, r: PhysReg) -> bool
+fn kind_of(t: &RegInfo, r: PhysReg) -> u8
     requires { ⌜ (outsideLimits (regInfoOf (now t)) ≡ false) × (r .0 < numRegs (regInfoOf (now t))) ⌝ }
-    ensures { λ s. ⌜ s ≡ some-below (numRegs (regInfoOf (now (t .entry)))) (sharesWith (regInfoOf (now (t .entry))) (r .0)) ⌝ }
+    ensures { λ k. ⌜ k ≡ kindOf (regInfoOf (now (t .entry))) (r .0) ⌝ }
 {
-    let mut i: u16 = 0;
-    let mut left = num_regs(t);
-    while 0 < left {
-        if shares_with(t, r, PhysReg(i)) {
-            return true;
-        }
-        i += 1;
-        left -= 1;
+    if is_memory_reg(t, r) {
+        return 2;
+    }
+    1
+}
+
+// The unit has the kind; where it had none, it gets it.
+fn unit_agrees(kinds: &mut [u8; 512], u: RegUnit, kind: u8) -> bool
+    requires { ⌜ u .0 < 512 ⌝ }
+    ensures { λ a. ⌜ (a ≡ true → NotedAt (now (kinds .entry)) (now (kinds .exit)) (u .0) kind) × (a ≡ false → Differs (now (kinds .entry)) (u .0) kind) ⌝ }
+{
+    kinds_told(*kinds);
+    let i = wide(u.0);
+    let k = kinds[i];
+    if k == kind {
+        return true;
+    }
+    if k == 0 {
+        kinds[i] = kind;
+        return true;
     }
     false
 }
 
-fn reg_shared(t: &RegInfo, r: PhysReg) -> bool
-    requires { ⌜ (outsideLimits (regInfoOf (now t)) ≡ false) × (r .0 < numRegs (regInfoOf (now t))) ⌝ }
-    ensures { λ s. ⌜ s ≡ sharedReg (regInfoOf (now (t .entry))) (r .0) ⌝ }
+// The register's units have its kind; one that has the other kind is shared.
+fn units_agree(t: &RegInfo, r: PhysReg, kinds: &mut [u8; 512]) -> bool
+    requires { ⌜ (outsideLimits (regInfoOf (now t)) ≡ false) × (r .0 < numRegs (regInfoOf (now t))) × Noted (regInfoOf (now t)) (r .0) (now kinds) ⌝ }
+    ensures { λ a. ⌜ (a ≡ true → Noted (regInfoOf (now (t .entry))) (r .0 + 1) (now (kinds .exit))) × (a ≡ false → sharedMemory (regInfoOf (now (t .entry))) ≡ true) ⌝ }
 {
-    if !is_memory_reg(t, r) {
-        return false;
+    let kind = kind_of(t, r);
+    let n = num_reg_units(t, r);
+    let mut j: usize = 0;
+    while j < n {
+        let u = reg_unit(t, r, j);
+        if !unit_agrees(kinds, u, kind) {
+            return false;
+        }
+        j += 1;
     }
-    reg_shares(t, r)
+    true
 }
 
 pub fn shared_memory(t: &RegInfo) -> bool
     requires { ⌜ outsideLimits (regInfoOf (now t)) ≡ false ⌝ }
     ensures { λ r. ⌜ r ≡ sharedMemory (regInfoOf (now (t .entry))) ⌝ }
 {
+    let mut kinds = [0u8; 512];
     let mut i: u16 = 0;
     let mut left = num_regs(t);
     while 0 < left {
-        if reg_shared(t, PhysReg(i)) {
+        if !units_agree(t, PhysReg(i), &mut kinds) {
             return true;
         }
         i += 1;

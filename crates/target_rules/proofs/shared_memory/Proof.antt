@@ -1,48 +1,38 @@
--- A search over the registers.
-use Prim.Native.Nat.{ℕ, _+_}
-use mathlib.Core.Path.{_≡_, sym, _∙_}
-use mathlib.Core.Bool.{Bool}
-use mathlib.Core.List.{List}
+-- The registers before i are noted.
+use Prim.Native.Nat.{_+_}
+use mathlib.Core.Path.{_≡_, sym}
 use native.Mathlib.Omega.{arith}
 use borrow.Author.Needs.{needs}
-use Rattle.entity.specs.Logic.{any, indices}
-use Rattle.entity.proofs.Laws.{indices-step}
+use borrow.Author.Tests.{not-true, not-false}
 use Rattle.reginfo.specs.RegInfo.{numRegs}
 use Rattle.reginfo.specs.Table.{regInfoOf}
-use Rattle.reginfo.specs.Refused.{sharedMemory}
-use Rattle.target_limits.proofs.Laws.{any-here, any-on}
 use Rattle.target_limits.proofs.Limits.{regs-few, counts-of}
-use Rattle.target_rules.specs.Rules.{sharedReg}
+use Rattle.target_rules.specs.UnitKinds.{Noted}
+use Rattle.target_rules.proofs.UnitKinds.{none-noted, all-noted}
 use Rattle.target_rules.proofs.shared_memory.Statement.{statement}
 use Rattle.target_rules.proofs.shared_memory.Tie as tie
 
-abbrev bad : List ℕ → ℕ → Bool
-bad t = sharedReg (regInfoOf t)
-
 abbrev Inv-loop : tie.InvT-loop
-Inv-loop t i₀ left₀ i left = (any (bad t) (indices 0 (numRegs (regInfoOf t))) ≡ any (bad t) (indices i left)) × (i + left ≡ numRegs (regInfoOf t))
+Inv-loop t kinds₀ i₀ left₀ kinds i left = (i + left ≡ numRegs (regInfoOf t)) × Noted (regInfoOf t) i kinds
 
 abbrev μ-loop : tie.MeasureT-loop
-μ-loop t i₀ left₀ i left = left
+μ-loop t kinds₀ i₀ left₀ kinds i left = left
 
 num-regs-requires : tie.Need-num-regs-requires Inv-loop μ-loop
 num-regs-requires c κs = search needs
 
 loop-holds : tie.Need-loop-holds Inv-loop μ-loop
-loop-holds c = (rw (c .num-regs .ensures), omega arith)
+loop-holds c = (omega arith, none-noted (regInfoOf (c .before .args .t .now)))
 
-reg-shared-requires : tie.Need-reg-shared-requires Inv-loop μ-loop
-reg-shared-requires c κs = (c .before .before .before .pre, omega arith)
+units-agree-requires : tie.Need-units-agree-requires Inv-loop μ-loop
+units-agree-requires c κs = (c .before .before .before .before .pre, omega arith, c .before .before .loop .inv .1)
 
 returns : tie.Need-returns Inv-loop μ-loop
-unfolding sharedMemory
-returns c =
-    let turn = c .before .before .before .loop in
-    sym (turn .inv .0 ∙ any-here (bad (c .before .before .before .before .before .args .t .now)) (indices-step (turn .i) (turn .left) (c .before .before .loop-test .taken)) (sym (c .before .reg-shared .ensures) ∙ c .if1 .taken))
+returns c = sym (c .before .units-agree .ensures .1 (not-true _ (c .if1 .taken)))
 
 add-i : tie.Need-add-i Inv-loop μ-loop
 add-i c =
-    let start = c .before .before .before .before .before in
+    let start = c .before .before .before .before .before .before in
     omega (arith, regs-few (regInfoOf (start .args .t .now)) (counts-of (regInfoOf (start .args .t .now)) (start .pre)))
 
 sub-left : tie.Need-sub-left Inv-loop μ-loop
@@ -52,16 +42,14 @@ loop-less : tie.Need-loop-less Inv-loop μ-loop
 loop-less c = search needs
 
 loop-again : tie.Need-loop-again Inv-loop μ-loop
-loop-again c =
-    let turn = c .before .before .before .loop in
-    (turn .inv .0 ∙ any-on (bad (c .before .before .before .before .before .args .t .now)) (indices-step (turn .i) (turn .left) (c .before .before .loop-test .taken)) (sym (c .before .reg-shared .ensures) ∙ c .if1 .left), omega arith)
+loop-again c = (omega arith, c .before .units-agree .ensures .0 (not-false _ (c .if1 .left)))
 
 returns-2 : tie.Need-returns-2 Inv-loop μ-loop
-unfolding any indices sharedMemory
 returns-2 c =
+    let start = c .before .before .before in
     let turn = c .before .loop in
-    let z : turn .left ≡ 0 = omega arith in
-    sym (turn .inv .0 ∙ rw z)
+    let z : turn .i ≡ numRegs (regInfoOf (start .args .t .now)) = omega arith in
+    sym (all-noted (regInfoOf (start .args .t .now)) (turn .kinds) (rw z at (turn .inv .1)))
 
 pub shared-memory-spec : {M : Type 1} → statement M
 shared-memory-spec =
@@ -71,7 +59,7 @@ shared-memory-spec =
     μ-loop
     num-regs-requires
     loop-holds
-    reg-shared-requires
+    units-agree-requires
     returns
     add-i
     sub-left
