@@ -1,21 +1,17 @@
 -- The patches of a job, one after the other.
-use Prim.Native.Nat.{ℕ, zero, suc, _+_, _-_, _<_, _≤_}
-use mathlib.Core.Path.{_≡_, refl, sym, ap, subst, _∙_}
+use Prim.Native.Nat.{ℕ, suc, _+_, _-_, _<_, _≤_}
+use mathlib.Core.Path.{_≡_, refl, sym, ap, _∙_}
 use mathlib.Core.List.{List, [], _∷_, _++_, append-assoc, append-nil}
 use mathlib.Core.Option.{Option, none, some}
 use native.Mathlib.Omega.{arith}
-use lib.ListN.{length, take, drop, length-append, length-drop}
-use Rattle.reginfo.specs.Table.{regInfoOf}
-use Rattle.function.specs.Table.{functionOf}
-use Rattle.slots.specs.Stacks.{cacheOf}
+use lib.ListN.{length, drop, length-append, length-drop}
 use Rattle.parallel_moves.specs.Given.{CacheOk}
 use Rattle.print.specs.Put.{Put}
 use Rattle.print.proofs.Putting.{nothing-put, then-put, same-length}
 use Rattle.answer_text.specs.Heads.{patchWords}
 use Rattle.job.specs.Job.{Done, Answers, endsWith, before, leftOver, patches}
-use Rattle.answer.specs.Words.{wordsOf, Packed, AllPacked}
+use Rattle.answer.specs.Words.{wordsOf, AllPacked}
 use Rattle.answer.specs.declared.Onward.the-variants as O
-use Rattle.answer.specs.declared.Whole.{Whole}
 use Rattle.answer.specs.declared.Whole.the-variants.{Short}
 use Rattle.answer.specs.Whole.{rest, Next, ended, Wholly}
 

@@ -1,7 +1,7 @@
 -- A patch answered: what the answers of the whole job are from there on.
-use Prim.Native.Nat.{ℕ, suc, _+_, _<_, _≤_}
+use Prim.Native.Nat.{ℕ, suc, _<_, _≤_}
 use mathlib.Core.Path.{_≡_, refl, sym, ap, subst, _∙_}
-use mathlib.Core.List.{List, _∷_, _++_, map}
+use mathlib.Core.List.{List, _∷_, map}
 use mathlib.Core.Option.{some}
 use native.Mathlib.Omega.{arith}
 use lib.ListN.{length, take, drop}
@@ -9,7 +9,6 @@ use Rattle.reginfo.specs.RegInfo.{RegInfo}
 use Rattle.reginfo.specs.Table.{regInfoOf}
 use Rattle.function.specs.Function.{Function}
 use Rattle.function.specs.Table.{functionOf}
-use Rattle.rules.specs.Edit.{Edit}
 use Rattle.rules.specs.Scratch.{Cache}
 use Rattle.rules.specs.Patch.{Patch, Answer, resolve}
 use Rattle.rules.specs.Patch as rules
@@ -17,9 +16,8 @@ use Rattle.edit.specs.Word.{wordOf, AllInRange}
 use Rattle.slots.specs.Stacks.{cacheOf}
 use Rattle.number.specs.Read.{Read, got, refused}
 use Rattle.parallel_moves.specs.Given.{CacheOk}
-use Rattle.print.specs.Put.{Put}
 use Rattle.print.proofs.Printing.{front-words, front-fits}
-use Rattle.answer_text.specs.Heads.{headWord, patchWords}
+use Rattle.answer_text.specs.Heads.{headWord}
 use Rattle.job_patch.specs.Patches.{patch}
 use Rattle.job.specs.declared.Step.the-variants.{Edits, Refused}
 use Rattle.job.specs.Job.{Done, Answers, endsWith, before, afterRead, afterCall, patches}

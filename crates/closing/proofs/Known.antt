@@ -1,7 +1,7 @@
 -- What is known of kept moves that passed their tests, where the limit on slots is put off.
-use Prim.Native.Nat.{ℕ, _+_, _*_, _<_, _≤_}
-use mathlib.Core.Path.{_≡_, refl, sym, ap, _∙_}
-use mathlib.Core.Bool.{Bool, true}
+use Prim.Native.Nat.{ℕ, _+_, _<_, _≤_}
+use mathlib.Core.Path.{_≡_, sym, ap, _∙_}
+use mathlib.Core.Bool.{true}
 use mathlib.Core.List.{List}
 use native.Mathlib.Omega.{arith}
 use lib.ListN.{length, getD}
@@ -16,7 +16,7 @@ use Rattle.function.specs.Known.{Checked}
 use Rattle.function.specs.Table.{functionOf}
 use Rattle.function.proofs.Laws.{few-values, few-slots}
 use Rattle.rules.specs.Order.{noMove}
-use Rattle.rules.specs.Sorted.{MoveOk, SortedOk}
+use Rattle.rules.specs.Sorted.{MoveOk}
 use Rattle.entries.specs.Known.{EntriesOk}
 use Rattle.scratch.specs.State.{T, F, PlaceFits}
 use Rattle.scratch.specs.Diversions.{countAt, allocAt, scratchAt, OthersStay}

@@ -1,9 +1,9 @@
 -- A closed move emitted where a writer of its source is still open.
-use Prim.Native.Nat.{ℕ, zero, suc, _+_, _*_, _<_, _≤_}
-use mathlib.Core.Path.{_≡_, refl, sym, ap, subst, _∙_}
-use mathlib.Core.Bool.{Bool, true, false, false≢true}
+use Prim.Native.Nat.{ℕ, _+_, _<_, _≤_}
+use mathlib.Core.Path.{_≡_, refl, sym, ap, _∙_}
+use mathlib.Core.Bool.{Bool, true, false}
 use mathlib.Core.List.{List, [], _∷_, _++_}
-use mathlib.Core.Option.{Option, none, some}
+use mathlib.Core.Option.{Option, some}
 use mathlib.Core.Logic.{_⊎_, inl, inr, ⊎-elim}
 use native.Mathlib.Omega.{arith}
 use lib.Dec.{eqb}
@@ -26,17 +26,17 @@ use Rattle.machine.proofs.Diversions.{Grown, carry-grown}
 use Rattle.carried.specs.Carried.{countOf, carriedBy}
 use Rattle.scratch.specs.declared.ScratchAllocator.{ScratchAllocator}
 use Rattle.scratch.specs.declared.Scratch.{Scratch}
-use Rattle.scratch.specs.State.{T, F, owed, PlaceFits}
+use Rattle.scratch.specs.State.{T, F, PlaceFits}
 use Rattle.scratch.specs.Contracts.{Tables, stateOf, FitsIn, Moved}
-use Rattle.scratch.specs.Diversions.{Diversion, Diverting, countAt, allocAt, scratchAt, diversionAt, divertBy, Noted, Diverts}
+use Rattle.scratch.specs.Diversions.{Diversion, Diverting, countAt, allocAt, scratchAt, diversionAt, divertBy, Diverts}
 use Rattle.scratch.proofs.Bounds.{fewer}
 use Rattle.scratch.proofs.Agree.{divert-is}
 use Rattle.scratch.proofs.Unlimited.{same-bank}
-use Rattle.visits.specs.Marks.{movesOf, statesOf, isDone, isNoted}
-use Rattle.visits.specs.Carry.{RowsAgree, Counted, CarriedAs}
-use Rattle.closing.specs.State.{Work, Given, KeptValue, Live, Diversions, Stands, Emits}
-use Rattle.closing.specs.Steps.{PaidFor, leadDiverted, Gone, Leads, Led}
-use Rattle.closing.proofs.Known.{value-there, kept-low, source-fits, cells-stay}
+use Rattle.visits.specs.Marks.{movesOf, statesOf, isNoted}
+use Rattle.visits.specs.Carry.{Counted, CarriedAs}
+use Rattle.closing.specs.State.{Work, Given, KeptValue, Live, Stands, Emits}
+use Rattle.closing.specs.Steps.{leadDiverted, Leads, Led}
+use Rattle.closing.proofs.Known.{value-there, source-fits, cells-stay}
 use Rattle.closing.proofs.Room.{roomy}
 
 -- only the value carried is put to what the moves carry

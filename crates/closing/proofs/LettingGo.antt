@@ -1,23 +1,21 @@
 -- A closed move lets go of what it carries, row by row.
-use Prim.Native.Nat.{ℕ, zero, suc, pred, _+_, _-_, _*_, _<_, _≤_}
+use Prim.Native.Nat.{ℕ, suc, pred, _+_, _-_, _<_, _≤_}
 use mathlib.Core.Path.{_≡_, refl, sym, ap, subst, _∙_}
 use mathlib.Core.Bool.{Bool, true, false, false≢true}
-use mathlib.Core.List.{List, [], _∷_}
-use mathlib.Core.Option.{Option, none, some}
-use mathlib.Core.Logic.{_⊎_, inl, inr, ⊎-elim}
+use mathlib.Core.List.{List, _∷_}
+use mathlib.Core.Option.{some}
+use mathlib.Core.Logic.{_⊎_, ⊎-elim}
 use native.Mathlib.Omega.{arith}
 use lib.Dec.{eqb}
-use lib.ListN.{length, getD}
 use borrow.Author.Tests.{eq-eqb, ne-eqb}
-use Rattle.entity.specs.Logic.{pick, or, has}
-use Rattle.entity.specs.Place.{placeAt}
+use Rattle.entity.specs.Logic.{or, has}
 use Rattle.entity.proofs.Laws.{has-getD}
 use Rattle.function.specs.Function.{numValues, valueBank}
 use Rattle.function.specs.Known.{Checked}
 use Rattle.function.specs.Table.{functionOf}
-use Rattle.rules.specs.Edit.{updated, andThen}
-use Rattle.rules.specs.Order.{noMove, State, Diverted, ParallelMoves, withAllocator, withDiverted, lost, undivert, undivertAll}
-use Rattle.rules.proofs.Steps.{All, same?, updated-at, updated-same, updated-other}
+use Rattle.rules.specs.Edit.{andThen}
+use Rattle.rules.specs.Order.{ParallelMoves, withAllocator, withDiverted, lost, undivert, undivertAll}
+use Rattle.rules.proofs.Steps.{All, same?, updated-at}
 use Rattle.machine.proofs.Diversions.{was-live}
 use Rattle.machine.proofs.Bound as bound
 use Rattle.machine.proofs.Bound.{live-some, undivert-paid, Left}
@@ -26,14 +24,14 @@ use Rattle.edit.specs.Buffer as edit
 use Rattle.scratch.specs.declared.ScratchAllocator.{ScratchAllocator}
 use Rattle.scratch.specs.State.{T, F, owed, PlaceFits}
 use Rattle.scratch.specs.Contracts.{Tables, stateOf, FitsIn}
-use Rattle.scratch.specs.Diversions.{Diversion, countAt, allocAt, scratchAt, diversionAt, undivertBy, Noted, Undiverts}
+use Rattle.scratch.specs.Diversions.{countAt, allocAt, scratchAt, diversionAt, Undiverts}
 use Rattle.scratch.proofs.Bounds.{fewer}
 use Rattle.scratch.proofs.Agree.{diversionIn, undivert-is}
 use Rattle.scratch.proofs.Unlimited.{same-bank, all-placed, owed-is}
 use Rattle.visits.specs.Marks.{movesOf, isDone}
-use Rattle.closing.specs.State.{Work, MovesOk, KeptValue, Live, Diversions, Stands}
+use Rattle.closing.specs.State.{Work, MovesOk, KeptValue, Live, Stands}
 use Rattle.closing.specs.Steps.{PaidFor, Gone, LetsGo, RowGone}
-use Rattle.closing.proofs.Known.{kept-there, kept-low, cells-stay}
+use Rattle.closing.proofs.Known.{kept-there, cells-stay}
 use Rattle.closing.proofs.Room.{refit}
 
 has-later : (z v : ℕ) (l : List ℕ) → has z l ≡ true → has z (v ∷ l) ≡ true

@@ -1,23 +1,22 @@
 -- The edits made and owed, and the room that they leave.
-use Prim.Native.Nat.{ℕ, zero, suc, _+_, _*_, _<_, _≤_}
-use mathlib.Core.Path.{_≡_, refl, ap, _∙_}
-use mathlib.Core.Bool.{Bool, true, false, false≢true}
-use mathlib.Core.List.{List, [], _∷_, map}
+use Prim.Native.Nat.{ℕ, suc, _+_, _<_, _≤_}
+use mathlib.Core.Path.{_≡_, ap}
+use mathlib.Core.Bool.{false}
+use mathlib.Core.List.{List}
 use native.Mathlib.Omega.{arith}
-use lib.ListN.{length}
 use Rattle.entity.specs.Logic.{no}
-use Rattle.rules.specs.Edit.{Edit, updated}
-use Rattle.rules.specs.Order.{State, New, Pending, Done, ParallelMoves}
+use Rattle.rules.specs.Edit.{updated}
+use Rattle.rules.specs.Order.{State, Done, ParallelMoves}
 use Rattle.rules.proofs.Steps.{updated-same, updated-other}
-use Rattle.rules.proofs.Sum.{bit, bit-yes, sum, sum-change}
+use Rattle.rules.proofs.Sum.{bit, sum-change}
 use Rattle.machine.proofs.Bound as bound
 use Rattle.edit.specs.Buffer.{countOf}
 use Rattle.scratch.proofs.Bounds as bounds
 use Rattle.scratch.proofs.Unlimited.{owed-is}
 use Rattle.scratch.specs.declared.ScratchAllocator.{ScratchAllocator}
-use Rattle.scratch.specs.State.{T, F, owed, Fits}
-use Rattle.scratch.specs.Contracts.{Tables, stateOf, FitsIn}
-use Rattle.visits.specs.Marks.{movesOf, isDone}
+use Rattle.scratch.specs.State.{owed}
+use Rattle.scratch.specs.Contracts.{Tables, FitsIn}
+use Rattle.visits.specs.Marks.{isDone}
 use Rattle.closing.specs.State.{Work, Stands, unclosed}
 use Rattle.closing.specs.Steps.{PaidFor}
 

@@ -6,3 +6,4 @@ pub mod WasRead
 pub mod Conditions
 pub mod ReadTarget
 pub mod Trials
+pub mod Room

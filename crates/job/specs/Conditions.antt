@@ -1,7 +1,7 @@
 -- 01, Refused jobs, of a job's bytes: "1, 2, 3 as read, the total of order entries with the count that raises it; 4 to 7 rising after the
 -- target; each entry 15, 2, 9, 10, 11, 12 (9 for a rebuild class when the function is read); then 13, 14, 16, 17; 8 last."
 -- For each part of a job, the conditions of reading it, in their order. What stands behind a part has conditions where the part was read.
-use Prim.Native.Nat.{ℕ, zero, suc, _+_, _<_}
+use Prim.Native.Nat.{ℕ, zero, suc, _+_, _<_, _≤_}
 use mathlib.Core.Path.{_≡_}
 use mathlib.Core.Bool.{Bool, true, false}
 use mathlib.Core.List.{List, [], _∷_, _++_}
@@ -16,7 +16,7 @@ use Rattle.reginfo.specs.Refused.{Condition, cond, outsideLimits, listedTwice, 
 use Rattle.reginfo.specs.Given.{Given, NoneHolds}
 use Rattle.function.specs.Function.{Function, numValues}
 use Rattle.rules.specs.Scratch.{Cache, emptyCache}
-use Rattle.rules.specs.Patch.{Patch, Sorted, nothingSorted, Answer, namesPlace, entryConditions, add, sorted, patchConditions, run, resolve}
+use Rattle.rules.specs.Patch.{Patch, Sorted, nothingSorted, Answer, namesPlace, entryConditions, add, sorted, bound, patchConditions, run, resolve}
 use Rattle.rules.specs.Patch as rules
 use Rattle.rules.specs.Refusals.{ranOut}
 use Rattle.number.specs.Read.{Read, got, refused}
@@ -187,3 +187,7 @@ NoNumber = (l : List ℕ) → Bytes l → (unread (number l) ≡ true) ↔ ((n :
 -- "1, 2, 3 as read": of a target that was read neither 2 nor 3 is left
 abbrev pub TargetRead : Type 0
 TargetRead = (l : List ℕ) (t : RegInfo) (r : List ℕ) → target l ≡ got t r → (outsideLimits t ≡ false) × (listedTwice t ≡ false)
+
+-- 16 holds of no patch that is read: the list lent to a call has room for the bound of demand 3
+abbrev pub RoomForEvery : Type 0
+RoomForEvery = (t : RegInfo) (f : Function) (l : List ℕ) (p : Patch) (r : List ℕ) → patch t f l ≡ got p r → bound (sorted t f p) ≤ 1024

@@ -1,11 +1,11 @@
 -- Rebuilds with scratch, one after the other.
-use Prim.Native.Nat.{ℕ, zero, suc, _+_, _*_, _<_, _≤_}
+use Prim.Native.Nat.{ℕ, _+_, _*_, _<_, _≤_}
 use mathlib.Core.Path.{_≡_, refl, sym, ap, subst, _∙_}
 use mathlib.Core.Bool.{Bool, false}
 use mathlib.Core.List.{List, _∷_}
 use mathlib.Core.Option.{Option, some}
 use native.Mathlib.Omega.{arith}
-use lib.ListN.{length, getD, drop, drop-of-length-le, length-map}
+use lib.ListN.{length, getD, drop, drop-of-length-le}
 use Rattle.entity.specs.Place.{placeAt}
 use Rattle.entity.proofs.Laws.{drop-step}
 use Rattle.reginfo.specs.RegInfo.{bankForClass, spillslotSize}
@@ -18,8 +18,7 @@ use Rattle.rules.specs.Order.{Remat, rematWithScratch}
 use Rattle.rules.specs.Sorted.{RematOk}
 use Rattle.rules.proofs.Steps.{All}
 use Rattle.machine.proofs.Bound as bound
-use Rattle.edit.specs.Buffer.{newestFirst, countOf, wordsOf, orEdit, editsOf, Written}
-use Rattle.edit.specs.Word.{editOf}
+use Rattle.edit.specs.Buffer.{countOf, editsOf, Written}
 use Rattle.search.specs.Search.{barredBy}
 use Rattle.scratch.specs.declared.ScratchAllocator.{ScratchAllocator}
 use Rattle.scratch.specs.declared.Scratch.{Scratch}

@@ -97,13 +97,15 @@ module _ (t : RegInfo) (h : outsideLimits t ≡ false) where
   pub order-listed : (c : ℕ) → c < numClasses t → listFits t (allocationOrder t c) ≡ true
   order-listed c k = class-lists t (limits .3) c k .3
 
-  pub width-few : (r : ℕ) → r < numRegs t → length (regUnits t r) ≤ 8
+  pub reg-limits : (r : ℕ) → r < numRegs t
+      → (leb (regMemory t r) 1 ≡ true) × (ltb (bankForReg t r) (numBanks t) ≡ true) × (within 1 8 (length (regUnits t r)) ≡ true) × (allBelow (t .units) (regUnits t r) ≡ true)
   unfolding regFits
-  width-few r k =
-      within-high 1 8 (length (regUnits t r))
-      (and4 (leb (regMemory t r) 1) (ltb (bankForReg t r) (numBanks t)) (within 1 8 (length (regUnits t r))) (allBelow (t .units) (regUnits t r))
+  reg-limits r k =
+      and4 (leb (regMemory t r) 1) (ltb (bankForReg t r) (numBanks t)) (within 1 8 (length (regUnits t r))) (allBelow (t .units) (regUnits t r))
       (no-false (regFits t r) (any-below (λ x. no (regFits t x)) (numRegs t) r (limits .2) k))
-      .2)
+
+  pub width-few : (r : ℕ) → r < numRegs t → length (regUnits t r) ≤ 8
+  width-few r k = within-high 1 8 (length (regUnits t r)) (reg-limits r k .2)
 
   bank-classes : (b : ℕ) → b < numBanks t → (leb (spillslotSize t b) 31 ≡ true) × (ltb (topLevelClass t b) (numClasses t) ≡ true) × (ltb (stackToStackClass t b) (numClasses t) ≡ true)
   unfolding bankFits

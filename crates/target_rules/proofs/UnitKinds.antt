@@ -1,38 +1,20 @@
 -- Rule 6 by a kind for each unit: what a table of kinds knows while it is filled, and what that says of the target.
 use Prim.Native.Nat.{ℕ, zero, suc, _+_, _<_}
-use mathlib.Core.Path.{_≡_, refl, sym, ap, _∙_}
+use mathlib.Core.Path.{_≡_, refl, sym, _∙_}
 use mathlib.Core.Bool.{Bool, true, false, true≢false, false≢true}
 use mathlib.Core.List.{List, [], _∷_}
 use native.Mathlib.Omega.{arith}
 use borrow.Author.Tests.{eqb-true, eqb-false, ltb-true}
-use lib.Dec.{eqb, ltb, leb}
+use lib.Dec.{eqb, ltb}
 use lib.ListN.{getD, set, length, replicate}
 use lib.Seq.{getD-set-same, getD-set-other}
-use Rattle.entity.specs.Logic.{pick, and, or, no, any, has, meets, indices}
-use Rattle.entity.proofs.Laws.{or-false, and-true, no-false, never-true, any-below, all-at, has-where, has-getD}
-use Rattle.reginfo.specs.RegInfo.{RegInfo, numBanks, numRegs, numClasses, regMemory, bankForReg, regUnits, isMemoryReg}
-use Rattle.reginfo.specs.Refused.{some-below, within, allBelow, orderTotal, countsFit, bankFits, regFits, classFits, outsideLimits, sharedMemory}
-use Rattle.target_limits.proofs.Limits.{within-high, counts-of}
+use Rattle.entity.specs.Logic.{pick, and, or, no, has, meets}
+use Rattle.entity.proofs.Laws.{and-true, never-true, all-at, has-where, has-getD}
+use Rattle.reginfo.specs.RegInfo.{RegInfo, numBanks, numRegs, numClasses, regUnits, isMemoryReg}
+use Rattle.reginfo.specs.Refused.{some-below, within, countsFit, outsideLimits, sharedMemory}
+use Rattle.target_limits.proofs.Limits.{within-high, counts-of, reg-limits}
 use Rattle.target_rules.specs.UnitKinds.{kindOf, NotedAt, Differs, Lister, Noted}
-
--- an index below n passes the test, or none does
-some-true : (p : ℕ → Bool) (n i : ℕ) → i < n → p i ≡ true → some-below n p ≡ true
-some-true p n i h e = go (some-below n p) refl
-  where
-    go : (b : Bool) → some-below n p ≡ b → some-below n p ≡ true
-    go true q = q
-    go false q = absurd (true≢false (sym e ∙ any-below p n i q h))
-
-none-from : (p : ℕ → Bool) (a n : ℕ) → ((i : ℕ) → i < n → p (a + i) ≡ false) → any p (indices a n) ≡ false
-unfolding any indices
-none-from p a zero h = refl
-none-from p a (suc n) h =
-    let z : a + 0 ≡ a = omega arith in
-    let on : any p (indices (a + 1) n) ≡ false = none-from p (a + 1) n (λ i l. let s : a + 1 + i ≡ a + suc i = omega arith in ap p s ∙ h (suc i) (omega arith)) in
-    rw (sym (ap p z) ∙ h 0 (omega arith), on)
-
-some-false : (p : ℕ → Bool) (n : ℕ) → ((i : ℕ) → i < n → p i ≡ true → ⊥) → some-below n p ≡ false
-some-false p n h = none-from p 0 n (λ i l. let z : 0 + i ≡ i = omega arith in ap p z ∙ never-true (p i) (h i l))
+use Rattle.target_rules.proofs.Some.{some-at, none-at}
 
 -- two lists share a number that both list
 meets-true : (l m : List ℕ) (u : ℕ) → has u l ≡ true → has u m ≡ true → meets l m ≡ true
@@ -77,8 +59,8 @@ module _ (t : RegInfo) where
   unfolding sharedMemory
   both-list r q u h k m n a b =
       let here : shares r q ≡ true = rw (n, meets-true (regUnits t r) (regUnits t q) u a b) in
-      let there : shared r ≡ true = rw (m, some-true (shares r) (numRegs t) q k here) in
-      some-true shared (numRegs t) r h there
+      let there : shared r ≡ true = rw (m, some-at (shares r) (numRegs t) q k here) in
+      some-at shared (numRegs t) r h there
 
   -- two registers of different kinds do
   kinds-differ : (r q u : ℕ) → r < numRegs t → q < numRegs t → Lists r u → Lists q u → (kindOf t q ≡ kindOf t r → ⊥) → sharedMemory t ≡ true
@@ -106,11 +88,11 @@ module _ (t : RegInfo) where
     shared-none : (r : ℕ) → r < numRegs t → shared r ≡ true → ⊥
     shared-none r h e =
         let p = and-true (isMemoryReg t r) (some-below (numRegs t) (shares r)) e in
-        true≢false (sym (p .1) ∙ some-false (shares r) (numRegs t) (λ q k s. shares-none r q h k (p .0) s))
+        true≢false (sym (p .1) ∙ none-at (shares r) (numRegs t) (λ q k. never-true (shares r q) (shares-none r q h k (p .0))))
 
     kinds-same : sharedMemory t ≡ false
     unfolding sharedMemory
-    kinds-same = some-false shared (numRegs t) shared-none
+    kinds-same = none-at shared (numRegs t) (λ r h. never-true (shared r) (shared-none r h))
 
   -- every register's units are noted
   pub all-noted : (kinds : List ℕ) → Noted t (numRegs t) kinds → sharedMemory t ≡ false
@@ -209,23 +191,6 @@ module _ (t : RegInfo) (h : outsideLimits t ≡ false) where
   unfolding countsFit
   units-few = and-true (within 1 512 (t .units)) (and (within 1 8 (numBanks t)) (and (within 1 512 (numRegs t)) (within 1 64 (numClasses t)))) (counts-of t h) .0
 
-  regs-fit : some-below (numRegs t) (λ r. no (regFits t r)) ≡ false
-  unfolding outsideLimits
-  regs-fit =
-      let bs = some-below (numBanks t) (λ b. no (bankFits t b)) in
-      let rs = some-below (numRegs t) (λ r. no (regFits t r)) in
-      let rest = or (some-below (numClasses t) (λ c. no (classFits t c))) (ltb 4096 (orderTotal (t .classes))) in
-      or-false rs rest (or-false bs (or rs rest) (or-false (no (countsFit t)) (or bs (or rs rest)) h .1) .1) .0
-
-  units-below : (r : ℕ) → r < numRegs t → allBelow (t .units) (regUnits t r) ≡ true
-  unfolding regFits
-  units-below r k =
-      let a = leb (regMemory t r) 1 in
-      let b = ltb (bankForReg t r) (numBanks t) in
-      let c = within 1 8 (length (regUnits t r)) in
-      let d = allBelow (t .units) (regUnits t r) in
-      and-true c d (and-true b (and c d) (and-true a (and b (and c d)) (no-false (regFits t r) (any-below (λ x. no (regFits t x)) (numRegs t) r regs-fit k)) .1) .1) .1
-
   pub unit-low : (r j : ℕ) → r < numRegs t → j < length (regUnits t r) → getD (regUnits t r) j 0 < 512
   unit-low r j k l =
-      omega (arith, within-high 1 512 (t .units) units-few, ltb-true (getD (regUnits t r) j 0) (t .units) (all-at (λ x. ltb x (t .units)) (regUnits t r) j 0 (units-below r k) l))
+      omega (arith, within-high 1 512 (t .units) units-few, ltb-true (getD (regUnits t r) j 0) (t .units) (all-at (λ x. ltb x (t .units)) (regUnits t r) j 0 (reg-limits t h r k .3) l))

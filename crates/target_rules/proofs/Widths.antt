@@ -1,37 +1,20 @@
 -- Rule 4: the widths of the banks' registers, one register after another.
 use Prim.Native.Nat.{ℕ, zero, suc, _+_, _<_, _≤_}
 use mathlib.Core.Path.{_≡_, refl, sym, ap, _∙_}
-use mathlib.Core.Bool.{Bool, true, false, true≢false}
+use mathlib.Core.Bool.{Bool, true, false}
 use mathlib.Core.List.{List}
 use native.Mathlib.Omega.{arith}
-use lib.Dec.{eqb, ltb, leb}
+use lib.Dec.{eqb, leb}
 use lib.ListN.{length, getD, set, length-set, replicate, length-replicate}
 use lib.Seq.{getD-set-same, getD-set-other}
 use borrow.Author.Tests.{eq-eqb, ne-eqb, eqb-true, eqb-false, ltb-true, leb-true}
-use Rattle.entity.specs.Logic.{and, or, no, any, indices}
-use Rattle.entity.proofs.Laws.{or-false, and-true, no-false, any-below}
-use Rattle.reginfo.specs.RegInfo.{RegInfo, numBanks, numRegs, numClasses, regMemory, bankForReg, regUnits}
-use Rattle.reginfo.specs.Refused.{some-below, within, allBelow, orderTotal, countsFit, bankFits, regFits, classFits, outsideLimits, unequalWidths}
-use Rattle.target_limits.proofs.Limits.{banks-few, counts-of}
+use Rattle.entity.specs.Logic.{and, no}
+use Rattle.entity.proofs.Laws.{and-true}
+use Rattle.reginfo.specs.RegInfo.{RegInfo, numBanks, numRegs, bankForReg, regUnits}
+use Rattle.reginfo.specs.Refused.{some-below, outsideLimits, unequalWidths}
+use Rattle.target_limits.proofs.Limits.{banks-few, counts-of, reg-limits}
 use Rattle.target_rules.specs.Rules.{Widths}
-
--- some index below n passes the test, or none does
-some-at : (p : ℕ → Bool) (n i : ℕ) → i < n → p i ≡ true → some-below n p ≡ true
-some-at p n i h e = go (some-below n p) refl
-  where
-    go : (b : Bool) → some-below n p ≡ b → b ≡ true
-    go true q = refl
-    go false q = absurd (true≢false (sym e ∙ any-below p n i q h))
-
-none-from : (p : ℕ → Bool) (a n : ℕ) → ((i : ℕ) → i < n → p (a + i) ≡ false) → any p (indices a n) ≡ false
-unfolding any indices
-none-from p a zero f = refl
-none-from p a (suc n) f =
-    let z : a ≡ a + 0 = omega arith in
-    rw (ap p z ∙ f 0 (omega arith), none-from p (a + 1) n (λ i h. let y : a + 1 + i ≡ a + suc i = omega arith in ap p y ∙ f (suc i) (omega arith)))
-
-none-at : (p : ℕ → Bool) (n : ℕ) → ((i : ℕ) → i < n → p i ≡ false) → some-below n p ≡ false
-none-at p n f = none-from p 0 n (λ i h. let z : 0 + i ≡ i = omega arith in ap p z ∙ f i h)
+use Rattle.target_rules.proofs.Some.{some-at, none-at}
 
 module _ (t : RegInfo) where
   -- r and q are of one bank and have not equally many units
@@ -61,25 +44,11 @@ module _ (t : RegInfo) where
 
   -- within the limits
   module _ (h : outsideLimits t ≡ false) where
-    reg-limits : (r : ℕ) → r < numRegs t → (ltb (bankForReg t r) (numBanks t) ≡ true) × (within 1 8 (length (regUnits t r)) ≡ true)
-    unfolding outsideLimits regFits
-    reg-limits r k =
-        let bs = some-below (numBanks t) (λ b. no (bankFits t b)) in
-        let rs = some-below (numRegs t) (λ r. no (regFits t r)) in
-        let on = or (some-below (numClasses t) (λ c. no (classFits t c))) (ltb 4096 (orderTotal (t .classes))) in
-        let all = or-false rs on (or-false bs (or rs on) (or-false (no (countsFit t)) (or bs (or rs on)) h .1) .1) .0 in
-        let bank = ltb (bankForReg t r) (numBanks t) in
-        let width = within 1 8 (length (regUnits t r)) in
-        let units = allBelow (t .units) (regUnits t r) in
-        let p = and-true (leb (regMemory t r) 1) (and bank (and width units)) (no-false (regFits t r) (any-below (λ r. no (regFits t r)) (numRegs t) r all k)) in
-        let q = and-true bank (and width units) (p .1) in
-        (q .0, and-true width units (q .1) .0)
-
     pub bank-low : (r : ℕ) → r < numRegs t → bankForReg t r < 8
-    bank-low r k = omega (arith, ltb-true (bankForReg t r) (numBanks t) (reg-limits r k .0), banks-few t (counts-of t h))
+    bank-low r k = omega (arith, ltb-true (bankForReg t r) (numBanks t) (reg-limits t h r k .1), banks-few t (counts-of t h))
 
     width-some : (r : ℕ) → r < numRegs t → 1 ≤ length (regUnits t r)
-    width-some r k = leb-true 1 (length (regUnits t r)) (and-true (leb 1 (length (regUnits t r))) (leb (length (regUnits t r)) 8) (reg-limits r k .1) .0)
+    width-some r k = leb-true 1 (length (regUnits t r)) (and-true (leb 1 (length (regUnits t r))) (leb (length (regUnits t r)) 8) (reg-limits t h r k .2) .0)
 
     -- register i, where w has the widths before it
     module _ (w : List ℕ) (i : ℕ) (k : i < numRegs t) (s : Widths t w i) where
