@@ -1,14 +1,11 @@
 -- What the calls answer, as numbers.
-use Prim.Native.Nat.{ℕ, _+_, _≤_}
-use mathlib.Core.Path.{_≡_, refl, sym, ap, _∙_}
+use Prim.Native.Nat.{ℕ, _+_}
+use mathlib.Core.Path.{_≡_, refl}
 use mathlib.Core.List.{List}
-use mathlib.Core.Option.{Option, none, some}
+use mathlib.Core.Option.{none, some}
 use native.Mathlib.Omega.{arith}
-use Rattle.function.specs.Table.{functionOf}
-use Rattle.rules.specs.Scratch.{Cache}
-use Rattle.rules.specs.Patch.{Entry, Patch, Answer, refused, resolved, nothingSorted, resolveFrom}
+use Rattle.rules.specs.Patch.{Entry, Answer, refused, resolved, nothingSorted}
 use Rattle.slots.specs.Steps.{Cleared}
-use Rattle.scratch.specs.State.{T}
 use Rattle.entries.specs.Table.{sortedOf}
 use Rattle.number.specs.Read as read
 use Rattle.number.specs.Read.{Read}
@@ -19,7 +16,7 @@ use Rattle.parallel_moves.specs.Steps.{AllAdded}
 use Rattle.parallel_moves.proofs.Resolving.{fresh}
 use Rattle.job.specs.Job.{Header}
 use Rattle.job.specs.Steps.{HeaderAt}
-use Rattle.bench_c.specs.Benched.{codeOf, OpenedAs, AddedAllAs, ResolvedAs}
+use Rattle.bench_c.specs.Benched.{OpenedAs, AddedAllAs, ResolvedAs}
 
 pub not-opened : (s t f cache : List ℕ) (k : ℕ) (x : Read Header) → HeaderAt s x (N.Refused k) t f → OpenedAs s x 0 t f cache
 not-opened s t f cache k (read.refused j) h = refl

@@ -1,5 +1,5 @@
 -- Laws of the rows.
-use Prim.Native.Nat.{ℕ, zero, suc, _+_, _-_, _*_, _<_, _≤_}
+use Prim.Native.Nat.{ℕ, zero, suc, _+_, _-_, _*_, _<_}
 use mathlib.Core.Path.{_≡_, refl, sym, ap, _∙_}
 use mathlib.Core.Bool.{Bool, true, false}
 use mathlib.Core.List.{List, [], _∷_, _++_, append-nil}
@@ -9,7 +9,7 @@ use lib.ListN.{getD, set, length, length-set}
 use lib.Seq.{getD-set-same, getD-set-other}
 use borrow.Author.Tests.{eq-eqb, ne-eqb, eqb-true, eqb-false}
 use Rattle.entity.specs.Logic.{pick, and, or, has}
-use Rattle.carried.specs.Carried.{countOf, moveAt, valueAt, rowsOf, carriedBy}
+use Rattle.carried.specs.Carried.{moveAt, valueAt, rowsOf}
 
 -- one row more, from the front
 pub has-row : (t : List ℕ) (i n m v : ℕ) → 0 < n → has v (rowsOf t i n m) ≡ or (and (eqb (moveAt t i) m) (eqb v (valueAt t i))) (has v (rowsOf t (i + 1) (n - 1) m))

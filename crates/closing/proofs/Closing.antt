@@ -1,20 +1,19 @@
 -- A move closes.
-use Prim.Native.Nat.{ℕ, suc, _+_, _*_, _<_, _≤_}
-use mathlib.Core.Path.{_≡_, refl, sym, ap, subst, _∙_}
-use mathlib.Core.Bool.{Bool, true, false, false≢true}
+use Prim.Native.Nat.{ℕ, _<_}
+use mathlib.Core.Path.{_≡_, sym, ap, subst, _∙_}
+use mathlib.Core.Bool.{false, false≢true}
 use mathlib.Core.List.{List}
-use mathlib.Core.Option.{some}
 use native.Mathlib.Omega.{arith}
 use lib.ListN.{length}
 use Rattle.rules.specs.Edit.{updated, andThen}
-use Rattle.rules.specs.Order.{State, New, Pending, Done, isPending, ParallelMoves, withState, lead, undivertAll, close}
-use Rattle.rules.proofs.Steps.{All, updated-at, updated-same, updated-other}
+use Rattle.rules.specs.Order.{State, Done, isPending, ParallelMoves, withState, lead, undivertAll, close}
+use Rattle.rules.proofs.Steps.{All, updated-at, updated-same}
 use Rattle.machine.proofs.Bound.{Paid, done-paid, lead-paid}
-use Rattle.carried.specs.Carried.{countOf, carriedBy}
+use Rattle.carried.specs.Carried.{countOf}
 use Rattle.scratch.specs.declared.ScratchAllocator.{ScratchAllocator}
 use Rattle.scratch.specs.State.{T, F}
 use Rattle.visits.specs.Marks.{movesOf, statesOf, isDone, isNoted}
-use Rattle.closing.specs.State.{Work, MovesOk, Given, Stands}
+use Rattle.closing.specs.State.{Work, MovesOk}
 use Rattle.closing.specs.Steps.{PaidFor, Gone, Leads, Led, LetsGo, Closes}
 use Rattle.scratch.proofs.Unlimited.{all-placed}
 use Rattle.closing.proofs.Room.{unclosed-done}

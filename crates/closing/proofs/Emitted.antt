@@ -1,18 +1,16 @@
 -- A kept move emitted.
-use Prim.Native.Nat.{ℕ, _+_, _<_, _≤_}
-use mathlib.Core.Path.{_≡_, sym, ap, subst, _∙_}
+use Prim.Native.Nat.{ℕ}
+use mathlib.Core.Path.{_≡_}
 use mathlib.Core.List.{List}
-use native.Mathlib.Omega.{arith}
-use lib.ListN.{length, getD}
-use Rattle.entity.specs.Place.{Place, placeAt}
-use Rattle.reginfo.specs.RegInfo.{numBanks}
+use lib.ListN.{getD}
+use Rattle.entity.specs.Place.{placeAt}
 use Rattle.function.specs.Function.{valueBank}
 use Rattle.function.specs.Table.{functionOf}
 use Rattle.function.proofs.Laws.{bank-there}
 use Rattle.rules.specs.Scratch.{doMove}
 use Rattle.rules.specs.Order.{noMove, value, dest}
 use Rattle.scratch.specs.declared.ScratchAllocator.{ScratchAllocator}
-use Rattle.scratch.specs.State.{T, F, PlaceFits, Movable}
+use Rattle.scratch.specs.State.{T, F, Movable}
 use Rattle.scratch.specs.Contracts.{Tables, Moved}
 use Rattle.scratch.proofs.Unlimited.{same-bank}
 use Rattle.visits.specs.Marks.{movesOf}

@@ -20,7 +20,7 @@ use Rattle.job_target.specs.Target.{target}
 use Rattle.job_function.specs.Reads.{function}
 use Rattle.job_function.proofs.Accepted.{read-accepted}
 use Rattle.job_patch.specs.Patches.{unlessGiven, patch}
-use Rattle.job.specs.Job.{Header, afterTarget, header, opening}
+use Rattle.job.specs.Job.{afterTarget, header, opening}
 use Rattle.job.specs.Claim.{afterPatch, PatchesRight, Opened, EveryJob}
 
 right : (t : RegInfo) (f : Function) (n : ℕ) (c : Cache) → ((calls : List Call) → Claim t f calls c) → (l : List ℕ) → PatchesRight t f n c l

@@ -1,18 +1,15 @@
 -- The opening of a job: target, function and patch count.
-use Prim.Native.Nat.{ℕ, _+_, _<_, _≤_}
-use mathlib.Core.Path.{_≡_, refl, sym, ap, _∙_}
+use Prim.Native.Nat.{ℕ, _<_, _≤_}
+use mathlib.Core.Path.{_≡_, refl, sym}
 use mathlib.Core.List.{List}
-use mathlib.Core.Option.{Option, none, some}
-use native.Mathlib.Omega.{arith}
-use lib.Dec.{ltb}
+use mathlib.Core.Option.{none, some}
 use lib.ListN.{length, drop}
 use borrow.Author.Tests.{lt-ltb, le-ltb}
-use Rattle.entity.specs.Logic.{pick}
 use Rattle.reginfo.specs.Refused.{Accepted, targetRefusal}
 use Rattle.reginfo.specs.Table.{regInfoOf, Indexed}
 use Rattle.function.specs.Known.{Checked}
 use Rattle.function.specs.Table.{functionOf}
-use Rattle.number.specs.Read.{Read, got, refused, then}
+use Rattle.number.specs.Read.{refused}
 use Rattle.number.specs.declared.Number.{Number}
 use Rattle.number.specs.declared.Number.the-variants as N
 use Rattle.reading.specs.Reading.{between}
@@ -24,7 +21,7 @@ use Rattle.job_function.specs.Reads.{function}
 use Rattle.job_function.specs.Answer.{FunctionRead}
 use Rattle.job_function.proofs.Accepted.{read-accepted}
 use Rattle.job_patch.specs.Patches.{unlessGiven}
-use Rattle.job.specs.Job.{Header, afterTarget, header, opening}
+use Rattle.job.specs.Job.{afterTarget, header, opening}
 use Rattle.job.specs.Steps.{HeaderAt}
 
 module _ (s t f : List ℕ) (at : ℕ) where

@@ -1,32 +1,29 @@
 -- An entry read part by part, and added.
-use Prim.Native.Nat.{ℕ, _+_, _<_, _≤_}
-use mathlib.Core.Path.{_≡_, refl, sym, ap, _∙_}
-use mathlib.Core.Bool.{Bool, true, false}
+use Prim.Native.Nat.{ℕ, _<_, _≤_}
+use mathlib.Core.Path.{_≡_, refl}
+use mathlib.Core.Bool.{true, false}
 use mathlib.Core.List.{List}
 use mathlib.Core.Option.{Option, none, some}
 use native.Mathlib.Omega.{arith}
 use lib.ListN.{length, drop}
 use borrow.Author.Tests.{ne-eqb}
-use Rattle.entity.specs.Logic.{pick}
 use Rattle.entity.specs.Place.{Place, placeAt}
-use Rattle.reginfo.specs.RegInfo.{RegInfo}
 use Rattle.reginfo.specs.Table.{regInfoOf}
 use Rattle.function.specs.Function.{numValues}
 use Rattle.function.specs.Table.{functionOf}
 use Rattle.rules.specs.Patch.{Entry, move, remat, namesPlace}
-use Rattle.entries.specs.Table.{sortedOf}
 use Rattle.entries.specs.Known.{EntriesOk}
 use Rattle.entries.specs.Answers.{AddedAs}
 use Rattle.number.specs.Read.{Read, got, refused, then}
 use Rattle.number.specs.Number.{number}
-use Rattle.number.specs.Answer.{readOf, Onward, NumberAt}
+use Rattle.number.specs.Answer.{NumberAt}
 use Rattle.number.specs.declared.Number.the-variants as N
 use Rattle.reading.specs.Reading.{below}
-use Rattle.reading.specs.Answer.{ReadAt, nextOf, Past, NextAt}
+use Rattle.reading.specs.Answer.{Past}
 use Rattle.reading.specs.declared.Next.{Next}
 use Rattle.reading.specs.declared.Next.the-variants.{At, Refused}
-use Rattle.job_patch.specs.Patches.{unlessGiven, place, entry}
-use Rattle.job_patch.specs.Steps.{placeIs, PlaceAt, adding, addedAt, EntryAt}
+use Rattle.job_patch.specs.Patches.{place, entry}
+use Rattle.job_patch.specs.Steps.{PlaceAt, addedAt, EntryAt}
 
 -- a place that is named, one that is not, and no number
 module _ (t f s : List ℕ) (at : ℕ) where

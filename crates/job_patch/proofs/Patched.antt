@@ -1,11 +1,11 @@
 -- A patch: its free units, then its entries.
-use Prim.Native.Nat.{ℕ, _≤_}
-use mathlib.Core.Path.{_≡_, refl, sym, ap, _∙_}
+use Prim.Native.Nat.{ℕ}
+use mathlib.Core.Path.{_≡_, refl, _∙_}
 use mathlib.Core.Bool.{Bool}
 use mathlib.Core.List.{List}
 use native.Mathlib.Omega.{arith}
-use lib.ListN.{length, drop}
-use Rattle.entity.specs.Logic.{or, has}
+use lib.ListN.{drop}
+use Rattle.entity.specs.Logic.{has}
 use Rattle.reginfo.specs.RegInfo.{RegInfo}
 use Rattle.reginfo.specs.Table.{regInfoOf}
 use Rattle.function.specs.Function.{Function}

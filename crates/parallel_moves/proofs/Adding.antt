@@ -1,20 +1,17 @@
 -- The entries of a patch, added one after the other.
-use Prim.Native.Nat.{ℕ, zero, suc, _+_, _-_, _<_, _≤_}
-use mathlib.Core.Path.{_≡_, refl, sym, ap, _∙_}
-use mathlib.Core.Bool.{Bool, true, false}
+use Prim.Native.Nat.{ℕ, _+_, _-_, _<_, _≤_}
+use mathlib.Core.Path.{_≡_, refl, _∙_}
+use mathlib.Core.Bool.{Bool}
 use mathlib.Core.List.{List, [], _∷_}
 use mathlib.Core.Option.{Option, none, some}
 use native.Mathlib.Omega.{arith}
-use lib.Dec.{eqb}
 use lib.ListN.{length, getD, drop, length-drop, drop-of-length-le}
-use borrow.Author.Tests.{eq-eqb, ne-eqb}
+use borrow.Author.Tests.{ne-eqb}
 use Rattle.entity.specs.Place.{placeAt}
 use Rattle.entity.proofs.Laws.{drop-step}
-use Rattle.reginfo.specs.Refused.{firstOf}
-use Rattle.function.specs.Known.{Checked}
 use Rattle.function.specs.Table.{functionOf}
 use Rattle.rules.specs.Scratch.{Cache}
-use Rattle.rules.specs.Patch.{Entry, move, remat, Patch, Answer, nothingSorted, unlessRefused, entryConditions, add, resolveSorted, resolveFrom, resolve}
+use Rattle.rules.specs.Patch.{Entry, move, remat, Patch, nothingSorted, resolveSorted, resolveFrom, resolve}
 use Rattle.scratch.specs.State.{T}
 use Rattle.entries.specs.Table.{sortedOf}
 use Rattle.entries.specs.Known.{EntriesOk}

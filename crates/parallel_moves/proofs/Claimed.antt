@@ -1,6 +1,6 @@
 -- Demand 3 of the code: the theorem about the rules, carried to every list of calls.
 use Prim.Native.Nat.{ℕ}
-use mathlib.Core.Path.{_≡_, refl, sym, ap, subst, _∙_}
+use mathlib.Core.Path.{_≡_, refl, ap, _∙_}
 use mathlib.Core.List.{List, [], _∷_, map}
 use lib.ListN.{length}
 use Rattle.reginfo.specs.Table.{regInfoOf}

@@ -1,8 +1,8 @@
 -- A patch resolved: what is asked of its end, and that the answer is that of the rules.
-use Prim.Native.Nat.{ℕ, _+_, _*_, _<_, _≤_}
-use mathlib.Core.Path.{_≡_, refl, sym, ap, subst, _∙_}
+use Prim.Native.Nat.{ℕ, _+_, _<_, _≤_}
+use mathlib.Core.Path.{_≡_, refl, sym, subst, _∙_}
 use mathlib.Core.Bool.{Bool, true, false}
-use mathlib.Core.List.{List, [], _∷_, _++_, map}
+use mathlib.Core.List.{List, [], _++_}
 use mathlib.Core.Option.{Option, none, some}
 use native.Mathlib.Omega.{arith}
 use lib.Dec.{ltb}
@@ -16,18 +16,17 @@ use Rattle.function.specs.Table.{functionOf}
 use Rattle.function.proofs.Laws.{low-limit}
 use Rattle.small_set.specs.Set.{setOf}
 use Rattle.rules.specs.Scratch as rules
-use Rattle.rules.specs.Patch.{Patch, Sorted, bound, Answer, refused, resolved, patchConditions, run, resolveSorted}
+use Rattle.rules.specs.Patch.{Patch, bound, Answer, resolved, patchConditions, run, resolveSorted}
 use Rattle.rules.specs.Sorted.{SortedOk}
-use Rattle.rules.specs.Refusals.{withLimit, ByLimit}
+use Rattle.rules.specs.Refusals.{ByLimit}
 use Rattle.rules.proofs.Steps.{All}
 use Rattle.rules.proofs.Limit.{by-limit}
 use Rattle.machine.specs.Slots.{InStacks}
 use Rattle.machine.proofs.Bound.{run-few}
 use Rattle.machine.proofs.Slots.{slots-empty, run-stacks, stack-few}
-use Rattle.edit.specs.Word.{wordOf}
 use Rattle.edit.specs.Buffer.{countOf, wordsOf, editsOf}
 use Rattle.edit.proofs.Laws.{length-edits, all-in-range}
-use Rattle.slots.specs.Stacks.{cacheOf, stacksOf}
+use Rattle.slots.specs.Stacks.{cacheOf}
 use Rattle.slots.specs.Steps.{Cleared, Committed}
 use Rattle.scratch.specs.declared.ScratchAllocator.{ScratchAllocator}
 use Rattle.scratch.specs.State.{T, F, cacheIn}
@@ -41,7 +40,7 @@ use Rattle.closing.proofs.Known.{given}
 use Rattle.parallel_moves.specs.declared.Resolved as R
 use Rattle.parallel_moves.specs.declared.Resolved.{Resolved}
 use Rattle.parallel_moves.specs.Given.{freeOf, CacheOk}
-use Rattle.parallel_moves.specs.Answers.{numberOf, editsIn, Gives}
+use Rattle.parallel_moves.specs.Answers.{Gives}
 use Rattle.parallel_moves.specs.Steps.{Ran, CanHandOver, HandedOver}
 use Rattle.parallel_moves.proofs.Running.{free-is}
 

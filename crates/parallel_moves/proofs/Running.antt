@@ -1,21 +1,21 @@
 -- The run of a patch.
 use Prim.Native.Nat.{ℕ, zero, suc, _+_, _*_, _<_, _≤_}
-use mathlib.Core.Path.{_≡_, refl, sym, ap, subst, _∙_, fun-ext}
+use mathlib.Core.Path.{_≡_, refl, sym, fun-ext}
 use mathlib.Core.Bool.{Bool, true, false}
 use mathlib.Core.List.{List, [], _∷_}
-use mathlib.Core.Option.{Option, none, some}
+use mathlib.Core.Option.{none}
 use native.Mathlib.Omega.{arith}
 use lib.Dec.{eqb}
 use lib.ListN.{length, getD}
 use borrow.Author.Tests.{eq-eqb, ne-eqb}
-use Rattle.entity.specs.Logic.{or, has}
+use Rattle.entity.specs.Logic.{has}
 use Rattle.function.specs.Known.{Checked}
 use Rattle.function.specs.Table.{functionOf}
 use Rattle.function.proofs.Laws.{few-slots, low-limit}
 use Rattle.small_set.specs.Set.{setOf}
 use Rattle.rules.specs.Edit.{andThen, each}
 use Rattle.rules.specs.Scratch as rules
-use Rattle.rules.specs.Order.{remats, rematWithScratch, moves}
+use Rattle.rules.specs.Order.{rematWithScratch}
 use Rattle.rules.specs.Patch.{Patch, run}
 use Rattle.edit.specs.Buffer.{countOf, editsOf, Written}
 use Rattle.slots.specs.Stacks.{cacheOf, stacksOf}
@@ -23,7 +23,7 @@ use Rattle.slots.specs.Steps.{Begun}
 use Rattle.scratch.specs.declared.Evicted.the-variants.{Nothing}
 use Rattle.scratch.specs.declared.ScratchAllocator.{ScratchAllocator}
 use Rattle.scratch.specs.State.{T, F, Fits, Stacked, owed}
-use Rattle.scratch.specs.Contracts.{Tables, tables, stateOf, FitsIn}
+use Rattle.scratch.specs.Contracts.{Tables, tables, stateOf}
 use Rattle.scratch.proofs.Bounds.{fewer, refit}
 use Rattle.entries.specs.Table.{sortedOf}
 use Rattle.entries.specs.Known.{EntriesOk}

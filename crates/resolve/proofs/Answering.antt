@@ -1,6 +1,6 @@
 -- What a step leaves: the edits handed out stand in the list, and the cache can be lent again.
 use Prim.Native.Nat.{ℕ, _≤_}
-use mathlib.Core.Path.{_≡_, refl, sym, ap, _∙_}
+use mathlib.Core.Path.{_≡_}
 use mathlib.Core.List.{List}
 use native.Mathlib.Omega.{arith}
 use lib.ListN.{length}
@@ -14,7 +14,7 @@ use Rattle.number.specs.Read.{Read, got, refused}
 use Rattle.number.specs.declared.Number.the-variants as N
 use Rattle.parallel_moves.specs.Given.{CacheOk}
 use Rattle.print.proofs.Printing.{front-fits}
-use Rattle.job.specs.declared.Step.the-variants.{Edits, Refused}
+use Rattle.job.specs.declared.Step.the-variants.{Edits}
 use Rattle.job.specs.Job.{Header}
 use Rattle.job.specs.Steps.{HeaderAt, CallAt, StepAt}
 
