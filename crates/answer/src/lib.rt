@@ -55,7 +55,7 @@ fn long(x: u32) -> usize
 }
 
 // The word before a patch's edits: how many they are, and how many slots the function has made.
-pub fn head(count: usize, made: usize) -> u64
+fn head(count: usize, made: usize) -> u64
     requires { ⌜ (count ≤ 1024) × (made < 65536) ⌝ }
     ensures { λ r. ⌜ r ≡ headWord count made ⌝ }
 {

@@ -15,21 +15,21 @@ pub enum Fit {
 }
 
 // Whether a word is a patch's head and no edit.
-pub fn is_head(word: u64) -> bool
+fn is_head(word: u64) -> bool
     ensures { λ r. ⌜ r ≡ isHead word ⌝ }
 {
     word % 8 == 0
 }
 
 // How many edits a patch has, in its head.
-pub fn count_in(word: u64) -> usize
+fn count_in(word: u64) -> usize
     ensures { λ r. ⌜ r ≡ countIn word ⌝ }
 {
     (word / 8 % 65536) as usize
 }
 
 // How many slots the function has made, in a patch's head.
-pub fn made_in(word: u64) -> usize
+fn made_in(word: u64) -> usize
     ensures { λ r. ⌜ r ≡ madeIn word ⌝ }
 {
     (word / 524288 % 65536) as usize

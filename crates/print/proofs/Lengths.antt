@@ -6,9 +6,9 @@ use native.Mathlib.Omega.{arith}
 use lib.ListN.{length, length-append}
 use Rattle.entity.specs.Place.{Place, reg, slot, codeOf}
 use Rattle.rules.specs.Edit.{Edit, Move, Rematerialize, EmergencySpill, EmergencyReload}
-use Rattle.edit.specs.Word.{editOf, InRange, AllInRange}
+use Rattle.edit.specs.Word.{editOf, InRange}
 use Rattle.edit.proofs.Laws.{Fits, in-range}
-use Rattle.print.specs.Text.{decimal, placeText, newline, spaced, editLine, editLines, editsWord, madeWord, patchLine, patchText, refusedLine}
+use Rattle.print.specs.Text.{decimal, placeText, newline, spaced, editLine, editsWord, madeWord, patchLine, refusedLine}
 use Rattle.print.specs.Words.{lineOf, wordLine, wordLines, wordsText}
 use Rattle.print.proofs.Decimal.{short}
 
@@ -45,15 +45,7 @@ patch-line-short k count made a b c =
 pub refused-short : (number : ℕ) → number < 4294967296 → length (refusedLine number) ≤ 19
 refused-short number h = rw (length-append (decimal number) newline) (omega (arith, number-short number h))
 
-lines-short : (es : List Edit) → AllInRange es → length (editLines es) ≤ 19 * length es
-unfolding editLines
-lines-short [] r = omega arith
-lines-short (e ∷ es) r = rw (length-append (editLine e) (editLines es)) (omega (arith, edit-short e (r .0), lines-short es (r .1)))
-
-pub text-short : (k : ℕ) (es : List Edit) (made : ℕ) → k < 4294967296 → length es < 4294967296 → made < 4294967296 → AllInRange es → length (patchText k es made) ≤ 50 + 19 * length es
-text-short k es made a b c r = rw (length-append (patchLine k (length es) made) (editLines es)) (omega (arith, patch-line-short k (length es) made a b c, lines-short es r))
-
--- ---- so it is of any words
+-- ---- lines of any words
 line-short : (o : Option Edit) → Fits o → length (lineOf o) ≤ 19
 line-short (some e) r = edit-short e r
 line-short none r = omega arith

@@ -39,9 +39,6 @@ lines-there (e ∷ es) r = rw (line-there e (r .0), lines-there es (r .1))
 pub text-there : (k : ℕ) (l : List ℕ) (es : List Edit) (made : ℕ) → Words l es → wordsText k l made ≡ patchText k es made
 text-there k l es made w = rw (w .are, lines-there es (w .in-range), length-map es wordOf)
 
-pub room-there : {out : List ℕ} {n : ℕ} (k : ℕ) (l : List ℕ) (es : List Edit) (made : ℕ) → Words l es → Room out n (patchText k es made) → Room out n (wordsText k l made)
-room-there {out} {n} k l es made w h = subst (λ (t : List ℕ). Room out n t) (sym (text-there k l es made w)) h
-
 -- the words at the front of a list
 pub front-words : (l rest : List ℕ) (es : List Edit) → AllInRange es → l ≡ map wordOf es ++ rest → Words (take (length es) l) es
 front-words l rest es r e = record { are = rw e (take-at (map wordOf es) rest (length es) (length-map es wordOf)); in-range = r }

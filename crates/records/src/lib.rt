@@ -23,7 +23,7 @@ fn byte(x: u8) -> usize
 }
 
 // Four bytes as a number, the lowest first.
-pub fn length_at(s: &[u8], at: usize) -> usize
+fn length_at(s: &[u8], at: usize) -> usize
     requires { ⌜ at + 4 ≤ length (now s) ⌝ }
     ensures { λ r. ⌜ r ≡ lengthAt (now (s .entry)) at ⌝ }
 {
