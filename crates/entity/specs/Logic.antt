@@ -57,3 +57,7 @@ indices i (suc n) = i ∷ indices (i + 1) n
 unfoldable pub cells : List ℕ → ℕ → ℕ → List ℕ
 cells t at zero = []
 cells t at (suc n) = getD t at 0 ∷ cells t (at + 1) n
+
+-- 01, Agreement: "a result left free by these papers is named with what holds of it". Of a working table after a call: it holds anything.
+abbrev pub Anything : {A : Type 0} → A → Type 0
+Anything x = Unit {0}
