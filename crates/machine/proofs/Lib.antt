@@ -19,3 +19,4 @@ pub mod Whole
 pub mod Slots
 pub mod Demand
 pub mod Instance
+pub mod NotAccepted
