@@ -4,11 +4,12 @@ use mathlib.Core.Path.{_≡_}
 use mathlib.Core.List.{List, _++_, map}
 use mathlib.Core.Option.{Option, none, some}
 use lib.ListN.{length, drop}
+use Rattle.reginfo.specs.Refused.{firstOf}
 use Rattle.reginfo.specs.Table.{regInfoOf}
 use Rattle.function.specs.Known.{Checked}
 use Rattle.function.specs.Table.{functionOf}
-use Rattle.rules.specs.Scratch.{Cache}
-use Rattle.rules.specs.Patch.{Entry, Patch, Answer, refused, resolved, nothingSorted, unlessRefused, resolveFrom, resolveSorted}
+use Rattle.rules.specs.Patch.{Entry, Answer, refused, resolved, nothingSorted, sortedFrom}
+use Rattle.rules.specs.Refusals.{entriesConditions}
 use Rattle.edit.specs.Word.{wordOf, AllInRange}
 use Rattle.slots.specs.Stacks.{cacheOf}
 use Rattle.slots.specs.Steps.{Cleared}
@@ -31,13 +32,11 @@ abbrev pub codeOf : Option ℕ → ℕ
 codeOf none = 0
 codeOf (some n) = 65536 + n
 
--- the entries l added to a patch with none: what is left to answer is the patch without them, or the number of the first refused
+-- the entries l added to a patch with none: the number of the first that is refused; where none is, the table holds what they became
 pub record AddedAllAs (t f e w : List ℕ) (l : List Entry) (r : ℕ) : Type 0 where
-  pub refusal : Option ℕ
-  pub answer : r ≡ codeOf refusal
-  pub yes : r ≡ 0 → EntriesOk t f e w
-  pub is : (p : Patch) (room : ℕ) (c : Cache)
-      → resolveFrom (T t) (functionOf f) p room c l nothingSorted ≡ unlessRefused refusal (resolveSorted (T t) (functionOf f) p room c (sortedOf e))
+  pub is : r ≡ codeOf (firstOf (entriesConditions (T t) (functionOf f) l nothingSorted))
+  pub yes : r ≡ 0 → sortedOf e ≡ sortedFrom (T t) (functionOf f) l nothingSorted
+  pub ok : EntriesOk t f e w
 
 -- `Gives` of crate parallel_moves, with the answer as a number
 abbrev pub ResolvedAs : (f : List ℕ) → Answer → (r : ℕ) → (list list′ cache cache′ : List ℕ) → Type 0

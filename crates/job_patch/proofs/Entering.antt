@@ -12,7 +12,7 @@ use Rattle.reginfo.specs.Refused.{firstOf}
 use Rattle.reginfo.specs.Table.{regInfoOf}
 use Rattle.function.specs.Function.{Function}
 use Rattle.function.specs.Table.{functionOf}
-use Rattle.rules.specs.Patch.{Entry, Sorted, nothingSorted, entryConditions, add, resolveFrom}
+use Rattle.rules.specs.Patch.{Entry, Sorted, nothingSorted, entryConditions, add, sortedFrom}
 use Rattle.entries.specs.Table.{sortedOf}
 use Rattle.entries.specs.Known.{EntriesOk}
 use Rattle.number.specs.Read.{Read, got, refused, then}
@@ -32,24 +32,24 @@ module _ (t f s : List ℕ) where
   F = functionOf f
 
   -- one entry more in front
-  more : (en : Entry) (a : Sorted) (x : Read (List Entry)) (r : Next) (e w : List ℕ) → none ≡ firstOf (entryConditions T F a en) → Entered t f s x (add T F en a) r e w → Entered t f s (then x (λ es q. got (en ∷ es) q)) a r e w
-  unfolding resolveFrom
-  more en a (refused k) r e w n h = h
-  more en a (got es rest) r e w n h = (h .0, h .1, h .2, h .3, h .4, λ p room c. rw (← n) (h .5 p room c))
+  more : (en : Entry) (a : Sorted) (x : Read (List Entry)) (r : Next) (e w : List ℕ) → Entered t f s x (add T F en a) r e w → Entered t f s (then x (λ es q. got (en ∷ es) q)) a r e w
+  unfolding sortedFrom
+  more en a (refused k) r e w h = h
+  more en a (got es rest) r e w h = h
 
   -- an entry that was added, and those after it
   after : (n : ℕ) (a b : Sorted) (x : Read Entry) (rest : List ℕ) (r : Next) (e w : List ℕ) → got b rest ≡ adding T F a x → Entered t f s (entries T F n b rest) b r e w
       → Entered t f s (then x (λ en q. unlessGiven (firstOf (entryConditions T F a en)) (then (entries T F n (add T F en a) q) (λ es o. got (en ∷ es) o)))) a r e w
   after n a b (refused k) rest r e w h g = absurd (let z : _≡_ {A = ℕ} 0 1 = cc in omega arith)
-  after n a b (got en q) rest r e w h g = go (firstOf (entryConditions T F a en)) refl h
+  after n a b (got en q) rest r e w h g = go (firstOf (entryConditions T F a en)) h
     where
-      go : (o : Option ℕ) → firstOf (entryConditions T F a en) ≡ o → got b rest ≡ unlessGiven o (got (add T F en a) q)
+      go : (o : Option ℕ) → got b rest ≡ unlessGiven o (got (add T F en a) q)
           → Entered t f s (unlessGiven o (then (entries T F n (add T F en a) q) (λ es o. got (en ∷ es) o))) a r e w
-      go (some k) is h = absurd (let z : _≡_ {A = ℕ} 0 1 = cc in omega arith)
-      go none is h =
+      go (some k) h = absurd (let z : _≡_ {A = ℕ} 0 1 = cc in omega arith)
+      go none h =
           let here : b ≡ add T F en a = cc in
           let there : rest ≡ q = cc in
-          more en a (entries T F n (add T F en a) q) r e w (sym is) (rw (here, there) at g)
+          more en a (entries T F n (add T F en a) q) r e w (rw (here, there) at g)
 
   -- an entry that was refused
   turned : (n : ℕ) (a : Sorted) (x : Read Entry) (k : ℕ) (e w : List ℕ) → refused k ≡ adding T F a x
@@ -98,8 +98,8 @@ module _ (t f s : List ℕ) where
           }
 
     pub entering-end : left ≤ 0 → Entered t f s (entries T F n nothingSorted (drop at s)) nothingSorted (At q) e w
-    unfolding entries resolveFrom
-    entering-end z = let l : left ≡ 0 = omega arith in h .rest (At q) e w (rw l (q, refl, refl, h .within, h .ok, λ p room c. refl))
+    unfolding entries sortedFrom
+    entering-end z = let l : left ≡ 0 = omega arith in h .rest (At q) e w (rw l (q, refl, refl, h .within, h .ok, refl))
 
   -- the count in front
   pub counted-refused : (at k : ℕ) (e w : List ℕ) → NumberAt s at (N.Refused k) → Entered t f s (then (number (drop at s)) (λ n p. entries T F n nothingSorted p)) nothingSorted (Refused k) e w

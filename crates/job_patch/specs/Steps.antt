@@ -13,8 +13,7 @@ use Rattle.reginfo.specs.Table.{regInfoOf}
 use Rattle.function.specs.Function.{Function}
 use Rattle.function.specs.Table.{functionOf}
 use Rattle.small_set.specs.Set.{setOf}
-use Rattle.rules.specs.Scratch.{Cache}
-use Rattle.rules.specs.Patch.{Entry, Patch, Sorted, entryConditions, add, resolve, resolveFrom, resolveSorted}
+use Rattle.rules.specs.Patch.{Entry, Patch, Sorted, entryConditions, add, sortedFrom, sorted}
 use Rattle.entries.specs.Table.{sortedOf}
 use Rattle.entries.specs.Known.{EntriesOk}
 use Rattle.number.specs.Read.{Read, got, refused, then}
@@ -48,25 +47,24 @@ addedAt (some k) next = Refused k
 abbrev pub EntryAt : (t f s e : List ℕ) → (List ℕ → Read Entry) → ℕ → (e′ w′ : List ℕ) → Next → Type 0
 EntryAt t f s e d at e′ w′ r = NextAt (λ l. adding (regInfoOf t) (functionOf f) (sortedOf e) (d l)) s at (sortedOf e′) (EntriesOk t f e′ w′) r
 
--- a patch as the tables hold it: to resolve it is to resolve what its entries became
+-- a patch as the tables hold it: the set has its free units, and the table of entries what they became
 pub record Holds (t f : List ℕ) (free : List Bool) (e w : List ℕ) (p : Patch) : Type 0 where
   pub free-is : (u : ℕ) → has u (p .free) ≡ setOf free u
   pub ok : EntriesOk t f e w
-  pub rest : (room : ℕ) (c : Cache) → resolve (regInfoOf t) (functionOf f) p room c ≡ resolveSorted (regInfoOf t) (functionOf f) p room c (sortedOf e)
+  pub is : sortedOf e ≡ sorted (regInfoOf t) (functionOf f) p
 
--- the entries of a patch, over what those before them became: what is left to do is to resolve what they became
+-- the entries of a patch, over what those before them became: the table holds what they became
 abbrev pub Entered : (t f s : List ℕ) → Read (List Entry) → Sorted → Next → (e w : List ℕ) → Type 0
 Entered t f s (refused k) a r e w = r ≡ Refused k
 Entered t f s (got es rest) a r e w =
-    (next : ℕ) × (r ≡ At next) × (rest ≡ drop next s) × (next ≤ length s) × EntriesOk t f e w
-    × ((p : Patch) (room : ℕ) (c : Cache) → resolveFrom (regInfoOf t) (functionOf f) p room c es a ≡ resolveSorted (regInfoOf t) (functionOf f) p room c (sortedOf e))
+    (next : ℕ) × (r ≡ At next) × (rest ≡ drop next s) × (next ≤ length s) × EntriesOk t f e w × (sortedOf e ≡ sortedFrom (regInfoOf t) (functionOf f) es a)
 
 -- free units, over those that were read before them: the set has these and those
 abbrev pub Freed : (s : List ℕ) → Read (List ℕ) → (ℕ → Bool) → Next → List Bool → Type 0
 Freed s (refused k) before r free = r ≡ Refused k
 Freed s (got us rest) before r free = (next : ℕ) × (r ≡ At next) × (rest ≡ drop next s) × (next ≤ length s) × ((u : ℕ) → or (before u) (has u us) ≡ setOf free u)
 
--- a patch: its free units are the set's, and to resolve it is to resolve what its entries became
+-- a patch: the tables hold it
 abbrev pub PatchAt : (t f s : List ℕ) → Read Patch → Next → List Bool → (e w : List ℕ) → Type 0
 PatchAt t f s (refused k) r free e w = r ≡ Refused k
 PatchAt t f s (got p rest) r free e w = (next : ℕ) × (r ≡ At next) × (rest ≡ drop next s) × (next ≤ length s) × Holds t f free e w p
