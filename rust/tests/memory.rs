@@ -4,7 +4,7 @@ mod common;
 
 use std::thread;
 
-use common::{jobs, printed, text};
+use common::{encoded, jobs, printed, text};
 use parallel_moves::{Answer, Edit, Place, Refusal, Resolver};
 
 /// Swap-full's job with its patch 1,024 times.
@@ -42,17 +42,7 @@ fn deep_chain() -> Vec<u8> {
             .rev()
             .flat_map(|n| [0, register(n), register(n + 1), n]),
     );
-    numbers.into_iter().flat_map(encoded).collect()
-}
-
-/// A number below 2^14 as it stands in a job.
-fn encoded(number: u16) -> Vec<u8> {
-    let (low, high) = ((number % 128) as u8, (number / 128) as u8);
-    if high == 0 {
-        vec![low]
-    } else {
-        vec![low | 128, high]
-    }
+    encoded(numbers)
 }
 
 /// The list of words is enlarged, and the answer is whole.

@@ -10,6 +10,28 @@ use std::process::Command;
 
 use parallel_moves::{Answer, Resolver};
 
+pub mod machine;
+
+/// The bytes of a job's numbers.
+pub fn encoded(numbers: impl IntoIterator<Item = u32>) -> Vec<u8> {
+    let mut job = Vec::new();
+    for mut number in numbers {
+        while number >= 128 {
+            job.push((number % 128) as u8 + 128);
+            number /= 128;
+        }
+        job.push(number as u8);
+    }
+    job
+}
+
+/// The numbers of a text, in base ten.
+pub fn numbers(text: &str) -> Vec<u32> {
+    text.split_whitespace()
+        .map(|word| word.parse().unwrap())
+        .collect()
+}
+
 /// The repository's root.
 pub fn root() -> &'static Path {
     let here = Path::new(env!("CARGO_MANIFEST_DIR"));
