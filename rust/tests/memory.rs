@@ -4,22 +4,8 @@ mod common;
 
 use std::thread;
 
-use common::{encoded, jobs, printed, text};
+use common::{encoded, jobs, many_swaps, printed, text};
 use parallel_moves::{Answer, Edit, Place, Refusal, Resolver};
-
-/// Swap-full's job with its patch 1,024 times.
-fn many_swaps() -> Vec<u8> {
-    let (_, mut job) = jobs("examples")
-        .into_iter()
-        .find(|(name, _)| name == "swap-full")
-        .unwrap();
-    // The patch count 1 is followed by the patch, which has 10 bytes.
-    let patch = job.split_off(job.len() - 10);
-    assert_eq!(job.pop(), Some(1));
-    job.extend([128, 8]);
-    job.extend(patch.repeat(1024));
-    job
-}
 
 /// A chain of 128 moves, last one first, so that each visit leads to the next.
 fn deep_chain() -> Vec<u8> {
@@ -88,7 +74,7 @@ fn short_after_long() {
     let mut resolver = Resolver::new();
     let long = many_swaps();
     for (name, job) in jobs("compare/trials") {
-        resolver.answer(&long);
+        let _ = resolver.answer(&long);
         assert_eq!(text(&mut resolver, &job), printed(&name), "{name}");
     }
 }

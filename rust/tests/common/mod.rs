@@ -53,6 +53,20 @@ pub fn jobs(folder: &str) -> Vec<(String, Vec<u8>)> {
     jobs
 }
 
+/// Swap-full's job with its patch 1,024 times.
+pub fn many_swaps() -> Vec<u8> {
+    let (_, mut job) = jobs("examples")
+        .into_iter()
+        .find(|(name, _)| name == "swap-full")
+        .unwrap();
+    // The patch count 1 is followed by the patch, which has 10 bytes.
+    let patch = job.split_off(job.len() - 10);
+    assert_eq!(job.pop(), Some(1));
+    job.extend([128, 8]);
+    job.extend(patch.repeat(1024));
+    job
+}
+
 /// What is printed of the trial with a name.
 pub fn printed(name: &str) -> String {
     let path = root().join("compare/trials").join(name);
