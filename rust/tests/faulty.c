@@ -1,7 +1,8 @@
 /* Loaded before the C library: reads and writes that fail or move few bytes.
  * FAIL_WRITE and FAIL_READ number the call on standard output or input that
- * fails, FEW bounds the bytes that a call moves, and the file NOTES gets a line
- * for each write to standard output: what it returned. */
+ * fails, INTERRUPT the one of each that a signal interrupts, FEW bounds the bytes
+ * that a call moves, and the file NOTES gets a line for each write to standard
+ * output: what it returned. */
 #define _GNU_SOURCE
 #include <errno.h>
 #include <fcntl.h>
@@ -21,6 +22,10 @@ static long moved(long call, const char *fail, int kind, int fd, void *bytes, si
     size_t few = (size_t)number("FEW", 1L << 30);
     if (call == number(fail, 0)) {
         errno = kind == SYS_write ? ENOSPC : EIO;
+        return -1;
+    }
+    if (call == number("INTERRUPT", 0)) {
+        errno = EINTR;
         return -1;
     }
     return syscall(kind, fd, bytes, length < few ? length : few);

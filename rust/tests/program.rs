@@ -219,6 +219,24 @@ fn nothing_after_a_failed_write() {
     }
 }
 
+/// A call that a signal interrupts is made again.
+#[test]
+#[ignore = "the program does not see it yet"]
+fn interrupted_calls() {
+    let faulty = Faulty::new("interrupted");
+    let job = many_swaps();
+    let path = file("interrupted.job", &job);
+    for call in [1, 2, 3] {
+        let (output, notes) = faulty.run(&path, &[("FEW", 5000), ("INTERRUPT", call)]);
+        assert_eq!(
+            output.stdout,
+            Resolver::new().answer(&job).text().as_bytes()
+        );
+        assert!(notes[call - 1] == -1 && notes.len() > call);
+        assert!(output.stderr.is_empty());
+    }
+}
+
 /// What cannot be read is no job, and not refused as one.
 #[test]
 #[ignore = "the program does not see it yet"]
