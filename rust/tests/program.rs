@@ -51,7 +51,7 @@ fn records() -> Vec<(Vec<u8>, Vec<u8>)> {
 
 /// The number on a text's last line, or 0.
 fn refused(text: &[u8]) -> u8 {
-    let text = str::from_utf8(text).unwrap();
+    let text = std::str::from_utf8(text).unwrap();
     let last = text.lines().last().unwrap();
     let number = last.strip_prefix("refused ");
     number.map_or(0, |number| number.parse().unwrap())
