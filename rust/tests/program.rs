@@ -10,11 +10,8 @@ use std::fs::{self, File};
 use std::path::{Path, PathBuf};
 use std::process::{Command, Output};
 
-use common::{many_swaps, root};
+use common::{deep_chain, many_swaps, root};
 use parallel_moves::Resolver;
-
-/// The stack that README names, in KB.
-const STACK: usize = 600;
 
 fn program() -> PathBuf {
     let program = env::var_os("RESOLVE").map_or(root().join("target/bin/resolve"), PathBuf::from);
@@ -139,15 +136,21 @@ fn recorded_jobs() {
     }
 }
 
+/// The stack that README names is enough.
 #[test]
 fn stack() {
-    let job = many_swaps();
-    let path = file("stack.job", &job);
-    let output = in_shell(&format!("ulimit -s {STACK}"), "< \"$JOB\"", &path);
-    assert_eq!(
-        output.stdout,
-        Resolver::new().answer(&job).text().as_bytes()
-    );
+    let readme = fs::read_to_string(root().join("README.md")).unwrap();
+    let (_, after) = readme.split_once("The program `resolve` needs ").unwrap();
+    let (kilobytes, _) = after.split_once(" KB of stack.").unwrap();
+    let before = format!("ulimit -s {}", kilobytes.parse::<u32>().unwrap());
+    for job in [many_swaps(), deep_chain()] {
+        let path = file("stack.job", &job);
+        let output = in_shell(&before, "< \"$JOB\"", &path);
+        assert_eq!(
+            output.stdout,
+            Resolver::new().answer(&job).text().as_bytes()
+        );
+    }
 }
 
 /// Bytes that come and go a few at a time are all there.

@@ -67,6 +67,30 @@ pub fn many_swaps() -> Vec<u8> {
     job
 }
 
+/// A chain of 128 moves, last one first, so that each visit leads to the next.
+pub fn deep_chain() -> Vec<u8> {
+    let mut numbers = vec![129, 1, 3, 0, 1, 129];
+    numbers.extend((0..129).flat_map(|register| [0, 0, 1, register]));
+    numbers.push(2);
+    for includes_slots in [1, 0] {
+        numbers.extend([0, includes_slots]);
+        for _ in 0..2 {
+            numbers.push(129);
+            numbers.extend(0..129);
+        }
+    }
+    numbers.extend([128, 0, 0]);
+    numbers.extend([0; 2 * 128]);
+    numbers.extend([1, 0, 128]);
+    let register = |number| 2 * number + 1;
+    numbers.extend(
+        (0..128)
+            .rev()
+            .flat_map(|n| [0, register(n), register(n + 1), n]),
+    );
+    encoded(numbers)
+}
+
 /// What is printed of the trial with a name.
 pub fn printed(name: &str) -> String {
     let path = root().join("compare/trials").join(name);
