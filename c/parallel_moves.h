@@ -147,7 +147,8 @@ static inline size_t parallel_moves_count(uint64_t head)
     return (size_t)(head / 8 % 65536);
 }
 
-/* Of a head: how many emergency slots the function has after the patch. */
+/* Of a head: how many emergency slots the function has after the patch.
+ * docs/JOB.md says how large each is. */
 static inline uint16_t parallel_moves_made(uint64_t head)
 {
     return (uint16_t)(head / 524288 % 65536);

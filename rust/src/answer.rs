@@ -117,7 +117,8 @@ impl<'a> Patch<'a> {
     }
 
     /// How many emergency slots the function has after this patch. They are
-    /// numbered from its ordinary slots on.
+    /// numbered from its ordinary slots on; `docs/JOB.md` says how large each
+    /// is.
     pub fn made(&self) -> u16 {
         self.made
     }
