@@ -69,8 +69,9 @@ size_t parallel_moves_answer(
     uint16_t carried[PARALLEL_MOVES_CARRIED]);
 
 /* Writes the text of an answer, as the program `resolve` prints it: returns its
- * length, or 0 where `text` is too short. It ends in a newline, not in a zero
- * byte. */
+ * length, or 0 where `text` is too short; then the lines that fit stand at its
+ * front, and the other bytes are as they were. It ends in a newline, not in a
+ * zero byte. */
 size_t parallel_moves_text(
     const uint64_t *words, size_t words_length,
     uint8_t refusal,

@@ -87,7 +87,7 @@ returns-3 : tie.Need-returns-3
 returns-3 c =
     let a = c .before .before .before .before .before .before .before .before .before .before .before .before .before .before .before .before .before .before .before .before .before .args in
     let p = c .before .before .before .answer-job in
-    too-many (a .job .now) _ (p .last .1 .0) (rw (c .enum-told .given .1) at (p .ensures)) (length-replicate {A = ℕ} 16384 0) (a .out .now) (a .out .now)
+    too-many (a .job .now) _ (p .last .1 .0) (rw (c .enum-told .given .1) at (p .ensures)) (length-replicate {A = ℕ} 16384 0) (a .out .now)
 
 pub put-text-spec : {M : Type 1} → statement M
 put-text-spec =
