@@ -77,9 +77,10 @@ size_t parallel_moves_answer(
     uint16_t carried[PARALLEL_MOVES_CARRIED]);
 
 /* Writes the text of an answer, as the program `resolve` prints it: returns its
- * length, or 0 where `text` is too short. It ends in a newline, not in a zero
- * byte. `words` and `refusal` are those of a call of parallel_moves_answer, with
- * the count that it returned as `words_length`. */
+ * length, or 0 where `text` is too short; then the lines that fit stand at its
+ * front, and the other bytes are as they were. It ends in a newline, not in a
+ * zero byte. `words` and `refusal` are those of a call of parallel_moves_answer,
+ * with the count that it returned as `words_length`. */
 size_t parallel_moves_text(
     const uint64_t *words, size_t words_length,
     uint8_t refusal,
