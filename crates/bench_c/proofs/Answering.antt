@@ -23,7 +23,7 @@ use Rattle.job.specs.Steps.{HeaderAt}
 use Rattle.bench_c.specs.Benched.{OpenedAs, codeOf, AddedAllAs, ResolvedAs}
 
 pub not-opened : (s t f cache : List ℕ) (k : ℕ) (x : Read Header) → HeaderAt s x (N.Refused k) t f → OpenedAs s x 0 t f cache
-not-opened s t f cache k (read.refused j) h = refl
+not-opened s t f cache k (read.refused j) h = (refl, tt, tt, tt)
 not-opened s t f cache k (read.got x r) h = absurd (let z : _≡_ {A = ℕ} 0 1 = cc in omega arith)
 
 pub opened : (s t f cache : List ℕ) (count at : ℕ) (x : Read Header) → HeaderAt s x (N.Is count at) t f → Cleared cache → OpenedAs s x at t f cache

@@ -4,6 +4,7 @@ use mathlib.Core.Path.{_≡_}
 use mathlib.Core.List.{List, _++_, map}
 use mathlib.Core.Option.{Option, none, some}
 use lib.ListN.{length, drop}
+use Rattle.entity.specs.Logic.{Anything}
 use Rattle.reginfo.specs.Refused.{firstOf}
 use Rattle.reginfo.specs.Table.{regInfoOf}
 use Rattle.function.specs.Known.{Checked}
@@ -21,9 +22,9 @@ use Rattle.number.specs.Read.{Read}
 use Rattle.parallel_moves.specs.Given.{CacheOk}
 use Rattle.job.specs.Job.{Header}
 
--- an opening refused: 0; read: where the first patch stands, and the tables are ready for it
+-- an opening refused: 0, and the tables hold anything; read: where the first patch stands, and the tables are ready for it
 abbrev pub OpenedAs : (s : List ℕ) → Read Header → ℕ → (t f cache : List ℕ) → Type 0
-OpenedAs s (read.refused k) r t f cache = r ≡ 0
+OpenedAs s (read.refused k) r t f cache = (r ≡ 0) × Anything t × Anything f × Anything cache
 OpenedAs s (read.got h rest) r t f cache =
     (rest ≡ drop r s) × (r ≤ length s) × (regInfoOf t ≡ h .target) × (functionOf f ≡ h .function) × Checked t f × Cleared cache × CacheOk f cache
 

@@ -1,6 +1,6 @@
 -- The entries of a patch, one after the other.
 use Prim.Native.Nat.{ℕ, suc, _-_, _<_, _≤_}
-use mathlib.Core.Path.{_≡_, refl, sym, _∙_}
+use mathlib.Core.Path.{_≡_, refl, sym, ap, _∙_}
 use mathlib.Core.Bool.{Bool, true, false}
 use mathlib.Core.List.{List, _∷_}
 use mathlib.Core.Option.{Option, none, some}
@@ -54,11 +54,11 @@ module _ (t f s : List ℕ) where
   -- an entry that was refused
   turned : (n : ℕ) (a : Sorted) (x : Read Entry) (k : ℕ) (e w : List ℕ) → refused k ≡ adding T F a x
       → Entered t f s (then x (λ en q. unlessGiven (firstOf (entryConditions T F a en)) (then (entries T F n (add T F en a) q) (λ es o. got (en ∷ es) o)))) a (Refused k) e w
-  turned n a (refused j) k e w h = let z : k ≡ j = cc in rw z refl
+  turned n a (refused j) k e w h = let z : k ≡ j = cc in (ap Refused z, tt, tt)
   turned n a (got en q) k e w h = go (firstOf (entryConditions T F a en)) h
     where
       go : (o : Option ℕ) → refused k ≡ unlessGiven o (got (add T F en a) q) → Entered t f s (unlessGiven o (then (entries T F n (add T F en a) q) (λ es o. got (en ∷ es) o))) a (Refused k) e w
-      go (some j) h = let z : k ≡ j = cc in rw z refl
+      go (some j) h = let z : k ≡ j = cc in (ap Refused z, tt, tt)
       go none h = absurd (let z : _≡_ {A = ℕ} 0 1 = cc in omega arith)
 
   -- of n entries from `at` on, `left` are left from q on
@@ -76,17 +76,17 @@ module _ (t f s : List ℕ) where
     entering-full b p y is =
         let l : left ≡ suc (left - 1) = omega arith in
         let full : leb 128 (sortedOf e .count) ≡ true = sym is ∙ y in
-        h .rest (Refused 15) e w (rw (l, full) refl)
+        h .rest (Refused 15) e w (rw (l, full) (refl, tt, tt))
 
     module _ (b : Bool) (p : 0 < left) (y : b ≡ false) (is : b ≡ leb 128 (sortedOf e .count)) where
-      pub entering-refused : (k : ℕ) (e′ w′ : List ℕ) → EntryAt t f s e (entry T F) q e′ w′ (Refused k) → Entered t f s (entries T F n nothingSorted (drop at s)) nothingSorted (Refused k) e′ w′
+      pub entering-refused : (k : ℕ) (e′ w′ : List ℕ) → EntryAt t f s e w (entry T F) q e′ w′ (Refused k) → Entered t f s (entries T F n nothingSorted (drop at s)) nothingSorted (Refused k) e′ w′
       unfolding entries
       entering-refused k e′ w′ g =
           let l : left ≡ suc (left - 1) = omega arith in
           let full : leb 128 (sortedOf e .count) ≡ false = sym is ∙ y in
           h .rest (Refused k) e′ w′ (rw (l, full) (turned (left - 1) (sortedOf e) (entry T F (drop q s)) k e′ w′ (g .reads)))
 
-      pub entering-step : (next : ℕ) (e′ w′ : List ℕ) → EntryAt t f s e (entry T F) q e′ w′ (At next) → Entering at n next (left - 1) e′ w′
+      pub entering-step : (next : ℕ) (e′ w′ : List ℕ) → EntryAt t f s e w (entry T F) q e′ w′ (At next) → Entering at n next (left - 1) e′ w′
       unfolding entries
       entering-step next e′ w′ g =
           let l : left ≡ suc (left - 1) = omega arith in
@@ -103,7 +103,7 @@ module _ (t f s : List ℕ) where
 
   -- the count in front
   pub counted-refused : (at k : ℕ) (e w : List ℕ) → NumberAt s at (N.Refused k) → Entered t f s (then (number (drop at s)) (λ n p. entries T F n nothingSorted p)) nothingSorted (Refused k) e w
-  counted-refused at k e w h = rw (← h .reads) refl
+  counted-refused at k e w h = rw (← h .reads) (refl, tt, tt)
 
   pub counted : (at n next : ℕ) (r : Next) (e w : List ℕ) → NumberAt s at (N.Is n next) → Entered t f s (entries T F n nothingSorted (drop next s)) nothingSorted r e w
       → Entered t f s (then (number (drop at s)) (λ n p. entries T F n nothingSorted p)) nothingSorted r e w

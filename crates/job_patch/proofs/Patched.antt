@@ -62,7 +62,7 @@ module _ (t f s : List ℕ) (at : ℕ) where
   patch-refused k free e w h = rw patch-is (go count-free h)
     where
       go : (x : Read (List ℕ)) → Freed s x emptySet (Refused k) free → PatchAt t f s (then x joined) (Refused k) free e w
-      go (refused j) h = h
+      go (refused j) h = (h .0, h .1, tt, tt)
       go (got us rest) h = absurd (let z : _≡_ {A = ℕ} 0 1 = cc in omega arith)
 
   pub patch-read : (next : ℕ) (r : Next) (free : List Bool) (e w : List ℕ) → Freed s count-free emptySet (At next) free → Entered t f s (then (number (drop next s)) (λ n p. entries T F n nothingSorted p)) nothingSorted r e w
@@ -71,7 +71,7 @@ module _ (t f s : List ℕ) (at : ℕ) where
   patch-read next r free e w h g = rw patch-is (go count-free h)
     where
       ends : (us : List ℕ) (y : Read (List Entry)) → ((u : ℕ) → has u us ≡ setOf free u) → Entered t f s y nothingSorted r e w → PatchAt t f s (then y (whole us)) r free e w
-      ends us (refused k) same g = g
+      ends us (refused k) same g = (g .0, tt, g .1, g .2)
       ends us (got es rest) same g = (g .0, g .1, g .2, g .3, record { free-is = same; ok = g .4; is = g .5 })
 
       go : (x : Read (List ℕ)) → Freed s x emptySet (At next) free → PatchAt t f s (then x joined) r free e w

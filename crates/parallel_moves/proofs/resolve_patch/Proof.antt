@@ -18,7 +18,7 @@ enum-known-n : tie.Need-enum-known-n
 enum-known-n c = search needs
 
 returns : tie.Need-returns
-returns c = let a = c .before .before .before .before .before .before .before .before .before .before .before .args in patch-refused _ _ _ _ _ (a .free .now) (a .numbers .now) (a .list .now) (a .cache .now) (c .before .before .before .before .before .before .new-parallel-move .ensures .0) _ (rw (c .before .n .given .1) at (c .before .before .before .add-entries .ensures))
+returns c = let a = c .before .before .before .before .before .before .before .before .before .before .before .args in (patch-refused _ _ _ _ _ (a .free .now) (a .numbers .now) (a .list .now) (a .cache .now) (c .before .before .before .before .before .before .new-parallel-move .ensures .0) _ (rw (c .before .n .given .1) at (c .before .before .before .add-entries .ensures)), search needs)
 
 enum-told : tie.Need-enum-told
 enum-told c = search needs
@@ -30,7 +30,7 @@ same-length : tie.Need-same-length
 same-length c = search needs
 
 returns-2 : tie.Need-returns-2
-returns-2 c = let a = c .before .before .before .before .before .before .before .before .before .before .before .before .before .before .before .before .before .before .before .before .before .before .before .before .args in patch-resolved _ _ _ _ _ (a .free .now) (a .numbers .now) (a .list .now) (a .cache .now) (c .before .before .before .before .before .before .before .before .before .before .before .before .before .before .before .before .before .before .before .new-parallel-move .ensures .0) _ _ _ (rw (c .before .before .before .before .before .before .before .before .before .before .before .before .before .before .enum-told .given .1) at (c .before .before .before .before .before .before .before .before .before .before .before .before .before .before .before .before .add-entries .ensures)) (c .before .before .resolve .ensures)
+returns-2 c = let a = c .before .before .before .before .before .before .before .before .before .before .before .before .before .before .before .before .before .before .before .before .before .before .before .before .args in (patch-resolved _ _ _ _ _ (a .free .now) (a .numbers .now) (a .list .now) (a .cache .now) (c .before .before .before .before .before .before .before .before .before .before .before .before .before .before .before .before .before .before .before .new-parallel-move .ensures .0) _ _ _ (rw (c .before .before .before .before .before .before .before .before .before .before .before .before .before .before .enum-told .given .1) at (c .before .before .before .before .before .before .before .before .before .before .before .before .before .before .before .before .add-entries .ensures)) (c .before .before .resolve .ensures .0), search needs)
 
 pub resolve-patch-spec : {M : Type 1} → statement M
 resolve-patch-spec =
