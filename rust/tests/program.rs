@@ -168,7 +168,6 @@ fn few_bytes_at_a_time() {
 }
 
 #[test]
-#[ignore = "the program does not see it yet"]
 fn full_device() {
     let path = file("full.job", &many_swaps());
     says_so(&in_shell("", "< \"$JOB\" > /dev/full", &path));
@@ -176,7 +175,6 @@ fn full_device() {
 
 /// A file that may not grow has the answer's beginning, and nothing else.
 #[test]
-#[ignore = "the program does not see it yet"]
 fn file_limit() {
     let job = many_swaps();
     let path = file("limit.job", &job);
@@ -191,7 +189,6 @@ fn file_limit() {
 
 /// A reader that goes away.
 #[test]
-#[ignore = "the program does not see it yet"]
 fn closed_pipe() {
     let path = file("pipe.job", &many_swaps());
     let before = "trap '' PIPE; exec 3> >(:); wait $!";
@@ -199,7 +196,6 @@ fn closed_pipe() {
 }
 
 #[test]
-#[ignore = "the program does not see it yet"]
 fn nothing_after_a_failed_write() {
     let faulty = Faulty::new("writes");
     let job = many_swaps();
@@ -223,7 +219,6 @@ fn nothing_after_a_failed_write() {
 
 /// A call that a signal interrupts is made again.
 #[test]
-#[ignore = "the program does not see it yet"]
 fn interrupted_calls() {
     let faulty = Faulty::new("interrupted");
     let job = many_swaps();
@@ -237,7 +232,6 @@ fn interrupted_calls() {
 
 /// What cannot be read is no job, and not refused as one.
 #[test]
-#[ignore = "the program does not see it yet"]
 fn failed_reads() {
     let path = file("reads.job", &many_swaps());
     says_so(&in_shell("", "< /", &path));
