@@ -1,7 +1,7 @@
 -- The texts of the writes joined are the job's text.
 use Prim.Native.Nat.{ℕ, _+_}
-use mathlib.Core.Path.{_≡_, refl, sym, ap, _∙_}
-use mathlib.Core.List.{List, [], _∷_, _++_}
+use mathlib.Core.Path.{_≡_, sym}
+use mathlib.Core.List.{List, [], _∷_}
 use lib.ListN.{length, drop, take-append-drop}
 use lib.Seq.{drop-drop, drop-length}
 use Rattle.job.specs.Job.{job}

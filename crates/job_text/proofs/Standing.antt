@@ -1,7 +1,7 @@
 -- A job's text on its way: each step keeps `Stands`.
 use Prim.Native.Nat.{ℕ, zero, suc, _+_, _-_, _<_, _≤_}
-use mathlib.Core.Path.{_≡_, refl, sym, ap, subst, _∙_}
-use mathlib.Core.Bool.{Bool, true, false}
+use mathlib.Core.Path.{_≡_, refl, sym, ap, _∙_}
+use mathlib.Core.Bool.{true, false}
 use mathlib.Core.List.{List, [], _∷_, _++_, append-assoc, append-nil}
 use mathlib.Core.Option.{some}
 use native.Mathlib.Omega.{arith}
@@ -19,7 +19,7 @@ use Rattle.answer.specs.Words.{numberOf, doneText, jobText}
 use Rattle.answer.specs.Whole.{rest}
 use Rattle.answer.proofs.Nexting.{Resolved}
 use Rattle.job_text.specs.declared.Progress.{Progress}
-use Rattle.job_text.specs.Standing.{writtenOut, toGo, textFrom, endText, Ends, toCome, Going, Stands, Piece}
+use Rattle.job_text.specs.Standing.{writtenOut, toGo, textFrom, endText, Ends, toCome, Stands, Piece}
 
 -- what the buffer holds after a put
 pub held-put : {out out′ text : List ℕ} {n m : ℕ} → Put out out′ n text m → take m out′ ≡ take n out ++ text
@@ -52,7 +52,7 @@ unfolding doneText
 over k [] = refl
 over k (b ∷ l) = refl
 
-one-more : (k : ℕ) (d : Done) (a : Answers) → textFrom k (before d a) ≡ patchText k (d .edits) (d .made) ++ textFrom (k + 1) a
+pub one-more : (k : ℕ) (d : Done) (a : Answers) → textFrom k (before d a) ≡ patchText k (d .edits) (d .made) ++ textFrom (k + 1) a
 unfolding doneText
 one-more k d a = append-assoc (patchText k (d .edits) (d .made)) (doneText (k + 1) (a .done)) (refusalText (numberOf (a .refusal)))
 
