@@ -10,7 +10,7 @@ use std::fs::{self, File};
 use std::path::{Path, PathBuf};
 use std::process::{Command, Output};
 
-use common::{deep_chain, many_swaps, root};
+use common::{deep_chain, many_swaps, root, text_of};
 use parallel_moves::Resolver;
 
 fn program() -> PathBuf {
@@ -107,7 +107,7 @@ impl Faulty {
 
 /// The whole answer on standard output, and nothing on standard error.
 fn answers(output: &Output, job: &[u8]) {
-    let text = Resolver::new().answer(job).text();
+    let text = text_of(&Resolver::new().answer(job));
     assert!(output.stdout == text.as_bytes(), "it answers otherwise");
     assert!(output.stderr.is_empty(), "it says something");
 }
@@ -183,7 +183,7 @@ fn file_limit() {
     says_so(&in_shell(&before, "< \"$JOB\"", &path));
     let printed = fs::read(out).unwrap();
     assert!(printed.len() <= 8192);
-    let text = Resolver::new().answer(&job).text();
+    let text = text_of(&Resolver::new().answer(&job));
     assert!(text.as_bytes().starts_with(&printed));
 }
 
@@ -200,7 +200,7 @@ fn nothing_after_a_failed_write() {
     let faulty = Faulty::new("writes");
     let job = many_swaps();
     let path = file("writes.job", &job);
-    let text = Resolver::new().answer(&job).text();
+    let text = text_of(&Resolver::new().answer(&job));
     for few in [64, 5000, 1 << 20] {
         for failing in [1, 2, 3, 10] {
             let (output, notes) = faulty.run(&path, &[("FEW", few), ("FAIL_WRITE", failing)]);
