@@ -20,11 +20,11 @@ use Rattle.function.proofs.Laws.{bank-there}
 use Rattle.rules.specs.Edit.{Edit}
 use Rattle.rules.specs.Scratch.{Cache, emptyCache, unitsOfReg}
 use Rattle.rules.specs.Order.{KeptMove, Remat, noMove, source, dest, value}
-use Rattle.rules.specs.Patch.{Patch, Sorted, sorted, destinations, run, Answer, refused, resolved, resolve, Call, cacheAfter}
+use Rattle.rules.specs.Patch.{Entry, Patch, Sorted, sorted, destinations, run, Answer, refused, resolved, resolve, Call, cacheAfter}
 use Rattle.rules.specs.Sorted.{SortedOk, RematOk, Ran, noRemat}
 use Rattle.rules.proofs.Accepted.{accepted}
 use Rattle.machine.specs.Machine.{Memory, Machine, fits}
-use Rattle.machine.specs.Claim.{Contents, OfValue, Stopped, Finished, Right, Accepted, Answered, Claim, Demand3}
+use Rattle.machine.specs.Claim.{entryDest, entryValue, Contents, OfValue, Stopped, Finished, Right, Accepted, Answered, Claim, Demand3}
 use Rattle.rules.proofs.Steps.{All}
 use Rattle.machine.proofs.Tests.{hasIn, both, yes-of, no-of, of-yes, of-no, never}
 use Rattle.machine.proofs.Memory.{distinct, TargetOk, covers, Apart}
@@ -36,6 +36,7 @@ use Rattle.machine.proofs.Emit.{MemoryRule, StackOk}
 use Rattle.machine.proofs.Order.{PatchOk}
 use Rattle.machine.proofs.Whole.{In, EntryOk, PlainsOk, ScratchesOk, NeedR, PatchStart, Done, whole-ok}
 use Rattle.machine.proofs.Premises.{mem-at, has-reverse, Disjoint, disjoint, disjoint-comm, rematAt, kept-passes, remat-passes, scratch-passes, last-apart, dest-disjoint, dest-remat, dest-scratch, remat-remat, remat-scratch, scratch-scratch, writes, free-kept, free-remat, free-scratch, written, barred, remat-class, remat-bank, dest-fits, remat-fits, scratch-fits, member-holds, no-units, reg-low, reg-once, reg-slot, beyond}
+use Rattle.machine.proofs.Entries.{Became, dests-are, entry-ends}
 use Rattle.machine.proofs.Bound.{bound-ok}
 
 once-distinct : (l : List ℕ) → twice l ≡ false → T (distinct l)
@@ -297,8 +298,8 @@ module _ (t : RegInfo) (f : Function) (ta : target.Accepted t) (fa : function.Ac
     stopped : (start : Memory) (s : Machine) → Stop t f job start s → Stopped t f p content start s
     stopped start s h =
         record {
-          units = λ u l nd nf. sym (h .frame .words u (⊎-elim (λ m. ⊎-elim (never (isDestUnit u) nd) (never (has u (p .free)) nf) (m .1)) (λ m. let e : u ≡ 512 + m .0 = m .1 in omega arith)));
-          slots = λ x l nd. sym (h .frame .lists x (⊎-elim (λ m. let b : 512 + x < 512 = m .0 in omega arith) (other x l nd)));
+          units = λ u l nd nf. sym (h .frame .words u (⊎-elim (λ m. ⊎-elim (never (isDestUnit u) (dests-are t f p _ ∙ nd)) (never (has u (p .free)) nf) (m .1)) (λ m. let e : u ≡ 512 + m .0 = m .1 in omega arith)));
+          slots = λ x l nd. sym (h .frame .lists x (⊎-elim (λ m. let b : 512 + x < 512 = m .0 in omega arith) (other x l (dests-are t f p _ ∙ nd))));
           survives = λ i il. let y = h .lives (value t f ms i) (i, il, refl) in (y .0, y .1 .1, y .1 .0);
         }
       where
@@ -308,20 +309,20 @@ module _ (t : RegInfo) (f : Function) (ta : target.Accepted t) (fa : function.Ac
             ⊎-elim (λ b. omega arith) (λ d. never (isDestSlot x) nd (subst (λ (z : ℕ). T (isDestSlot z)) (sym e) d)) (m .2)
 
     finished : (s : Machine) → Final t f job s → Finished t f p content s
-    finished s h =
-        record {
-          moves = λ m i. let y = mem-at noMove i in h .placed (m .dest) (m .value) (inl (y .0, y .1, ap (λ (z : KeptMove). z .dest) (sym (y .2)), ap (λ (z : KeptMove). z .value) (sym (y .2))));
-          remats = λ r i. let y = mem-at (noRemat t f) i in h .placed (r .dest) (r .value) (inr (in-left ps ss (r .dest) (r .value) (rw (← y .2) (at-in t f ps (y .0) (y .1)))));
-          rematsWithScratch = λ r i. let y = mem-at (noRemat t f) i in h .placed (r .dest) (r .value) (inr (in-right ps ss (r .dest) (r .value) (rw (← y .2) (at-in t f ss (y .0) (y .1)))));
-          none-waits = h .none-waits;
-        }
+    finished s h = record { entries = λ e m. h .placed (entryDest e) (entryValue e) (placed e (entry-ends t f p e m)); none-waits = h .none-waits }
+      where
+        placed : (e : Entry) → Became t f p e → Kept (entryDest e) (entryValue e) ⊎ In (ps ++ ss) (entryDest e) (entryValue e)
+        placed e (inl w) = inl w
+        placed e (inr (inl w)) = inr (in-left ps ss _ _ (rw (w .2, w .3) (at-in t f ps (w .0) (w .1))))
+        placed e (inr (inr w)) = inr (in-right ps ss _ _ (rw (w .2, w .3) (at-in t f ss (w .0) (w .1))))
 
     right : CacheOk t f c → Right t f p content es
-    right co =
+    right co start hold =
+        let every = done co .every start hold in
         rw (ran .edits)
         (record {
-          stops = λ start hold k. let y = stops t f job (ran .allocator .edits) start _ (done co .every start hold) k in (y .0, y .1, stopped start (y .0) (y .2));
-          ends = λ start hold. let y = ends t f job (ran .allocator .edits) start _ (done co .every start hold) in (y .0, y .1, finished (y .0) (y .2));
+          stops = λ k. let y = stops t f job (ran .allocator .edits) start _ every k in (y .0, y .1, stopped start (y .0) (y .2));
+          ends = let y = ends t f job (ran .allocator .edits) start _ every in (y .0, y .1, finished (y .0) (y .2));
         })
 
   -- contents of zeros: there are always some

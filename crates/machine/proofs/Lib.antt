@@ -2,6 +2,7 @@ pub mod Tests
 pub mod Diversions
 pub mod Bound
 pub mod Premises
+pub mod Entries
 pub mod Tally
 pub mod Memory
 pub mod Run
@@ -18,3 +19,4 @@ pub mod Whole
 pub mod Slots
 pub mod Demand
 pub mod Instance
+pub mod NotAccepted

@@ -14,9 +14,18 @@ use Rattle.function.specs.Function.{Function, numValues, valueBank}
 use Rattle.function.specs.Refused as function
 use Rattle.rules.specs.Edit.{Edit}
 use Rattle.rules.specs.Scratch.{Cache, emptyCache, unitsOfReg}
-use Rattle.rules.specs.Order.{KeptMove, Remat, noMove}
-use Rattle.rules.specs.Patch.{Patch, sorted, destinations, bound, Answer, refused, resolved, resolve, Call, cacheAfter}
+use Rattle.rules.specs.Order.{KeptMove, noMove}
+use Rattle.rules.specs.Patch.{Entry, move, remat, Patch, sorted, bound, Answer, refused, resolved, resolve, Call, cacheAfter}
 use Rattle.machine.specs.Machine.{Memory, Machine, begin, read, steps, seen}
+
+-- where an entry puts its value, whatever becomes of it: kept, dropped or rebuilt
+abbrev pub entryDest : Entry → Place
+entryDest (move s d v) = d
+entryDest (remat d v) = d
+
+abbrev pub entryValue : Entry → ℕ
+entryValue (move s d v) = v
+entryValue (remat d v) = v
 
 module _ (t : RegInfo) (f : Function) where
   -- "Each value has a content, as many words as its bank's registers have units."
@@ -43,28 +52,31 @@ module _ (t : RegInfo) (f : Function) where
     IsScratch s q v = List·Memᴰ (record { place = q; words = content v }) (s .written)
 
     -- "every register unit and slot outside destinations, free units and emergency slots holds what it held when the patch began, and every
-    -- kept move's content stands whole in a source or destination of a kept move of its value or in a scratch place"
+    -- kept move's content stands whole in a source or destination of a kept move of its value or in a scratch place". "Destinations are those
+    -- of all entries, emergency slots those from N on."
     pub record Stopped (start : Memory) (s : Machine) : Type 0 where
       pub units :
-          (u : ℕ) → u < 512 → any (λ d. has u (unitsOfReg t f d)) (destinations (sorted t f p)) ≡ false → has u (p .free) ≡ false
+          (u : ℕ) → u < 512 → any (λ e. has u (unitsOfReg t f (entryDest e))) (p .entries) ≡ false → has u (p .free) ≡ false
           → seen t f s .word u ≡ start .word u
-      pub slots : (x : ℕ) → x < f .slots → any (samePlace (slot x)) (destinations (sorted t f p)) ≡ false → seen t f s .slots x ≡ start .slots x
+      pub slots : (x : ℕ) → x < f .slots → any (λ e. samePlace (slot x) (entryDest e)) (p .entries) ≡ false → seen t f s .slots x ≡ start .slots x
       pub survives :
           (i : ℕ) → i < numKept → (q : Place) × (read t f (seen t f s) q ≡ content (kept i .value)) × (OfValue q (kept i .value) ⊎ IsScratch s q (kept i .value))
 
     -- "With all edits done each destination holds its value's content and no register waits saved."
     pub record Finished (s : Machine) : Type 0 where
-      pub moves : (m : KeptMove) → List·Memᴰ m (sorted t f p .moves) → read t f (s .memory) (m .dest) ≡ content (m .value)
-      pub remats : (r : Remat) → List·Memᴰ r (sorted t f p .remats) → read t f (s .memory) (r .dest) ≡ content (r .value)
-      pub rematsWithScratch : (r : Remat) → List·Memᴰ r (sorted t f p .rematsWithScratch) → read t f (s .memory) (r .dest) ≡ content (r .value)
+      pub entries : (e : Entry) → List·Memᴰ e (p .entries) → read t f (s .memory) (entryDest e) ≡ content (entryValue e)
       pub none-waits : s .waiting ≡ []
 
-    -- "Then the machine can do every edit. After whichever number of edits it stops, none and all included"
-    pub record Right (es : List Edit) : Type 0 where
-      pub stops : (start : Memory) → Holding start → (k : ℕ) → (s : Machine) × (steps t f content (take k es) (begin start) ≡ some s) × Stopped start s
-      pub ends : (start : Memory) → Holding start → (s : Machine) × (steps t f content es (begin start) ≡ some s) × Finished s
+    -- from one start: "Then the machine can do every edit. After whichever number of edits it stops, none and all included"
+    pub record RightFrom (start : Memory) (es : List Edit) : Type 0 where
+      pub stops : (k : ℕ) → (s : Machine) × (steps t f content (take k es) (begin start) ≡ some s) × Stopped start s
+      pub ends : (s : Machine) × (steps t f content es (begin start) ≡ some s) × Finished s
 
-  -- of an accepted patch: "whatever else the machine holds and whatever the contents are"; "Whatever the sources hold, the edits number at
+    -- "whatever else the machine holds"
+    abbrev pub Right : List Edit → Type 0
+    Right es = (start : Memory) → Holding start → RightFrom start es
+
+  -- of an accepted patch: "whatever the contents are"; "Whatever the sources hold, the edits number at
   -- most 8 × kept moves + 5 × rebuilds with scratch + other rebuilds."
   pub record Accepted (p : Patch) (es : List Edit) : Type 0 where
     pub right : (content : ℕ → List ℕ) → Contents content → Right p content es
