@@ -1,6 +1,6 @@
 -- No job's answer is longer than the sizes that are named for it.
-use Prim.Native.Nat.{ℕ, zero, suc, _+_, _*_, _≤_, _<_}
-use mathlib.Core.Path.{_≡_}
+use Prim.Native.Nat.{ℕ, zero, suc, _+_, _-_, _*_, _≤_, _<_}
+use mathlib.Core.Path.{_≡_, refl}
 use mathlib.Core.Bool.{Bool, true, false}
 use mathlib.Core.List.{List, [], _∷_, _++_, map}
 use mathlib.Core.Option.{Option, none, some}
@@ -9,28 +9,23 @@ use lib.ListN.{length, length-append, length-map}
 use Rattle.entity.specs.Logic.{pick}
 use Rattle.entity.specs.Place.{Place}
 use Rattle.reginfo.specs.RegInfo.{RegInfo}
-use Rattle.reginfo.specs.Refused.{firstOf}
 use Rattle.function.specs.Function.{Function}
 use Rattle.rules.specs.Edit.{Edit}
-use Rattle.rules.specs.Scratch.{Cache, emptyCache, ScratchAllocator}
-use Rattle.rules.specs.Patch.{Entry, move, remat, Patch, Sorted, nothingSorted, bound, becomesRemat, needsScratch, dropped, addRemat, addKept, entryConditions, patchConditions, add, sortedFrom, Answer, answerOf, unlessRefused, run, resolveSorted, resolveFrom, resolve, cacheAfter}
-use Rattle.rules.specs.Patch as rules
-use Rattle.machine.specs.Claim.{Answered}
+use Rattle.rules.specs.Scratch.{Cache, emptyCache}
+use Rattle.rules.specs.Patch.{Entry, move, remat, Sorted, nothingSorted, bound, becomesRemat, needsScratch, dropped, addRemat, addKept, add, sortedFrom}
 use Rattle.edit.specs.Word.{wordOf, AllInRange}
 use Rattle.number.specs.Read.{Read, got, refused}
 use Rattle.print.specs.Text.{decimal, newline, spaced, editsWord, madeWord, editLine, editLines, patchLine, patchText}
 use Rattle.print.proofs.Decimal.{short}
 use Rattle.print.proofs.Lengths.{edit-short, refused-short}
 use Rattle.answer_text.specs.Lines.{refusalText}
-use Rattle.job_patch.specs.Patches.{patch}
-use Rattle.job.specs.Job.{Header, Done, Answers, endsWith, before, afterRead, afterCall, leftOver, patches, opening, job}
-use Rattle.job.specs.Claim.{afterPatch, PatchesRight, Opened}
+use Rattle.job.specs.Job.{Header, Done, opening, job}
+use Rattle.job.specs.Claim.{DoneAt, OneByOne, Opened}
 use Rattle.job.proofs.Claimed.{every-job}
-use Rattle.answer.specs.Words.{wordsOf, doneText, AllPacked, Packed}
-use Rattle.job_text.specs.Standing.{textFrom}
+use Rattle.answer.specs.Words.{wordsOf, numberOf, doneText, AllPacked, Packed}
+use Rattle.answer.proofs.Numbers.{numbered}
 use Rattle.job_text.specs.Most.{WordsFit, TextFits}
-use Rattle.job_text.proofs.Standing.{one-more}
-use Rattle.job_text.proofs.Taking.{Reads, took, told, Low, first-low, entry-low, bytes, allBytes, patch-read, opening-read}
+use Rattle.job_text.proofs.Taking.{bytes, allBytes, patch-read, opening-read}
 
 -- ---- an entry adds at most twice its bytes to the bound
 longer : {A : Type 0} (l : List A) (x : A) → length (l ++ (x ∷ [])) ≡ length l + 1
@@ -60,29 +55,6 @@ module _ (t : RegInfo) (f : Function) where
   all-under [] a = omega arith
   all-under (e ∷ es) a = omega (arith, all-under es (add t f e a), add-under e a)
 
-  -- ---- a call's refusal is one of the table's
-  abbrev LowAnswer : Answer → Type 0
-  LowAnswer (rules.refused k) = k ≤ 17
-  LowAnswer (rules.resolved es c) = Unit {0}
-
-  unless-low : (o : Option ℕ) (r : Answer) → Low o → LowAnswer r → LowAnswer (unlessRefused o r)
-  unless-low none r h q = q
-  unless-low (some k) r h q = h
-
-  run-low : (o : Option ScratchAllocator) → LowAnswer (answerOf o)
-  run-low none = omega arith
-  run-low (some k) = tt
-
-  from-low : (p : Patch) (c : Cache) (es : List Entry) (a : Sorted) → LowAnswer (resolveFrom t f p 1024 c es a)
-  unfolding resolveFrom resolveSorted patchConditions
-  from-low p c [] a =
-      unless-low (firstOf (patchConditions t f p 1024 a)) (answerOf (run t f p a c)) (first-low (patchConditions t f p 1024 a) (omega arith, (omega arith, (omega arith, tt)))) (run-low (run t f p a c))
-  from-low p c (e ∷ es) a = unless-low (firstOf (entryConditions t f a e)) (resolveFrom t f p 1024 c es (add t f e a)) (entry-low t f a e) (from-low p c es (add t f e a))
-
-  call-low : (p : Patch) (c : Cache) → LowAnswer (resolve t f p 1024 c)
-  unfolding resolve
-  call-low p c = from-low p c (p .entries) nothingSorted
-
 -- ---- lines
 refusal-short : (k : ℕ) → k ≤ 17 → length (refusalText k) ≤ 36
 refusal-short zero h = omega arith
@@ -105,68 +77,60 @@ patch-short k d h p =
     rw (length-append (patchLine k (length (d .edits)) (d .made)) (editLines (d .edits)))
     (omega (arith, line-short k (length (d .edits)) (d .made) h (omega (arith, p .few)) (omega (arith, p .small)), lines-short (d .edits) (p .ranged)))
 
--- ---- answers to at most n patches, read from at most `bytes` bytes
-record Fits (n bytes : ℕ) (a : Answers) : Type 0 where
-  pub words : length (wordsOf (a .done)) ≤ 2 * bytes + n
-  pub text : (k : ℕ) → k + n ≤ 1025 → AllPacked (a .done) → length (textFrom k a) ≤ 19 * (2 * bytes) + 36 * (n + 1)
-
-ended : (n bytes k : ℕ) → k ≤ 17 → Fits n bytes (endsWith (some k))
-unfolding wordsOf doneText
-ended n bytes k h = record { words = omega arith; text = λ j e p. omega (arith, refusal-short k h) }
-
-left : (n bytes : ℕ) (l : List ℕ) → Fits n bytes (leftOver l)
-unfolding wordsOf doneText
-left n bytes [] = record { words = omega arith; text = λ j e p. omega arith }
-left n bytes (b ∷ l) = ended n bytes 8 (omega arith)
-
-words-more : (d : Done) (a : Answers) → length (wordsOf (before d a .done)) ≡ 1 + length (d .edits) + length (wordsOf (a .done))
+-- ---- the patches that are done, n at most, of the bytes l
+words-more : (d : Done) (ds : List Done) → length (wordsOf (d ∷ ds)) ≡ 1 + length (d .edits) + length (wordsOf ds)
 unfolding wordsOf
-words-more d a = omega (arith, length-append (map wordOf (d .edits)) (wordsOf (a .done)), length-map (d .edits) wordOf)
+words-more d ds = omega (arith, length-append (map wordOf (d .edits)) (wordsOf ds), length-map (d .edits) wordOf)
 
-one-patch : (n few bytes : ℕ) (d : Done) (a : Answers) → length (d .edits) ≤ 2 * few → Fits n bytes a → Fits (suc n) (few + bytes) (before d a)
-one-patch n few bytes d a h fit =
-    record {
-      words = omega (arith, words-more d a, fit .words);
-      text = λ k e p. rw (one-more k d a, length-append (patchText k (d .edits) (d .made)) (textFrom (k + 1) a)) (omega (arith, patch-short k d (omega arith) (p .0), fit .text (k + 1) (omega arith) (p .1)));
-    }
-
-wider : {n b c : ℕ} {a : Answers} → b ≤ c → Fits n b a → Fits n c a
-wider h fit = record { words = omega (arith, fit .words); text = λ k e p. omega (arith, fit .text k e p) }
+text-more : (k : ℕ) (d : Done) (ds : List Done) → length (doneText k (d ∷ ds)) ≡ length (patchText k (d .edits) (d .made)) + length (doneText (k + 1) ds)
+unfolding doneText
+text-more k d ds = length-append (patchText k (d .edits) (d .made)) (doneText (k + 1) ds)
 
 module _ (t : RegInfo) (f : Function) where
-  call-fits : (n bytes : ℕ) (p : Patch) (c : Cache) (r : List ℕ) (a : Answer) → allBytes (p .entries) + length r ≤ bytes → LowAnswer t f a → Answered t f p a
-      → ((c′ : Cache) → PatchesRight t f n c′ r → Fits n (length r) (patches t f n c′ r)) → PatchesRight t f n (cacheAfter c a) r
-      → Fits (suc n) bytes (afterCall a (λ c′. patches t f n c′ r))
-  call-fits n bytes p c r (rules.refused k) h low right on rest = ended (suc n) bytes k low
-  call-fits n bytes p c r (rules.resolved es c′) h low right on rest =
-      wider h (one-patch n (allBytes (p .entries)) (length r) (record { edits = es; made = c′ .made }) (patches t f n c′ r) (omega (arith, right .few, all-under t f (p .entries) nothingSorted)) (on c′ rest))
+  -- a patch has at most twice as many edits as it has bytes
+  few-edits : (c : Cache) (l : List ℕ) (d : Done) (x : DoneAt t f c l d) → length (d .edits) + 2 * length (x .rest) ≤ 2 * length l
+  few-edits c l d x = omega (arith, x .accepted .few, all-under t f (x .p .entries) nothingSorted, patch-read t f l (x .p) (x .rest) (x .reads))
 
-  patches-fit : (n : ℕ) (c : Cache) (l : List ℕ) → PatchesRight t f n c l → Fits n (length l) (patches t f n c l)
-  unfolding patches
-  patches-fit zero c l right = left 0 (length l) l
-  patches-fit (suc n) c l right = go (patch t f l) (patch-read t f l) right (λ c′ r h. patches-fit n c′ r h)
-    where
-      go : (x : Read Patch) → Reads (λ p m. allBytes (p .entries) + m ≤ length l) x → afterPatch t f c x (PatchesRight t f n)
-          → ((c′ : Cache) (r : List ℕ) → PatchesRight t f n c′ r → Fits n (length r) (patches t f n c′ r))
-          → Fits (suc n) (length l) (afterRead x (λ p r. afterCall (resolve t f p 1024 c) (λ c′. patches t f n c′ r)))
-      go (refused _) (told k h) right on = ended (suc n) (length l) k h
-      go (got _ _) (took p r h) right on = call-fits n (length l) p c r (resolve t f p 1024 c) h (call-low t f p c) (right .0) (λ c′. on c′ r) (right .1)
+  few-words : (ds : List Done) (o : Option ℕ) (n : ℕ) (c : Cache) (l : List ℕ) → OneByOne t f ds o n c l → length (wordsOf ds) ≤ 2 * length l + n
+  unfolding wordsOf
+  few-words [] o n c l h = omega arith
+  few-words (d ∷ ds) o n c l h = let x = h .1 in omega (arith, h .0, words-more d ds, few-edits c l d x, few-words ds o (n - 1) (x .after) (x .rest) (h .2))
+
+  short-text : (ds : List Done) (o : Option ℕ) (n : ℕ) (c : Cache) (l : List ℕ) (k : ℕ) → k + n ≤ 1025 → AllPacked ds → OneByOne t f ds o n c l
+      → length (doneText k ds) ≤ 19 * (2 * length l) + 36 * n
+  unfolding doneText
+  short-text [] o n c l k e p h = omega arith
+  short-text (d ∷ ds) o n c l k e p h =
+      let x = h .1 in
+      omega (arith, h .0, text-more k d ds, patch-short k d (omega (arith, h .0)) (p .0), few-edits c l d x, short-text ds o (n - 1) (x .after) (x .rest) (k + 1) (omega (arith, h .0)) (p .1) (h .2))
 
 -- ---- the whole job
-more-patches : {n m b : ℕ} {a : Answers} → n ≤ m → Fits n b a → Fits m b a
-more-patches h fit = record { words = omega (arith, fit .words); text = λ k e p. omega (arith, fit .text k (omega arith) p) }
+refusal-fits : (l : List ℕ) (o : Option ℕ) → job l .refusal ≡ o → length (refusalText (numberOf o)) ≤ 36
+refusal-fits l none e = omega arith
+refusal-fits l (some k) e = refusal-short k (numbered l k e .1)
 
-job-fits : (l : List ℕ) → Fits 1024 65536 (job l)
-unfolding job
-job-fits l = go (opening l) (opening-read l) (every-job l)
-  where
-    go : (x : Read Header) → Reads (λ h m. (m ≤ 65536) × (h .patches ≤ 1024)) x → Opened x
-        → Fits 1024 65536 (afterRead x (λ h r. patches (h .target) (h .function) (h .patches) emptyCache r))
-    go (refused _) (told k h) o = ended 1024 65536 k h
-    go (got _ _) (took h r j) o = more-patches (j .1) (wider (j .0) (patches-fit (h .target) (h .function) (h .patches) emptyCache r o))
+module _ (l : List ℕ) where
+  abbrev done : List Done
+  done = job l .done
+
+  all-words : (x : Read Header) → opening l ≡ x → Opened x (job l) → length (wordsOf done) ≤ 2 * 65536 + 1024
+  unfolding wordsOf
+  all-words (refused k) e h = rw (h .0) (omega arith)
+  all-words (got x r) e h =
+      let j = opening-read l x r e in
+      omega (arith, j .0, j .1, few-words (x .target) (x .function) done (job l .refusal) (x .patches) emptyCache r h)
+
+  all-text : (x : Read Header) → opening l ≡ x → Opened x (job l) → AllPacked done → length (doneText 1 done) ≤ 19 * (2 * 65536) + 36 * 1024
+  unfolding doneText
+  all-text (refused k) e h p = rw (h .0) (omega arith)
+  all-text (got x r) e h p =
+      let j = opening-read l x r e in
+      omega (arith, j .0, j .1, short-text (x .target) (x .function) done (job l .refusal) (x .patches) emptyCache r 1 (omega (arith, j .1)) p h)
 
 pub words-fit : WordsFit
-words-fit l = job-fits l .words
+words-fit l = all-words l (opening l) refl (every-job l)
 
 pub text-fits : TextFits
-text-fits l p = job-fits l .text 1 (omega arith) p
+text-fits l p =
+    rw (length-append (doneText 1 (job l .done)) (refusalText (numberOf (job l .refusal))))
+    (omega (arith, all-text l (opening l) refl (every-job l) p, refusal-fits l (job l .refusal) refl))

@@ -52,7 +52,7 @@ unfolding doneText
 over k [] = refl
 over k (b ∷ l) = refl
 
-pub one-more : (k : ℕ) (d : Done) (a : Answers) → textFrom k (before d a) ≡ patchText k (d .edits) (d .made) ++ textFrom (k + 1) a
+one-more : (k : ℕ) (d : Done) (a : Answers) → textFrom k (before d a) ≡ patchText k (d .edits) (d .made) ++ textFrom (k + 1) a
 unfolding doneText
 one-more k d a = append-assoc (patchText k (d .edits) (d .made)) (doneText (k + 1) (a .done)) (refusalText (numberOf (a .refusal)))
 
