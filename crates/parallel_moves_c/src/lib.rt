@@ -12,13 +12,14 @@ use slots::Slots;
 use small_set::RegUnitSet;
 use sparse::SparseMap;
 use visits::Marks;
+ghost use lib.ListN.{length};
 ghost use Rattle.entity.specs.Logic.{Anything};
 ghost use Rattle.answer_text.specs.Lines.{answerText, Printed};
-ghost use Rattle.job.specs.Job.{job};
+ghost use Rattle.answer.specs.Room.{jobIn};
 ghost use Rattle.parallel_moves_c.specs.Answered.{AnsweredAs};
 
-// A whole job: answers how many words the patches that were resolved have, and sets `refusal` to 01's number or 0. Where `words` is too short
-// both are 0: an answered job has at least one word.
+// A whole job: answers how many words the patches that were resolved have, and sets `refusal` to 01's number or 0: 16 at a patch for which too few
+// words are left.
 #[no_mangle]
 pub extern "C" fn parallel_moves_answer(
     bytes: &[u8],
@@ -27,7 +28,6 @@ pub extern "C" fn parallel_moves_answer(
     target: &mut RegInfo,
     function: &mut Function,
     cache: &mut SlotCache,
-    list: &mut [u64; 1024],
     free: &mut RegUnitSet,
     entries: &mut Entries,
     writers: &mut SparseMap,
@@ -39,8 +39,8 @@ pub extern "C" fn parallel_moves_answer(
     marks: &mut Marks,
     carried: &mut Carried,
 ) -> usize
-    ensures { λ r. ⌜ AnsweredAs (now (words .entry)) (job (now (bytes .entry))) r (now (refusal .exit)) (now (words .exit)) ⌝ }
-    ensures { λ _. ⌜ Anything (now (target .exit)) × Anything (now (function .exit)) × Anything (now (cache .exit)) × Anything (now (list .exit)) × Anything (now (free .exit)) × Anything (now (entries .exit)) × Anything (now (writers .exit)) × Anything (now (available .exit)) × Anything (now (sources .exit)) × Anything (now (edits .exit)) × Anything (now (slots .exit)) × Anything (now (diverted .exit)) × Anything (now (marks .exit)) × Anything (now (carried .exit)) ⌝ }
+    ensures { λ r. ⌜ AnsweredAs (now (words .entry)) (jobIn (length (now (words .entry))) (now (bytes .entry))) r (now (refusal .exit)) (now (words .exit)) ⌝ }
+    ensures { λ _. ⌜ Anything (now (target .exit)) × Anything (now (function .exit)) × Anything (now (cache .exit)) × Anything (now (free .exit)) × Anything (now (entries .exit)) × Anything (now (writers .exit)) × Anything (now (available .exit)) × Anything (now (sources .exit)) × Anything (now (edits .exit)) × Anything (now (slots .exit)) × Anything (now (diverted .exit)) × Anything (now (marks .exit)) × Anything (now (carried .exit)) ⌝ }
 {
     match answer::answer_job(
         bytes,
@@ -48,7 +48,6 @@ pub extern "C" fn parallel_moves_answer(
         target,
         function,
         cache,
-        list,
         free,
         entries,
         writers,
@@ -67,10 +66,6 @@ pub extern "C" fn parallel_moves_answer(
         Whole::Refused(k, n) => {
             *refusal = k;
             n
-        }
-        Whole::Short => {
-            *refusal = 0;
-            0
         }
     }
 }
