@@ -23,14 +23,14 @@ ghost use Rattle.function.specs.Known.{Checked};
 ghost use Rattle.function.specs.Table.{functionOf};
 ghost use Rattle.slots.specs.Stacks.{cacheOf};
 ghost use Rattle.parallel_moves.specs.Given.{CacheOk};
-ghost use Rattle.job.specs.Job.{job};
 ghost use Rattle.calls.specs.Opening.{opened};
 ghost use Rattle.calls.specs.Call.{callOf};
+ghost use Rattle.answer.specs.Room.{jobIn};
 ghost use Rattle.parallel_moves_c.specs.Answered.{AnsweredAs};
 ghost use Rattle.parallel_moves_c.specs.Called.{OpenedBy, CalledAs};
 
-// A whole job: answers how many words the patches that were resolved have, and sets `refusal` to 01's number or 0. Where `words` is too short
-// both are 0: an answered job has at least one word.
+// A whole job: answers how many words the patches that were resolved have, and sets `refusal` to 01's number or 0: 16 at a patch for which too few
+// words are left.
 #[no_mangle]
 pub extern "C" fn parallel_moves_answer(
     bytes: &[u8],
@@ -39,7 +39,6 @@ pub extern "C" fn parallel_moves_answer(
     target: &mut RegInfo,
     function: &mut Function,
     cache: &mut SlotCache,
-    list: &mut [u64; 1024],
     free: &mut RegUnitSet,
     entries: &mut Entries,
     writers: &mut SparseMap,
@@ -51,8 +50,8 @@ pub extern "C" fn parallel_moves_answer(
     marks: &mut Marks,
     carried: &mut Carried,
 ) -> usize
-    ensures { λ r. ⌜ AnsweredAs (now (words .entry)) (job (now (bytes .entry))) r (now (refusal .exit)) (now (words .exit)) ⌝ }
-    ensures { λ _. ⌜ Anything (now (target .exit)) × Anything (now (function .exit)) × Anything (now (cache .exit)) × Anything (now (list .exit)) × Anything (now (free .exit)) × Anything (now (entries .exit)) × Anything (now (writers .exit)) × Anything (now (available .exit)) × Anything (now (sources .exit)) × Anything (now (edits .exit)) × Anything (now (slots .exit)) × Anything (now (diverted .exit)) × Anything (now (marks .exit)) × Anything (now (carried .exit)) ⌝ }
+    ensures { λ r. ⌜ AnsweredAs (now (words .entry)) (jobIn (length (now (words .entry))) (now (bytes .entry))) r (now (refusal .exit)) (now (words .exit)) ⌝ }
+    ensures { λ _. ⌜ Anything (now (target .exit)) × Anything (now (function .exit)) × Anything (now (cache .exit)) × Anything (now (free .exit)) × Anything (now (entries .exit)) × Anything (now (writers .exit)) × Anything (now (available .exit)) × Anything (now (sources .exit)) × Anything (now (edits .exit)) × Anything (now (slots .exit)) × Anything (now (diverted .exit)) × Anything (now (marks .exit)) × Anything (now (carried .exit)) ⌝ }
 {
     match answer::answer_job(
         bytes,
@@ -60,7 +59,6 @@ pub extern "C" fn parallel_moves_answer(
         target,
         function,
         cache,
-        list,
         free,
         entries,
         writers,
@@ -79,10 +77,6 @@ pub extern "C" fn parallel_moves_answer(
         Whole::Refused(k, n) => {
             *refusal = k;
             n
-        }
-        Whole::Short => {
-            *refusal = 0;
-            0
         }
     }
 }
