@@ -71,7 +71,6 @@
 #define PARALLEL_MOVES_TARGET 107520
 #define PARALLEL_MOVES_FUNCTION 16387
 #define PARALLEL_MOVES_CACHE 65600
-#define PARALLEL_MOVES_LIST 1024
 #define PARALLEL_MOVES_UNITS 512
 #define PARALLEL_MOVES_ENTRIES 1028
 #define PARALLEL_MOVES_WRITERS 6657
@@ -143,7 +142,6 @@ size_t parallel_moves_answer(
     uint16_t target[PARALLEL_MOVES_TARGET],
     uint16_t function[PARALLEL_MOVES_FUNCTION],
     uint16_t cache[PARALLEL_MOVES_CACHE],
-    uint64_t list[PARALLEL_MOVES_LIST],
     bool free_units[PARALLEL_MOVES_UNITS],
     uint16_t entries[PARALLEL_MOVES_ENTRIES],
     uint16_t writers[PARALLEL_MOVES_WRITERS],
@@ -171,7 +169,6 @@ size_t parallel_moves_text(
  * many calls as you like, one at a time. It has one opened function at most;
  * after parallel_moves_answer_in it has none. */
 struct parallel_moves_memory {
-    uint64_t list[PARALLEL_MOVES_LIST];
     uint64_t edits[PARALLEL_MOVES_EDITS];
     uint16_t target[PARALLEL_MOVES_TARGET];
     uint16_t function[PARALLEL_MOVES_FUNCTION];
@@ -254,7 +251,7 @@ static inline size_t parallel_moves_answer_in(
 {
     return parallel_moves_answer(
         job, job_length, words, words_length, refusal,
-        memory->target, memory->function, memory->cache, memory->list,
+        memory->target, memory->function, memory->cache,
         memory->free_units, memory->entries, memory->writers,
         memory->available, memory->sources, memory->edits, memory->slots,
         memory->diverted, memory->marks, memory->carried);

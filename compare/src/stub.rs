@@ -143,7 +143,6 @@ pub unsafe extern "C" fn parallel_moves_answer(
     _target: *mut u16,
     _function: *mut u16,
     _cache: *mut u16,
-    _list: *mut u64,
     _free_units: *mut u8,
     _entries: *mut u16,
     _writers: *mut u16,

@@ -2,7 +2,7 @@
 
 use std::fmt;
 use std::iter::FusedIterator;
-use std::slice;
+use std::{mem, slice};
 
 use crate::entity::{Allocation, PhysReg, SpillSlot, Value};
 
@@ -23,6 +23,7 @@ use crate::entity::{Allocation, PhysReg, SpillSlot, Value};
 /// assert_eq!(Edit::EmergencyReload { to: r2, from: s4 }.to_string(), "L r2 s4");
 /// ```
 #[derive(Clone, Copy, Debug, PartialEq, Eq, PartialOrd, Ord, Hash)]
+#[repr(u32)]
 pub enum Edit {
     /// The contents of `from` go to `to`. `from` is read whole before `to` is
     /// written: they may share units.
@@ -33,63 +34,58 @@ pub enum Edit {
         from: Allocation,
         /// The value that it carries.
         value: Value,
-    },
+    } = 1,
     /// A register that the patch must not change is saved in an emergency slot.
     EmergencySpill {
         /// The emergency slot written.
         to: SpillSlot,
         /// The register saved.
         from: PhysReg,
-    },
+    } = 3,
     /// A saved register is loaded back from its emergency slot.
     EmergencyReload {
         /// The register loaded.
         to: PhysReg,
         /// The emergency slot read.
         from: SpillSlot,
-    },
+    } = 4,
     /// A value is rebuilt in `to`.
     Rematerialize {
         /// The place written.
         to: Allocation,
         /// The value that is rebuilt.
         value: Value,
-    },
+    } = 2,
 }
 
 impl Edit {
     /// The edit of a word, `((value * 2^14 + from) * 2^14 + to) * 8 + kind`,
-    /// with places by their codes.
+    /// with places by their codes. The kinds are the variants' numbers.
+    ///
+    /// No jump tells them apart, since in a list of edits the kinds change from
+    /// one to the next in no way that a processor could foresee.
     #[inline]
     fn of_word(word: u64) -> Self {
+        let kind = (word % 8) as u32;
         let to = (word / 8 % 16_384) as u32;
         let from = (word / 131_072 % 16_384) as u32;
-        let value = Value((word / 2_147_483_648 % 4096) as u32);
-        match word % 8 {
-            1 => Edit::Move {
-                to: Allocation { code: to },
-                from: Allocation { code: from },
-                value,
-            },
-            2 => Edit::Rematerialize {
-                to: Allocation { code: to },
-                value,
-            },
-            3 => Edit::EmergencySpill {
-                to: SpillSlot(to / 2),
-                from: PhysReg(from / 2),
-            },
-            4 => Edit::EmergencyReload {
-                to: PhysReg(to / 2),
-                from: SpillSlot(from / 2),
-            },
-            kind => no_edit(kind),
+        let value = (word / 2_147_483_648 % 4096) as u32;
+        if !(1..=4).contains(&kind) {
+            no_edit(kind);
         }
+        // A place by its code, but a slot or a register alone by its number.
+        let half = u32::from(kind >= 3);
+        let second = if kind == 2 { value } else { from >> half };
+        // SAFETY: the variants' numbers are 1 to 4, and `kind` is one of them.
+        // With `repr(u32)` an edit is its number and then its fields as they are
+        // declared, each of which is a `repr(transparent)` of a `u32`, and any
+        // `u32` will do.
+        unsafe { mem::transmute::<[u32; 4], Edit>([kind, to >> half, second, value]) }
     }
 }
 
 #[cold]
-fn no_edit(kind: u64) -> ! {
+fn no_edit(kind: u32) -> ! {
     unreachable!("a word of kind {kind} is no edit, and the library gives none")
 }
 
@@ -202,5 +198,62 @@ impl FusedIterator for Iter<'_> {}
 impl fmt::Debug for Iter<'_> {
     fn fmt(&self, f: &mut fmt::Formatter<'_>) -> fmt::Result {
         f.debug_list().entries(self.clone()).finish()
+    }
+}
+
+#[cfg(test)]
+mod tests {
+    use super::Edit;
+    use crate::entity::{Allocation, PhysReg, SpillSlot, Value};
+
+    #[test]
+    fn each_word_is_its_edit() {
+        for (to, from, value) in [
+            (0, 0, 0),
+            (3, 8, 7),
+            (12_286, 1_023, 4_095),
+            (16_383, 16_382, 1),
+        ] {
+            let word = |kind| {
+                let places = u64::from(from) * 16_384 + u64::from(to);
+                Edit::of_word((u64::from(value) * 268_435_456 + places) * 8 + kind)
+            };
+            let place = |code| Allocation { code };
+            let value = Value(value);
+            let (slot, reg) = (
+                |code: u32| SpillSlot(code / 2),
+                |code: u32| PhysReg(code / 2),
+            );
+            let (to_place, from_place) = (place(to), place(from));
+            let moved = Edit::Move {
+                to: to_place,
+                from: from_place,
+                value,
+            };
+            assert_eq!(word(1), moved);
+            assert_eq!(
+                word(2),
+                Edit::Rematerialize {
+                    to: to_place,
+                    value
+                }
+            );
+            let spilled = Edit::EmergencySpill {
+                to: slot(to),
+                from: reg(from),
+            };
+            assert_eq!(word(3), spilled);
+            let reloaded = Edit::EmergencyReload {
+                to: reg(to),
+                from: slot(from),
+            };
+            assert_eq!(word(4), reloaded);
+        }
+    }
+
+    #[test]
+    #[should_panic = "is no edit"]
+    fn a_head_is_no_edit() {
+        let _ = Edit::of_word(8);
     }
 }

@@ -11,8 +11,6 @@ type RegInfo = [u16; 107_520];
 type Function = [u16; 16_387];
 /// A function's emergency slots.
 type SlotCache = [u16; 65_600];
-/// The edits of one patch.
-type List = [u64; 1024];
 /// A set of register units.
 type RegUnitSet = [bool; 512];
 /// A patch under construction.
@@ -78,7 +76,6 @@ unsafe extern "C" {
         target: &mut RegInfo,
         function: &mut Function,
         cache: &mut SlotCache,
-        list: &mut List,
         free: &mut RegUnitSet,
         entries: &mut Entries,
         writers: &mut SparseMap,
@@ -106,7 +103,6 @@ pub(crate) struct Tables {
     target: Box<RegInfo>,
     function: Box<Function>,
     cache: Box<SlotCache>,
-    list: Box<List>,
     free: Box<RegUnitSet>,
     entries: Box<Entries>,
     writers: Box<SparseMap>,
@@ -125,7 +121,6 @@ impl Tables {
             target: table(),
             function: table(),
             cache: table(),
-            list: table(),
             free: table(),
             entries: table(),
             writers: table(),
@@ -157,7 +152,6 @@ impl Tables {
                 &mut self.target,
                 &mut self.function,
                 &mut self.cache,
-                &mut self.list,
                 &mut self.free,
                 &mut self.entries,
                 &mut self.writers,

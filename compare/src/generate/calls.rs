@@ -103,7 +103,7 @@ fn spoiled_opening(random: &mut Random, draft: &Draft) -> Vec<u8> {
 fn call(random: &mut Random, draft: &Draft, flavour: &Flavour, evicting: Option<&Patch>) -> Call {
     let patch = PatchMaker::new(random, draft, flavour).make();
     // Not all that are spoiled are refused in the end, and 17 comes besides.
-    if random.below(1000) >= 85 {
+    if random.below(1000) >= 90 {
         let mut call = given(&patch);
         if random.chance(25) {
             call.room = Room::Bound;
