@@ -8,11 +8,9 @@ use std::fs;
 
 use crate::growth;
 use crate::jobs::{self, PATCHES, Row};
-use crate::ours::{ours_add, timed_ours_both, timed_ours_job, timed_ours_resolve};
+use crate::ours::{timed_ours_job, timed_ours_patch};
 use crate::pairs::{Memory, Pair};
-use crate::theirs::{
-    original_add, timed_original_both, timed_original_job, timed_original_resolve,
-};
+use crate::theirs::{timed_original_job, timed_original_patch};
 use crate::times::HEAD;
 
 /// Callgrind's request to write what was counted since the last one.
@@ -54,7 +52,7 @@ pub fn count() {
                 pair.compare(&mut memory);
             }
         }
-        for kind in ["resolve", "both", "job"] {
+        for kind in ["patch", "job"] {
             end_part("rest");
             for pair in &mut pairs {
                 count_ours(pair, &mut memory, kind);
@@ -75,13 +73,7 @@ fn count_ours(pair: &mut Pair, memory: &mut Memory, kind: &str) {
         return;
     }
     for patch in 0..pair.patches {
-        job.lend_free(memory, patch);
-        if kind == "resolve" {
-            ours_add(job, memory, patch);
-            timed_ours_resolve(job, memory, patch);
-        } else {
-            timed_ours_both(job, memory, patch);
-        }
+        timed_ours_patch(job, memory, patch);
     }
 }
 
@@ -92,12 +84,7 @@ fn count_theirs(pair: &mut Pair, memory: &mut Memory, kind: &str) {
         return;
     }
     for patch in 0..pair.patches {
-        if kind == "resolve" {
-            original_add(job, memory, patch);
-            timed_original_resolve(job, memory, patch);
-        } else {
-            timed_original_both(job, memory, patch);
-        }
+        timed_original_patch(job, memory, patch);
     }
 }
 
@@ -125,11 +112,7 @@ pub fn print(folder: &str) {
     );
     println!("{HEAD}");
     for (index, row) in rows().iter().enumerate() {
-        let kinds = [
-            ("resolve", row.count()),
-            ("both", row.count()),
-            ("job", row.jobs.len()),
-        ];
+        let kinds = [("patch", row.count()), ("job", row.jobs.len())];
         let cells = kinds.map(|(kind, calls)| {
             let of = |side: &str| {
                 let (total, _): &(f64, _) = &counts[&format!("{index} {kind} {side}")];

@@ -108,7 +108,7 @@ fn entries_job(kind: Kind, count: usize, place: Places, free: Option<usize>) -> 
     job(target(131, 131), 130, 130, patch(kind, count, place, free))
 }
 
-fn time(clock: &Clock, jobs: &[Draft]) -> [Vec<Taken>; 2] {
+fn time(clock: &Clock, jobs: &[Draft]) -> Vec<Taken> {
     let mut memory = Memory::new();
     let mut pairs: Vec<Pair> = jobs.iter().map(Pair::open).collect();
     for pair in &mut pairs {
@@ -173,24 +173,20 @@ const KINDS: [(&str, Kind, Places, Option<usize>); 7] = [
 fn print_entries(clock: &Clock) {
     println!("Nanoseconds against entries, medians: 131 registers, 130 values, N = 130.\n");
     println!(
-        "| patch | entries | resolving: original | ours | ratio | ours, by entry | adding and resolving: original | ours | ratio | ours, by entry |"
+        "| patch | entries | adding and resolving: original | ours | ratio | ours, by entry |"
     );
-    println!("|---|---|---|---|---|---|---|---|---|---|");
+    println!("|---|---|---|---|---|---|");
     for (name, kind, place, free) in KINDS {
         let counts = [1, 2, 4, 8, 16, 32, 64, 128];
         let jobs = counts.map(|count| entries_job(kind, count, place, free));
-        let [resolve, both] = time(clock, &jobs);
-        for (at, count) in counts.into_iter().enumerate() {
-            let cells = [resolve[at], both[at]].map(|taken| {
-                format!(
-                    "{:.0} | {:.0} | {:.2} | {:.1}",
-                    taken.theirs,
-                    taken.ours,
-                    taken.ratio(),
-                    taken.ours / count as f64
-                )
-            });
-            println!("| {name} | {count} | {} |", cells.join(" | "));
+        for (count, taken) in counts.into_iter().zip(time(clock, &jobs)) {
+            println!(
+                "| {name} | {count} | {:.0} | {:.0} | {:.2} | {:.1} |",
+                taken.theirs,
+                taken.ours,
+                taken.ratio(),
+                taken.ours / count as f64
+            );
         }
     }
 }
@@ -200,9 +196,9 @@ fn print_tables(clock: &Clock) {
         "The same patch, 16 registers rotated through a free one, or 16 slots, over tables of other sizes; bank 0 has 32 registers.\n"
     );
     println!(
-        "| units | values | N | registers, resolving: original | ours | ratio | adding and resolving: original | ours | slots, resolving: original | ours | ratio | adding and resolving: original | ours |"
+        "| units | values | N | registers: original | ours | ratio | slots: original | ours | ratio |"
     );
-    println!("|---|---|---|---|---|---|---|---|---|---|---|---|---|");
+    println!("|---|---|---|---|---|---|---|---|---|");
     let sizes = [
         (32, 16, 16),
         (512, 16, 16),
@@ -219,14 +215,12 @@ fn print_tables(clock: &Clock) {
     };
     let (registers, slots) = (of(Place::Register), of(Place::Slot));
     for (at, (units, values, n)) in sizes.into_iter().enumerate() {
-        let cells = [&registers, &slots].map(|[resolve, both]| {
+        let cells = [registers[at], slots[at]].map(|taken| {
             format!(
-                "{:.0} | {:.0} | {:.2} | {:.0} | {:.0}",
-                resolve[at].theirs,
-                resolve[at].ours,
-                resolve[at].ratio(),
-                both[at].theirs,
-                both[at].ours
+                "{:.0} | {:.0} | {:.2}",
+                taken.theirs,
+                taken.ours,
+                taken.ratio()
             )
         });
         println!("| {units} | {values} | {n} | {} |", cells.join(" | "));

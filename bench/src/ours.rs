@@ -1,35 +1,30 @@
-//! Ours: the two static libraries, with the memory that they are lent.
+//! Ours: the static library, with the memory that it is lent.
 
-use crate::draft::{Draft, Patch, Place};
+use crate::draft::{self, Draft, Patch, Place};
 
-#[link(name = "bench_c", kind = "static")]
+#[link(name = "parallel_moves_c", kind = "static")]
 unsafe extern "C" {
-    fn bench_open(
+    fn parallel_moves_open(
         bytes: *const u8,
         bytes_len: usize,
         target: *mut u16,
         function: *mut u16,
         cache: *mut u16,
-    ) -> usize;
+    ) -> u8;
 
-    fn bench_add(
+    fn parallel_moves_resolve(
         target: *const u16,
         function: *const u16,
-        entries: *mut u16,
-        writers: *mut u16,
+        free_units: *const u32,
+        free_units_len: usize,
         numbers: *const u32,
         numbers_len: usize,
-    ) -> usize;
-
-    fn bench_resolve(
-        target: *const u16,
-        function: *const u16,
-        entries: *const u16,
-        writers: *const u16,
-        free_units: *const u8,
         cache: *mut u16,
         list: *mut u64,
         list_len: usize,
+        refusal: *mut u8,
+        entries: *mut u16,
+        writers: *mut u16,
         available: *mut u8,
         sources: *mut u8,
         edits: *mut u64,
@@ -38,10 +33,7 @@ unsafe extern "C" {
         marks: *mut u8,
         carried: *mut u16,
     ) -> usize;
-}
 
-#[link(name = "parallel_moves_c", kind = "static")]
-unsafe extern "C" {
     fn parallel_moves_answer(
         job: *const u8,
         job_len: usize,
@@ -51,7 +43,6 @@ unsafe extern "C" {
         target: *mut u16,
         function: *mut u16,
         cache: *mut u16,
-        list: *mut u64,
         free_units: *mut u8,
         entries: *mut u16,
         writers: *mut u16,
@@ -134,7 +125,7 @@ impl Memory {
 
 /// A patch as ours is given it.
 struct Given {
-    free: Vec<usize>,
+    free: Vec<u32>,
     numbers: Vec<u32>,
 }
 
@@ -153,10 +144,21 @@ impl Given {
             });
         }
         Given {
-            free: patch.free.clone(),
+            free: patch.free.iter().map(|&unit| unit as u32).collect(),
             numbers,
         }
     }
+}
+
+/// The bytes of a target and a function: a job without patch count and patches.
+fn beginning(draft: &Draft) -> Vec<u8> {
+    let empty = Draft {
+        patches: Vec::new(),
+        ..draft.clone()
+    };
+    let mut fields = empty.fields();
+    fields.pop();
+    draft::write(&fields)
 }
 
 /// A job opened, with its patches.
@@ -168,100 +170,59 @@ pub struct Job {
 
 impl Job {
     pub fn open(draft: &Draft) -> Self {
-        let bytes = draft.job();
+        let beginning = beginning(draft);
         let mut tables = Tables::new();
         // SAFETY: each array is as long as the function says.
-        let at = unsafe {
-            bench_open(
-                bytes.as_ptr(),
-                bytes.len(),
+        let refusal = unsafe {
+            parallel_moves_open(
+                beginning.as_ptr(),
+                beginning.len(),
                 tables.target.as_mut_ptr(),
                 tables.function.as_mut_ptr(),
                 tables.cache.as_mut_ptr(),
             )
         };
-        assert_ne!(at, 0, "ours refuses the job");
+        assert_eq!(refusal, 0, "ours refuses the target or the function");
         Job {
-            bytes,
+            bytes: draft.job(),
             tables,
             patches: draft.patches.iter().map(Given::new).collect(),
         }
     }
-
-    /// Sets the flags of a patch's free units, which a caller keeps in one
-    /// table from patch to patch.
-    pub fn lend_free(&self, memory: &mut Memory, patch: usize) {
-        memory.free_units.fill(0);
-        for &unit in &self.patches[patch].free {
-            memory.free_units[unit] = 1;
-        }
-    }
-
-    /// Adds the entries of a patch, which must not be refused.
-    #[inline(always)]
-    fn add(&self, memory: &mut Memory, patch: usize) -> usize {
-        let numbers = &self.patches[patch].numbers;
-        // SAFETY: the tables are as `bench_open` left them.
-        unsafe {
-            bench_add(
-                self.tables.target.as_ptr(),
-                self.tables.function.as_ptr(),
-                memory.entries.as_mut_ptr(),
-                memory.writers.as_mut_ptr(),
-                numbers.as_ptr(),
-                numbers.len(),
-            )
-        }
-    }
-
-    #[inline(always)]
-    fn resolve(&mut self, memory: &mut Memory, patch: usize) -> usize {
-        // SAFETY: the tables are as `bench_open` and the last call left them,
-        // and the entries were added.
-        unsafe {
-            bench_resolve(
-                self.tables.target.as_ptr(),
-                self.tables.function.as_ptr(),
-                memory.entries.as_ptr(),
-                memory.writers.as_ptr(),
-                memory.free_units.as_ptr(),
-                self.tables.cache.as_mut_ptr(),
-                memory.list.as_mut_ptr(),
-                1024,
-                memory.available.as_mut_ptr(),
-                memory.sources.as_mut_ptr(),
-                memory.edits.as_mut_ptr(),
-                memory.slots.as_mut_ptr(),
-                memory.diverted.as_mut_ptr(),
-                memory.marks.as_mut_ptr(),
-                memory.carried.as_mut_ptr(),
-            )
-        }
-    }
 }
 
-/// Adds the entries of a patch.
+/// Adds and resolves a patch: how many edits it has.
 #[inline(never)]
 #[unsafe(no_mangle)]
-pub extern "C" fn ours_add(job: &mut Job, memory: &mut Memory, patch: usize) -> usize {
-    job.add(memory, patch)
-}
-
-/// Resolves the patch that was added: how many edits it has.
-#[inline(never)]
-#[unsafe(no_mangle)]
-pub extern "C" fn timed_ours_resolve(job: &mut Job, memory: &mut Memory, patch: usize) -> usize {
-    job.resolve(memory, patch)
-}
-
-/// Adds and resolves.
-#[inline(never)]
-#[unsafe(no_mangle)]
-pub extern "C" fn timed_ours_both(job: &mut Job, memory: &mut Memory, patch: usize) -> usize {
-    if job.add(memory, patch) != 0 {
-        return usize::MAX;
-    }
-    job.resolve(memory, patch)
+pub extern "C" fn timed_ours_patch(job: &mut Job, memory: &mut Memory, patch: usize) -> usize {
+    let Given { free, numbers } = &job.patches[patch];
+    let mut refusal = 0;
+    // SAFETY: the tables are as `parallel_moves_open` and the last call left
+    // them, each array is as long as the function says, the flags are 0 or 1.
+    let count = unsafe {
+        parallel_moves_resolve(
+            job.tables.target.as_ptr(),
+            job.tables.function.as_ptr(),
+            free.as_ptr(),
+            free.len(),
+            numbers.as_ptr(),
+            numbers.len(),
+            job.tables.cache.as_mut_ptr(),
+            memory.list.as_mut_ptr(),
+            memory.list.len(),
+            &mut refusal,
+            memory.entries.as_mut_ptr(),
+            memory.writers.as_mut_ptr(),
+            memory.available.as_mut_ptr(),
+            memory.sources.as_mut_ptr(),
+            memory.edits.as_mut_ptr(),
+            memory.slots.as_mut_ptr(),
+            memory.diverted.as_mut_ptr(),
+            memory.marks.as_mut_ptr(),
+            memory.carried.as_mut_ptr(),
+        )
+    };
+    if refusal == 0 { count } else { usize::MAX }
 }
 
 /// Answers a whole job: how many words there are; none if it is refused.
@@ -280,7 +241,6 @@ pub extern "C" fn timed_ours_job(bytes: *const u8, len: usize, memory: &mut Memo
             memory.tables.target.as_mut_ptr(),
             memory.tables.function.as_mut_ptr(),
             memory.tables.cache.as_mut_ptr(),
-            memory.list.as_mut_ptr(),
             memory.free_units.as_mut_ptr(),
             memory.entries.as_mut_ptr(),
             memory.writers.as_mut_ptr(),

@@ -3,10 +3,8 @@
 use std::hint::black_box;
 
 use crate::draft::Draft;
-use crate::ours::{self, ours_add, timed_ours_both, timed_ours_job, timed_ours_resolve};
-use crate::theirs::{
-    self, original_add, timed_original_both, timed_original_job, timed_original_resolve,
-};
+use crate::ours::{self, timed_ours_job, timed_ours_patch};
+use crate::theirs::{self, timed_original_job, timed_original_patch};
 use crate::time::{self, Clock, median};
 
 /// The working memory of both sides.
@@ -45,9 +43,8 @@ impl Pair {
     /// Resolves each patch on both sides, whose edits must be the same.
     pub fn compare(&mut self, memory: &mut Memory) {
         for patch in 0..self.patches {
-            self.ours.lend_free(&mut memory.ours, patch);
-            let count = timed_ours_both(&mut self.ours, &mut memory.ours, patch);
-            let edits = timed_original_both(&mut self.theirs, &mut memory.theirs, patch);
+            let count = timed_ours_patch(&mut self.ours, &mut memory.ours, patch);
+            let edits = timed_original_patch(&mut self.theirs, &mut memory.theirs, patch);
             assert_eq!(count, edits, "the counts of edits differ");
             assert_eq!(
                 memory.ours.list(count),
@@ -72,13 +69,6 @@ impl Pair {
     }
 }
 
-/// What is timed of a patch.
-#[derive(Clone, Copy, PartialEq, Eq)]
-enum Timed {
-    Resolve,
-    AddAndResolve,
-}
-
 /// Nanoseconds of ours and of the original.
 #[derive(Clone, Copy)]
 pub struct Taken {
@@ -92,40 +82,23 @@ impl Taken {
     }
 }
 
-fn time_ours(pair: &mut Pair, memory: &mut Memory, patch: usize, timed: Timed) -> f64 {
-    let (job, memory) = (&mut pair.ours, &mut memory.ours);
-    job.lend_free(memory, patch);
-    let (from, to);
-    if timed == Timed::Resolve {
-        ours_add(job, memory, patch);
-        from = time::ticks();
-        black_box(timed_ours_resolve(job, memory, patch));
-        to = time::ticks();
-    } else {
-        from = time::ticks();
-        black_box(timed_ours_both(job, memory, patch));
-        to = time::ticks();
-    }
-    (to - from) as f64
+fn time_ours(pair: &mut Pair, memory: &mut Memory, patch: usize) -> f64 {
+    let from = time::ticks();
+    black_box(timed_ours_patch(&mut pair.ours, &mut memory.ours, patch));
+    (time::ticks() - from) as f64
 }
 
-fn time_theirs(pair: &mut Pair, memory: &mut Memory, patch: usize, timed: Timed) -> f64 {
-    let (job, memory) = (&mut pair.theirs, &mut memory.theirs);
-    let (from, to);
-    if timed == Timed::Resolve {
-        original_add(job, memory, patch);
-        from = time::ticks();
-        black_box(timed_original_resolve(job, memory, patch));
-        to = time::ticks();
-    } else {
-        from = time::ticks();
-        black_box(timed_original_both(job, memory, patch));
-        to = time::ticks();
-    }
-    (to - from) as f64
+fn time_theirs(pair: &mut Pair, memory: &mut Memory, patch: usize) -> f64 {
+    let from = time::ticks();
+    black_box(timed_original_patch(
+        &mut pair.theirs,
+        &mut memory.theirs,
+        patch,
+    ));
+    (time::ticks() - from) as f64
 }
 
-/// The ticks that each call took, by what was timed.
+/// The ticks that each call took.
 struct Ticks {
     ours: Vec<Vec<f64>>,
     theirs: Vec<Vec<f64>>,
@@ -152,37 +125,34 @@ impl Ticks {
     }
 }
 
-/// Resolving, and adding and resolving. The sides take turns patch by patch,
-/// each first in every other round; of each patch the median over the rounds.
+/// Adding and resolving. The sides take turns patch by patch, each first in
+/// every other round; of each patch the median over the rounds.
 pub fn time_patches(
     clock: &Clock,
     pairs: &mut [Pair],
     memory: &mut Memory,
     rounds: usize,
-) -> [Vec<Taken>; 2] {
-    let kinds = [Timed::Resolve, Timed::AddAndResolve];
+) -> Vec<Taken> {
     let count = pairs.iter().map(|pair| pair.patches).sum();
-    let mut ticks = kinds.map(|_| Ticks::new(count, rounds));
-    // A sweep over all patches for each kind, so that no call follows another
-    // of the same patch on its side.
+    let mut ticks = Ticks::new(count, rounds);
+    // A sweep over all patches, so that no call follows another of the same
+    // patch on its side.
     for round in 0..rounds {
-        for (ticks, timed) in ticks.iter_mut().zip(kinds) {
-            let mut at = 0;
-            for pair in &mut *pairs {
-                for patch in 0..pair.patches {
-                    if round % 2 == 0 {
-                        ticks.ours[at].push(time_ours(pair, memory, patch, timed));
-                        ticks.theirs[at].push(time_theirs(pair, memory, patch, timed));
-                    } else {
-                        ticks.theirs[at].push(time_theirs(pair, memory, patch, timed));
-                        ticks.ours[at].push(time_ours(pair, memory, patch, timed));
-                    }
-                    at += 1;
+        let mut at = 0;
+        for pair in &mut *pairs {
+            for patch in 0..pair.patches {
+                if round % 2 == 0 {
+                    ticks.ours[at].push(time_ours(pair, memory, patch));
+                    ticks.theirs[at].push(time_theirs(pair, memory, patch));
+                } else {
+                    ticks.theirs[at].push(time_theirs(pair, memory, patch));
+                    ticks.ours[at].push(time_ours(pair, memory, patch));
                 }
+                at += 1;
             }
         }
     }
-    ticks.map(|ticks| ticks.medians(clock))
+    ticks.medians(clock)
 }
 
 /// The same of whole jobs.

@@ -6,7 +6,7 @@ use std::arch::asm;
 use crate::draft::{Draft, Place};
 use crate::growth::{Kind, Places, job, patch, target};
 use crate::jobs::{self, Row};
-use crate::ours::{Job, Memory, ours_add, timed_ours_job, timed_ours_resolve};
+use crate::ours::{Job, Memory, timed_ours_job, timed_ours_patch};
 
 /// How much is filled, and how near to the caller.
 const FILLED: usize = 1 << 20;
@@ -57,10 +57,8 @@ fn of(draft: &Draft) -> (usize, usize) {
         assert_ne!(count, 0, "the job is refused");
         let mut resolve = 0;
         for patch in 0..draft.patches.len() {
-            opened.lend_free(&mut memory, patch);
-            ours_add(&mut opened, &mut memory, patch);
             let took = measure(&mut || {
-                timed_ours_resolve(&mut opened, &mut memory, patch);
+                timed_ours_patch(&mut opened, &mut memory, patch);
             });
             resolve = resolve.max(took);
         }
@@ -78,7 +76,7 @@ fn of(draft: &Draft) -> (usize, usize) {
 
 pub fn print() {
     println!("Bytes of stack that a call takes, with its arguments.\n");
-    println!("| jobs | `parallel_moves_answer` | `bench_resolve` |\n|---|---|---|");
+    println!("| jobs | `parallel_moves_answer` | `parallel_moves_resolve` |\n|---|---|---|");
     let mut most = (0, 0);
     let mut line = |name: &str, jobs: &[Draft]| {
         let all: Vec<_> = jobs.iter().map(of).collect();

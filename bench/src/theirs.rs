@@ -103,46 +103,10 @@ fn resolve(
     *made <= values.emergency_limit
 }
 
-/// Adds the entries of a patch.
+/// Adds and resolves a patch: how many edits it has.
 #[inline(never)]
 #[unsafe(no_mangle)]
-pub extern "C" fn original_add(job: &mut Job, _memory: &mut Memory, patch: usize) -> usize {
-    add(
-        &mut job.moves,
-        &job.target,
-        &job.values,
-        &job.patches[patch],
-    );
-    0
-}
-
-/// Resolves the patch that was added: how many edits it has.
-#[inline(never)]
-#[unsafe(no_mangle)]
-pub extern "C" fn timed_original_resolve(
-    job: &mut Job,
-    memory: &mut Memory,
-    patch: usize,
-) -> usize {
-    let patch = &job.patches[patch];
-    if !resolve(
-        &mut job.moves,
-        &job.target,
-        &job.values,
-        patch,
-        &mut job.made,
-    ) {
-        return usize::MAX;
-    }
-    memory.list.clear();
-    memory.list.extend(job.moves.edits());
-    memory.list.len()
-}
-
-/// Adds and resolves.
-#[inline(never)]
-#[unsafe(no_mangle)]
-pub extern "C" fn timed_original_both(job: &mut Job, memory: &mut Memory, patch: usize) -> usize {
+pub extern "C" fn timed_original_patch(job: &mut Job, memory: &mut Memory, patch: usize) -> usize {
     let patch = &job.patches[patch];
     add(&mut job.moves, &job.target, &job.values, patch);
     if !resolve(

@@ -4,8 +4,8 @@ use crate::jobs::{self, PATCHES};
 use crate::pairs::{Memory, Pair, Taken, time_jobs, time_patches};
 use crate::time::{Clock, median, part};
 
-pub const HEAD: &str = "| target | entries | on average | resolving: original | ours | ratio | adding and resolving: original | ours | ratio | whole job: original | ours | ratio |
-|---|---|---|---|---|---|---|---|---|---|---|---|";
+pub const HEAD: &str = "| target | entries | on average | adding and resolving: original | ours | ratio | whole job: original | ours | ratio |
+|---|---|---|---|---|---|---|---|---|";
 
 pub fn print() {
     let clock = Clock::new();
@@ -25,31 +25,28 @@ pub fn print() {
                 pair.compare(&mut memory);
             }
         }
-        let [resolve, both] = time_patches(&clock, &mut pairs, &mut memory, 101);
+        let patches = time_patches(&clock, &mut pairs, &mut memory, 101);
         let jobs = time_jobs(&clock, &pairs, &mut memory, 51);
         for pair in &mut pairs {
             pair.compare(&mut memory);
         }
         println!(
-            "| {} | {} | {:.1} | {} | {} | {} |",
+            "| {} | {} | {:.1} | {} | {} |",
             row.target,
             row.size,
             row.entries(),
-            cells(&resolve),
-            cells(&both),
+            cells(&patches),
             cells(&jobs)
         );
-        spread.push((row.target, row.size, [resolve, both, jobs]));
+        spread.push((row.target, row.size, [patches, jobs]));
     }
     println!(
         "\nRatios patch by patch (job by job): a tenth are below the first, half below the second, nine tenths below the third.\n"
     );
-    println!(
-        "| target | entries | resolving | adding and resolving | whole job |\n|---|---|---|---|---|"
-    );
+    println!("| target | entries | adding and resolving | whole job |\n|---|---|---|---|");
     for (target, size, taken) in spread {
-        let [resolve, both, jobs] = taken.map(|taken| ratios(&taken));
-        println!("| {target} | {size} | {resolve} | {both} | {jobs} |");
+        let [patches, jobs] = taken.map(|taken| ratios(&taken));
+        println!("| {target} | {size} | {patches} | {jobs} |");
     }
 }
 
