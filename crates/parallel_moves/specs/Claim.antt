@@ -1,4 +1,4 @@
--- Demand 3 of the code: one claim about a whole list of calls of `resolve` and `resolve_patch`.
+-- Demand 3 of the code: one claim about a whole list of calls of `resolve`, `resolve_available` and `resolve_patch`.
 use Prim.Native.Nat.{ℕ}
 use mathlib.Core.Path.{_≡_}
 use mathlib.Core.Bool.{Bool}
@@ -32,7 +32,8 @@ module _ (t f : List ℕ) where
   abbrev pub ruled : Made → Cache → Answer
   ruled x c = resolve (regInfoOf t) (functionOf f) (x .patch) (length (x .list)) c
 
-  -- the call did as a contract says: that of `resolve_patch`, its patch given as numbers; that of `resolve`, its patch built of entries
+  -- the call did as a contract says: that of `resolve_patch`, its patch given as numbers; that of `resolve` or
+  -- `resolve_available`, its patch built of entries
   pub data Did (x : Made) (cache : List ℕ) : Type 0 where
     by-numbers : (free : List Bool) (numbers : List ℕ) → Numbered free numbers (x .patch) → ResolvesPatch t f free numbers (x .answer) (x .list) (x .after) cache (x .cache) → Did x cache
     by-entries : (free : List Bool) (e : List ℕ) → Built t f free e (x .patch) → Resolves t f free e (x .answer) (x .list) (x .after) cache (x .cache) → Did x cache
