@@ -32,7 +32,7 @@ ghost use Rattle.parallel_moves_c.specs.Called.{OpenedBy, CalledAs};
 // A whole job: answers how many words the patches that were resolved have, and sets `refusal` to 01's number or 0: 16 at a patch for which too few
 // words are left.
 #[no_mangle]
-pub extern "C" fn parallel_moves_answer(
+pub extern "C" fn parallel_moves_answer_1(
     bytes: &[u8],
     words: &mut [u64],
     refusal: &mut u8,
@@ -83,7 +83,7 @@ pub extern "C" fn parallel_moves_answer(
 
 // The text of an answer, as the program `resolve` prints it: answers its length, or 0 where `text` is too short and holds the lines that fit.
 #[no_mangle]
-pub extern "C" fn parallel_moves_text(words: &[u64], refusal: u8, text: &mut [u8]) -> usize
+pub extern "C" fn parallel_moves_text_1(words: &[u64], refusal: u8, text: &mut [u8]) -> usize
     ensures { λ r. ⌜ Printed (now (text .entry)) (now (text .exit)) (answerText (now (words .entry)) refusal) r ⌝ }
 {
     answer_text::put_answer(text, words, refusal)
@@ -91,7 +91,7 @@ pub extern "C" fn parallel_moves_text(words: &[u64], refusal: u8, text: &mut [u8
 
 // Opens the target and the function that the bytes are, for `parallel_moves_resolve`: answers 0, or 01's number.
 #[no_mangle]
-pub extern "C" fn parallel_moves_open(
+pub extern "C" fn parallel_moves_open_1(
     bytes: &[u8],
     target: &mut RegInfo,
     function: &mut Function,
@@ -109,7 +109,7 @@ pub extern "C" fn parallel_moves_open(
 // `refusal` to 01's number or 0. Asked is that target, function and cache are as `parallel_moves_open` left them when it answered 0, the cache
 // as the last call on it left it: "nothing else writes the cache between calls".
 #[no_mangle]
-pub extern "C" fn parallel_moves_resolve(
+pub extern "C" fn parallel_moves_resolve_1(
     target: &RegInfo,
     function: &Function,
     free: &[u32],
@@ -161,7 +161,7 @@ pub extern "C" fn parallel_moves_resolve(
 
 // How many emergency slots the function has.
 #[no_mangle]
-pub extern "C" fn parallel_moves_made(cache: &SlotCache) -> u16
+pub extern "C" fn parallel_moves_made_1(cache: &SlotCache) -> u16
     ensures { λ n. ⌜ n ≡ cacheOf (now (cache .entry)) .made ⌝ }
 {
     slots::made(cache)
