@@ -17,7 +17,7 @@ use Rattle.rules.specs.Scratch.{Cache, ScratchAllocator, Evicted, acquir
 use Rattle.rules.specs.Order.{KeptMove, Remat, ParallelMoves, remats, rematWithScratch, source, dest, value, writerFrom, writersOf, writers, cycleMoveSources, emit, noted, divert, carried, lead, lost, undivert, undivertAll, close, visit, visitUnlessMemory, start, moves, withState, Pending, Done, isNew, isPending}
 use Rattle.rules.specs.Counts.{news}
 use Rattle.rules.specs.Patch.{Patch, Sorted, run}
-use Rattle.rules.specs.Refusals.{withLimit, EndsWithSlots, OnlyBySlots}
+use Rattle.rules.specs.Refusals.{withLimit, OnlyBySlots}
 use Rattle.rules.proofs.Steps.{All, Every, every-reverse, every-index}
 use Rattle.rules.proofs.News.{news-all, news-open}
 use Rattle.rules.proofs.Writers.{writers-low}
@@ -181,8 +181,5 @@ module _ (t : RegInfo) (f : Function) where
       all-there [] = tt
       all-there (r ∷ l) = (tt, all-there l)
 
-  pub ends-with-slots : EndsWithSlots t f
-  ends-with-slots p a c = let e = run-ends p a c in (e .from, e .end, e .is)
-
   pub only-by-slots : OnlyBySlots t f
-  only-by-slots p a c = let e = run-ends p a c in (e .end, by-limit t f (e .from) p a c (e .end) (e .is (e .from) (omega arith)))
+  only-by-slots p a c = let e = run-ends p a c in (e .end, (e .from, e .is), by-limit t f (e .from) p a c (e .end) (e .is (e .from) (omega arith)))

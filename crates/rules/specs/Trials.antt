@@ -50,9 +50,9 @@ Leaves (resolved es′ c) es made stacks = (es′ ≡ es) × (c .made ≡ made) 
 abbrev pub Gives : Answer → List Edit → ℕ → List ℕ → Type 0
 Gives r es made stack = Leaves r es made (updated 3 stack (λ z. []))
 
--- one slot is made, of size 2
-abbrev pub oneMade : Cache
-oneMade = record { stacks = updated 2 (0 ∷ []) (λ z. []); made = 1 }
+-- one slot is made, of size z
+abbrev pub oneMade : ℕ → Cache
+oneMade z = record { stacks = updated z (0 ∷ []) (λ z. []); made = 1 }
 
 pub record Trials : Type 0 where
   pub swap-full : Gives (resolve three (plain 0 1) (patch [] swap) 16 emptyCache) (Move (slot 0) (reg 1) 1 ∷ Move (reg 1) (reg 0) 0 ∷ Move (reg 0) (slot 0) 1 ∷ []) 1 (0 ∷ [])
@@ -67,7 +67,7 @@ pub record Trials : Type 0 where
   pub twice : Gives (resolve three (plain 0 1) (patch [] (move (reg 0) (reg 1) 0 ∷ move (reg 0) (reg 1) 0 ∷ [])) 8 emptyCache) (Move (reg 1) (reg 0) 0 ∷ []) 0 []
   pub no-slot : resolve three (plain 0 0) (patch [] swap) 16 emptyCache ≡ refused 17
   -- L = 1 is reached, and the slot made is of another size
-  pub no-slot-cache : (resolve three (plain 0 1) (patch [] swap) 16 oneMade ≡ refused 17) × (cacheAfter oneMade (resolve three (plain 0 1) (patch [] swap) 16 oneMade) ≡ oneMade)
+  pub no-slot-cache : (resolve three (plain 0 1) (patch [] swap) 16 (oneMade 2) ≡ refused 17) × (cacheAfter (oneMade 2) (resolve three (plain 0 1) (patch [] swap) 16 (oneMade 2)) ≡ oneMade 2)
 
 -- a bank whose top-level class is slots alone, and whose stack class is register 0
 abbrev pub paired : ℕ → List Reg → RegInfo
@@ -241,11 +241,10 @@ pub record ToldApart : Type 0 where
   pub brought-back-first :
       Gives (resolve between (over (fixed 0 ∷ fixed 1 ∷ []) 4 2) (patch [] (move (slot 0) (slot 1) 0 ∷ move (slot 2) (slot 3) 1 ∷ [])) 16 emptyCache)
       (EmergencySpill 4 2 ∷ Move (reg 2) (slot 2) 1 ∷ Move (slot 3) (reg 2) 1 ∷ EmergencyReload 2 4 ∷ EmergencySpill 4 0 ∷ Move (reg 0) (slot 0) 0 ∷ Move (slot 1) (reg 0) 0 ∷ EmergencyReload 0 4 ∷ []) 1 (4 ∷ [])
-  -- a slot of bank 0's size for a value of another bank, taken or put back: r0 and r1 are swapped, then r2 and r3
+  -- a slot of bank 0's size for a value of another bank, taken or put back: slot 0 is of size 3, and r2 and r3 are swapped
   pub slot-of-its-bank :
-      Leaves
-      (resolve sizes (over (fixed 0 ∷ fixed 0 ∷ fixed 1 ∷ fixed 1 ∷ []) 0 2) (patch [] (move (reg 0) (reg 1) 0 ∷ move (reg 1) (reg 0) 1 ∷ move (reg 2) (reg 3) 2 ∷ move (reg 3) (reg 2) 3 ∷ [])) 32 emptyCache)
-      (Move (slot 1) (reg 3) 3 ∷ Move (reg 3) (reg 2) 2 ∷ Move (reg 2) (slot 1) 3 ∷ Move (slot 0) (reg 1) 1 ∷ Move (reg 1) (reg 0) 0 ∷ Move (reg 0) (slot 0) 1 ∷ []) 2 (updated 2 (1 ∷ []) (updated 3 (0 ∷ []) (λ z. [])))
+      Leaves (resolve sizes (over (fixed 0 ∷ fixed 0 ∷ fixed 1 ∷ fixed 1 ∷ []) 0 2) (patch [] (move (reg 2) (reg 3) 2 ∷ move (reg 3) (reg 2) 3 ∷ [])) 16 (oneMade 3))
+      (Move (slot 1) (reg 3) 3 ∷ Move (reg 3) (reg 2) 2 ∷ Move (reg 2) (slot 1) 3 ∷ []) 2 (updated 2 (1 ∷ []) (updated 3 (0 ∷ []) (λ z. [])))
   -- a rebuild that leaves its destination unavailable: r0 and r1 are swapped through r2
   pub rebuilt-available :
       Gives (resolve three (over (fixed 0 ∷ fixed 0 ∷ rebuilt 1 ∷ []) 0 1) (patch [] (move (reg 0) (reg 1) 0 ∷ move (reg 1) (reg 0) 1 ∷ remat (reg 2) 2 ∷ [])) 17 emptyCache)
