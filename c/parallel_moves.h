@@ -131,10 +131,11 @@ uint16_t parallel_moves_slots_made(
 /* Answers a whole job: returns how many words its resolved patches have, and
  * sets *refusal to the number of the refusal, or to 0 if there is none. Look at
  * it before the words: of a refused job they are only the patches before the
- * refused one. The words are, for each patch, a head and then its edits. Where
- * `words` is too short the refusal is 16; PARALLEL_MOVES_MOST_WORDS are enough
- * for every job. The words past them are left alone. The working tables are
- * `target` to `carried`. */
+ * refused one. The words are, for each patch, a head and then its edits. A patch
+ * for which too few words are left is refused with 16, which never comes from
+ * PARALLEL_MOVES_MOST_WORDS words on: lend as many, or more and ask again. The
+ * words past those answered are left alone. The working tables are `target` to
+ * `carried`. */
 size_t parallel_moves_answer(
     const uint8_t *job, size_t job_length,
     uint64_t *words, size_t words_length,

@@ -1,6 +1,6 @@
 -- What a part of a job takes of its bytes: two words for each of them are enough for the bound of a patch.
 use Prim.Native.Nat.{ℕ, zero, suc, _+_, _*_, _≤_}
-use mathlib.Core.Path.{_≡_, refl, subst}
+use mathlib.Core.Path.{_≡_, subst}
 use mathlib.Core.Bool.{Bool, true, false}
 use mathlib.Core.List.{List, [], _∷_, _++_}
 use mathlib.Core.Option.{Option, none, some}
@@ -11,11 +11,11 @@ use Rattle.entity.specs.Logic.{pick, has}
 use Rattle.entity.specs.Place.{Place, placeAt}
 use Rattle.reginfo.specs.RegInfo.{RegInfo, bankForClass}
 use Rattle.reginfo.specs.Refused.{firstOf}
-use Rattle.function.specs.Function.{Function, numValues}
-use Rattle.rules.specs.Patch.{Entry, move, remat, Patch, Sorted, nothingSorted, bound, becomesRemat, needsScratch, dropped, addRemat, addKept, namesPlace, entryConditions, add, sortedFrom, sorted}
+use Rattle.function.specs.Function.{Function}
+use Rattle.rules.specs.Patch.{Entry, move, remat, Sorted, nothingSorted, bound, becomesRemat, needsScratch, dropped, addRemat, addKept, namesPlace, entryConditions, add, sortedFrom, sorted}
 use Rattle.number.specs.Read.{Read, got, refused, then}
 use Rattle.number.specs.Number.{joined, groups, number}
-use Rattle.reading.specs.Reading.{tested, below, times, distinct}
+use Rattle.reading.specs.Reading.{tested, times, distinct}
 use Rattle.job_target.specs.Target.{bank, reg, class, classes, target}
 use Rattle.job_function.specs.Reads.{rebuilt, value, valued, function}
 use Rattle.job_patch.specs.Patches.{unlessGiven, rising, place, entry, entries, patch}

@@ -1,6 +1,6 @@
 -- A patch at an offset: why it was turned away, or what its call gave.
 use Prim.Native.Nat.{ℕ, _≤_}
-use mathlib.Core.Path.{_≡_, refl, sym, ap, _∙_}
+use mathlib.Core.Path.{_≡_, refl, sym, ap}
 use mathlib.Core.List.{List, _++_, map}
 use native.Mathlib.Omega.{arith}
 use lib.ListN.{length, drop}
@@ -11,7 +11,7 @@ use Rattle.function.specs.Known.{Checked}
 use Rattle.function.specs.Table.{functionOf}
 use Rattle.rules.specs.Edit.{Edit}
 use Rattle.rules.specs.Scratch.{Cache}
-use Rattle.rules.specs.Patch.{Patch, Answer, sorted, bound, resolve}
+use Rattle.rules.specs.Patch.{Patch, Answer, bound, resolve}
 use Rattle.rules.specs.Patch as rules
 use Rattle.rules.proofs.Accepted.{accepted}
 use Rattle.machine.proofs.Bound.{bound-ok}

@@ -1,9 +1,8 @@
 -- From `mostWords` words on 16 never comes from a job: two words for each of its bytes and one for each patch are enough.
 use Prim.Native.Nat.{ℕ, zero, suc, _+_, _-_, _*_, _≤_}
 use mathlib.Core.Path.{_≡_, refl, sym, ap, subst, _∙_}
-use mathlib.Core.Bool.{Bool, true, false}
+use mathlib.Core.Bool.{false}
 use mathlib.Core.List.{List, [], _∷_}
-use mathlib.Core.Option.{none}
 use native.Mathlib.Omega.{arith}
 use borrow.Author.Tests.{ltb-false, leb-true, le-ltb}
 use lib.Dec.{ltb, leb}
@@ -28,7 +27,7 @@ use Rattle.job_target.specs.Target.{target}
 use Rattle.job_function.specs.Reads.{function}
 use Rattle.job_function.proofs.Accepted.{then-got, tested-got, read-accepted}
 use Rattle.job_patch.specs.Patches.{patch}
-use Rattle.job.specs.Job.{Header, Answers, before, afterRead, afterCall, afterTarget, header, opening, patches, job}
+use Rattle.job.specs.Job.{Header, before, afterRead, afterCall, afterTarget, header, opening, patches, job}
 use Rattle.job.proofs.WasRead.{unless-got, given-got}
 use Rattle.job.proofs.Room.{room-for-every}
 use Rattle.answer.specs.Room.{wordsTaken, callIn, patchesIn, jobIn, mostWords, MostWords}
@@ -73,14 +72,14 @@ module _ (t : RegInfo) (f : Function) where
             (after-call n c left p r (omega arith) (on r) (resolve t f p 1024 c) refl)
 
 -- of a job that was opened: an accepted target and function, 1,024 patches at most, and no more bytes left than there were
-record Opens (l : List ℕ) (h : Header) (r : List ℕ) : Type 0 where
+pub record Opens (l : List ℕ) (h : Header) (r : List ℕ) : Type 0 where
   pub target-taken : target.Accepted (h .target)
   pub function-taken : function.Accepted (h .target) (h .function)
   pub few : h .patches ≤ 1024
   pub short : length l ≤ 65536
   pub fewer : 2 * length r ≤ 2 * length l
 
-opens : (l : List ℕ) (h : Header) (r : List ℕ) → opening l ≡ got h r → Opens l h r
+pub opens : (l : List ℕ) (h : Header) (r : List ℕ) → opening l ≡ got h r → Opens l h r
 unfolding opening header afterTarget
 opens l h r e =
     let a = unless-got (ltb 65536 (length l)) 2 (header l) h r e in

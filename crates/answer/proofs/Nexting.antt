@@ -1,6 +1,6 @@
 -- A patch answered into a list of 1,024 words: what the answers of the whole job are from there on.
 use Prim.Native.Nat.{ℕ, suc, _≤_}
-use mathlib.Core.Path.{_≡_, refl, ap, _∙_}
+use mathlib.Core.Path.{_≡_, ap}
 use mathlib.Core.List.{List, map}
 use mathlib.Core.Option.{some}
 use lib.ListN.{length, take, drop}
@@ -11,10 +11,8 @@ use Rattle.function.specs.Table.{functionOf}
 use Rattle.rules.specs.Scratch.{Cache}
 use Rattle.edit.specs.Word.{wordOf, AllInRange}
 use Rattle.slots.specs.Stacks.{cacheOf}
-use Rattle.number.specs.Read.{Read}
 use Rattle.parallel_moves.specs.Given.{CacheOk}
 use Rattle.print.proofs.Printing.{front-words, front-fits}
-use Rattle.rules.specs.Patch.{Patch}
 use Rattle.job_patch.specs.Patches.{patch}
 use Rattle.job.specs.declared.Step.the-variants.{Edits, Refused}
 use Rattle.job.specs.Job.{Done, endsWith, before, patches}
@@ -34,8 +32,8 @@ module _ (t f s : List ℕ) (at : ℕ) (list : List ℕ) (len : length list ≡ 
   ends k left (unread e) = rw e
   ends k left (uncalled p r e h) = rw (e, rw len at h)
 
-  pub next-refused : (words : List ℕ) (n k : ℕ) → StepAt t f s (patch T F (drop at s)) (Refused k) list list′ cache cache′ → ((left : ℕ) → rest t f s at cache (suc left) ≡ endsWith (some k)) × (words ≡ words)
-  next-refused words n k h = (λ left. ends k left (turned t f s list cache list′ cache′ (patch T F (drop at s)) k h .0), refl)
+  pub next-refused : (k : ℕ) → StepAt t f s (patch T F (drop at s)) (Refused k) list list′ cache cache′ → (left : ℕ) → rest t f s at cache (suc left) ≡ endsWith (some k)
+  next-refused k h left = ends k left (turned t f s list cache list′ cache′ (patch T F (drop at s)) k h .0)
 
   pub record Resolved (count next : ℕ) : Type 0 where
     pub done : Done

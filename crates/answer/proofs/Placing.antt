@@ -18,7 +18,7 @@ use Rattle.function.specs.Function.{Function}
 use Rattle.function.specs.Table.{functionOf}
 use Rattle.rules.specs.Edit.{Edit}
 use Rattle.rules.specs.Scratch.{Cache}
-use Rattle.rules.specs.Patch.{Patch, Answer, resolve}
+use Rattle.rules.specs.Patch.{Patch, resolve}
 use Rattle.rules.specs.Patch as rules
 use Rattle.edit.specs.Word.{wordOf}
 use Rattle.slots.specs.Stacks.{cacheOf}
@@ -29,7 +29,6 @@ use Rattle.job.specs.declared.Step.the-variants.{Refused}
 use Rattle.job.specs.Job.{Done, endsWith, before}
 use Rattle.job.specs.Steps.{StepAt}
 use Rattle.answer.specs.Room.{callIn, patchesIn}
-use Rattle.answer.specs.Words.{Packed}
 use Rattle.answer.specs.declared.Onward.the-variants as O
 use Rattle.answer.specs.Whole.{behindHead, restIn, Next}
 use Rattle.answer.proofs.Called.{Turned, unread, uncalled, turned, Called}

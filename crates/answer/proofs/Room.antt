@@ -1,6 +1,6 @@
 -- The numbers of a call with so many words left are given by the first of its conditions that holds.
 use Prim.Native.Nat.{ℕ, zero, suc, _+_, _*_}
-use mathlib.Core.Path.{_≡_, refl, sym, ap, _∙_}
+use mathlib.Core.Path.{_≡_, refl, ap, _∙_}
 use mathlib.Core.Bool.{Bool, true, false}
 use mathlib.Core.List.{List, [], _∷_}
 use mathlib.Core.Option.{Option, none, some}
@@ -10,7 +10,7 @@ use lib.Dec.{ltb}
 use lib.ListN.{length}
 use Rattle.entity.specs.Logic.{indices}
 use Rattle.reginfo.specs.RegInfo.{RegInfo}
-use Rattle.reginfo.specs.Refused.{Condition, cond, firstOf}
+use Rattle.reginfo.specs.Refused.{cond, firstOf}
 use Rattle.reginfo.proofs.First.{none-first, given-first, first-given}
 use Rattle.function.specs.Function.{Function}
 use Rattle.rules.specs.Edit.{andThen, each}

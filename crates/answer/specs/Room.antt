@@ -1,6 +1,6 @@
 -- A job answered into a lent list of words: each patch is lent what is left of the words behind its head, and 16 is given where that is shorter
 -- than the bound of demand 3.
-use Prim.Native.Nat.{ℕ, zero, suc, _+_, _-_, _≤_}
+use Prim.Native.Nat.{ℕ, zero, suc, _+_, _-_, _*_, _≤_}
 use mathlib.Core.Path.{_≡_}
 use mathlib.Core.List.{List, [], _∷_, _++_}
 use mathlib.Core.Logic.{_↔_}
@@ -58,9 +58,10 @@ module _ (t : RegInfo) (f : Function) where
 unfoldable pub jobIn : (room : ℕ) → List ℕ → Answers
 jobIn room l = afterRead (opening l) (λ h r. patchesIn (h .target) (h .function) (h .patches) emptyCache room r)
 
--- so many words are enough for every job: two for each of its 65,536 bytes, and the heads of 1,024 patches
+-- as many words are enough for every job: "a move has at least 4 bytes of the job and at most 8 edits, a rebuild 3 and 5, and there are 1,024
+-- patches" (c/parallel_moves.h), each with its head
 abbrev pub mostWords : ℕ
-mostWords = 132096
+mostWords = 2 * 65536 + 1024
 
 abbrev pub MostWords : Type 0
 MostWords = (room : ℕ) → mostWords ≤ room → (l : List ℕ) → jobIn room l ≡ job l

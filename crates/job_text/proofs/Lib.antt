@@ -1,5 +1,4 @@
 pub mod Standing
 pub mod Opening
 pub mod Joined
-pub mod Taking
 pub mod Most

@@ -1,59 +1,30 @@
 -- No job's answer is longer than the sizes that are named for it.
 use Prim.Native.Nat.{ℕ, zero, suc, _+_, _-_, _*_, _≤_, _<_}
 use mathlib.Core.Path.{_≡_, refl}
-use mathlib.Core.Bool.{Bool, true, false}
-use mathlib.Core.List.{List, [], _∷_, _++_, map}
+use mathlib.Core.List.{List, [], _∷_, map}
 use mathlib.Core.Option.{Option, none, some}
 use native.Mathlib.Omega.{arith}
 use lib.ListN.{length, length-append, length-map}
-use Rattle.entity.specs.Logic.{pick}
-use Rattle.entity.specs.Place.{Place}
 use Rattle.reginfo.specs.RegInfo.{RegInfo}
 use Rattle.function.specs.Function.{Function}
 use Rattle.rules.specs.Edit.{Edit}
 use Rattle.rules.specs.Scratch.{Cache, emptyCache}
-use Rattle.rules.specs.Patch.{Entry, move, remat, Sorted, nothingSorted, bound, becomesRemat, needsScratch, dropped, addRemat, addKept, add, sortedFrom}
+use Rattle.rules.specs.Patch.{sorted, bound}
 use Rattle.edit.specs.Word.{wordOf, AllInRange}
 use Rattle.number.specs.Read.{Read, got, refused}
 use Rattle.print.specs.Text.{decimal, newline, spaced, editsWord, madeWord, editLine, editLines, patchLine, patchText}
 use Rattle.print.proofs.Decimal.{short}
 use Rattle.print.proofs.Lengths.{edit-short, refused-short}
 use Rattle.answer_text.specs.Lines.{refusalText}
+use Rattle.job_patch.specs.Patches.{patch}
 use Rattle.job.specs.Job.{Header, Done, opening, job}
 use Rattle.job.specs.Claim.{DoneAt, OneByOne, Opened}
 use Rattle.job.proofs.Claimed.{every-job}
 use Rattle.answer.specs.Words.{wordsOf, numberOf, doneText, AllPacked, Packed}
 use Rattle.answer.proofs.Numbers.{numbered}
+use Rattle.answer.proofs.Bytes.{leaves-got, patch-leaves}
+use Rattle.answer.proofs.MostWords.{opens}
 use Rattle.job_text.specs.Most.{WordsFit, TextFits}
-use Rattle.job_text.proofs.Taking.{bytes, allBytes, patch-read, opening-read}
-
--- ---- an entry adds at most twice its bytes to the bound
-longer : {A : Type 0} (l : List A) (x : A) → length (l ++ (x ∷ [])) ≡ length l + 1
-longer l x = length-append l (x ∷ [])
-
-under : (n : ℕ) (b : Bool) (x y : Sorted) → bound x ≤ n → bound y ≤ n → bound (pick b x y) ≤ n
-under n true x y p q = p
-under n false x y p q = q
-
-module _ (t : RegInfo) (f : Function) where
-  rebuilt-under : (a : Sorted) (d : Place) (v : ℕ) → bound (addRemat t f (needsScratch t f d v) d v a) ≤ bound a + 6
-  rebuilt-under a d v =
-      under _ (needsScratch t f d v) _ _
-      (omega (arith, longer (a .rematsWithScratch) (record { dest = d; value = v })))
-      (omega (arith, longer (a .remats) (record { dest = d; value = v })))
-
-  kept-under : (a : Sorted) (s d : Place) (v : ℕ) → bound (addKept t f (dropped t f a s d v) s d v a) ≤ bound a + 8
-  kept-under a s d v = under _ (dropped t f a s d v) _ _ (omega arith) (omega (arith, longer (a .moves) (record { source = s; dest = d; value = v })))
-
-  add-under : (e : Entry) (a : Sorted) → bound (add t f e a) ≤ bound a + 2 * bytes e
-  unfolding add
-  add-under (move s d v) a = under _ (becomesRemat t f s d v) _ _ (omega (arith, rebuilt-under a d v)) (kept-under a s d v)
-  add-under (remat d v) a = rebuilt-under a d v
-
-  all-under : (es : List Entry) (a : Sorted) → bound (sortedFrom t f es a) ≤ bound a + 2 * allBytes es
-  unfolding sortedFrom allBytes
-  all-under [] a = omega arith
-  all-under (e ∷ es) a = omega (arith, all-under es (add t f e a), add-under e a)
 
 -- ---- lines
 refusal-short : (k : ℕ) → k ≤ 17 → length (refusalText k) ≤ 36
@@ -89,7 +60,7 @@ text-more k d ds = length-append (patchText k (d .edits) (d .made)) (doneText (k
 module _ (t : RegInfo) (f : Function) where
   -- a patch has at most twice as many edits as it has bytes
   few-edits : (c : Cache) (l : List ℕ) (d : Done) (x : DoneAt t f c l d) → length (d .edits) + 2 * length (x .rest) ≤ 2 * length l
-  few-edits c l d x = omega (arith, x .accepted .few, all-under t f (x .p .entries) nothingSorted, patch-read t f l (x .p) (x .rest) (x .reads))
+  few-edits c l d x = omega (arith, x .accepted .few, leaves-got (λ p. bound (sorted t f p)) (2 * length l) (patch t f l) (x .p) (x .rest) (patch-leaves t f l) (x .reads))
 
   few-words : (ds : List Done) (o : Option ℕ) (n : ℕ) (c : Cache) (l : List ℕ) → OneByOne t f ds o n c l → length (wordsOf ds) ≤ 2 * length l + n
   unfolding wordsOf
@@ -117,15 +88,15 @@ module _ (l : List ℕ) where
   unfolding wordsOf
   all-words (refused k) e h = rw (h .0) (omega arith)
   all-words (got x r) e h =
-      let j = opening-read l x r e in
-      omega (arith, j .0, j .1, few-words (x .target) (x .function) done (job l .refusal) (x .patches) emptyCache r h)
+      let j = opens l x r e in
+      omega (arith, j .few, j .short, j .fewer, few-words (x .target) (x .function) done (job l .refusal) (x .patches) emptyCache r h)
 
   all-text : (x : Read Header) → opening l ≡ x → Opened x (job l) → AllPacked done → length (doneText 1 done) ≤ 19 * (2 * 65536) + 36 * 1024
   unfolding doneText
   all-text (refused k) e h p = rw (h .0) (omega arith)
   all-text (got x r) e h p =
-      let j = opening-read l x r e in
-      omega (arith, j .0, j .1, short-text (x .target) (x .function) done (job l .refusal) (x .patches) emptyCache r 1 (omega (arith, j .1)) p h)
+      let j = opens l x r e in
+      omega (arith, j .few, j .short, j .fewer, short-text (x .target) (x .function) done (job l .refusal) (x .patches) emptyCache r 1 (omega (arith, j .few)) p h)
 
 pub words-fit : WordsFit
 words-fit l = all-words l (opening l) refl (every-job l)

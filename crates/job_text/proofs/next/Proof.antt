@@ -1,7 +1,6 @@
 use mathlib.Core.Path.{refl, _∙_}
 use Rattle.job_text.proofs.Standing.{refused-here, ends-here, ended-stands, ended-less, next-stands}
 use Rattle.answer.proofs.Nexting.{next-refused, resolved}
-use mathlib.Core.List.{[]}
 use native.Mathlib.Omega.{arith}
 use borrow.Author.Needs.{needs}
 use Rattle.job_text.proofs.next.Statement.{statement}
@@ -98,7 +97,7 @@ returns-2 c =
     let e = s .pre .1 in
     let a = c .before .before .before .before .before .before .before .answer-patch in
     let end = c .before .before .refuse in
-    let r = next-refused T F S (p .at) (s .args .list .now) (c .before .before .before .before .before .before .before .before .before .before .before .before .before .before .before .before .before .before .before .before .told .ensures) C (a .last .1 .1 .1 .1 .1 .0) (a .last .1 .1 .1 .1 .0) [] 0 _ (rw (c .before .before .before .before .before .number .given .1) at (a .ensures .0)) .0 in
+    let r = next-refused T F S (p .at) (s .args .list .now) (c .before .before .before .before .before .before .before .before .before .before .before .before .before .before .before .before .before .before .before .before .told .ensures) C (a .last .1 .1 .1 .1 .1 .0) (a .last .1 .1 .1 .1 .0) _ (rw (c .before .before .before .before .before .number .given .1) at (a .ensures .0)) in
     ((ended-stands T F S C O p e h T F (a .last .1 .1 .1 .1 .0) (end .last .1 .0) _ (end .result) (refused-here T F S C O p e _ (omega (arith, c .before .before .before .before .before .before .before .before .before .before .before .before .before .before .before .before .before .before .before .before .before .before .if1 .left)) r) (end .ensures .0) (end .ensures .1), end .ensures .0 .kept, ended-less T F S C O p e h (end .result) (end .ensures .0)), (tt, tt, tt, tt, tt, tt, tt, tt, tt, tt, tt))
 
 same-length-3 : tie.Need-same-length-3
