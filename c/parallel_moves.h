@@ -5,10 +5,17 @@
  * and every refusal with its cause and cure.
  *
  * The functions keep nothing between calls, neither allocate nor print, and
- * accept any bytes as a job. Of a caller they ask that no pointer is null, that
- * each list has the length that it is said to have, and that what is lent to a
- * call overlaps nothing else of that call and is left alone by other threads
- * until it returns. A call needs less than 64 KiB of stack.
+ * accept any bytes as a job. Of a caller they ask:
+ * - no pointer is null, also where a length is 0;
+ * - each list has the length that it is said to have, or that it is declared
+ *   with, and is aligned as its type is;
+ * - what a call writes overlaps nothing else that is lent to it;
+ * - until it returns, other threads leave alone what it writes, and do not write
+ *   what it reads (several calls may read one job at once);
+ * - each bool is 0 or 1, as calloc makes it and as every call leaves it. Else it
+ *   does not matter what the working tables hold;
+ * - 64 KiB of stack are left.
+ * The library is for x86-64 Linux.
  */
 #ifndef PARALLEL_MOVES_H
 #define PARALLEL_MOVES_H
@@ -45,10 +52,11 @@ extern "C" {
 #endif
 
 /* Answers a whole job: returns how many words its resolved patches have, and
- * sets *refusal to the number of the refusal, or to 0 if there is none. The
- * words are, for each patch, a head and then its edits. Where `words` is too
- * short both are 0: an answered job has at least one word. What the working
- * tables, `target` to `carried`, hold before the call does not matter. */
+ * sets *refusal to the number of the refusal, or to 0 if there is none. Look at
+ * it before the words: of a refused job they are only the patches before the
+ * refused one. The words are, for each patch, a head and then its edits. Where
+ * `words` is too short both are 0: an answered job has at least one word. The
+ * working tables are `target` to `carried`. */
 size_t parallel_moves_answer(
     const uint8_t *job, size_t job_length,
     uint64_t *words, size_t words_length,
@@ -69,15 +77,17 @@ size_t parallel_moves_answer(
     uint16_t carried[PARALLEL_MOVES_CARRIED]);
 
 /* Writes the text of an answer, as the program `resolve` prints it: returns its
- * length, or 0 where `text` is too short. It ends in a newline, not in a zero
- * byte. */
+ * length, or 0 where `text` is too short; then the lines that fit stand at its
+ * front, and the other bytes are as they were. It ends in a newline, not in a
+ * zero byte. `words` and `refusal` are those of a call of parallel_moves_answer,
+ * with the count that it returned as `words_length`. */
 size_t parallel_moves_text(
     const uint64_t *words, size_t words_length,
     uint8_t refusal,
     uint8_t *text, size_t text_length);
 
 /* All working tables, about half a megabyte: make one with calloc, and use it
- * for as many calls as you like, one at a time. Each flag is 0 or 1. */
+ * for as many calls as you like, one at a time. */
 struct parallel_moves_memory {
     uint64_t list[PARALLEL_MOVES_LIST];
     uint64_t edits[PARALLEL_MOVES_EDITS];
@@ -114,7 +124,7 @@ static inline size_t parallel_moves_answer_in(
  * ((value * 2^14 + from) * 2^14 + to) * 8 + kind. */
 enum parallel_moves_word_kind {
     PARALLEL_MOVES_HEAD = 0,
-    PARALLEL_MOVES_MOVE = 1,          /* M: the contents of `from` go to `to` */
+    PARALLEL_MOVES_MOVE = 1,          /* M: the contents of `from`, read whole first, go to `to` */
     PARALLEL_MOVES_REMATERIALIZE = 2, /* R: the value is rebuilt in `to` */
     PARALLEL_MOVES_SPILL = 3,         /* S: the register `from` is saved in the slot `to` */
     PARALLEL_MOVES_RELOAD = 4         /* L: the register `to` is loaded from the slot `from` */
@@ -138,7 +148,8 @@ static inline size_t parallel_moves_count(uint64_t head)
     return (size_t)(head / 8 % 65536);
 }
 
-/* Of a head: how many emergency slots the function has after the patch. */
+/* Of a head: how many emergency slots the function has after the patch.
+ * docs/JOB.md says how large each is. */
 static inline uint16_t parallel_moves_made(uint64_t head)
 {
     return (uint16_t)(head / 524288 % 65536);

@@ -46,6 +46,9 @@ int main(void)
 {
     uint8_t refusal = 99;
     size_t length = fread(job, 1, sizeof job, stdin);
+    if (ferror(stdin)) {
+        return EXIT_FAILURE;
+    }
     size_t count = parallel_moves_answer_in(&memory, job, length, words, PARALLEL_MOVES_MOST_WORDS, &refusal);
     if (!short_is_told(length, count, refusal)
         || parallel_moves_answer_in(&memory, job, length, words, count, &refusal) != count) {
@@ -70,5 +73,5 @@ int main(void)
     if (refusal != 0) {
         printf("refused %u\n", (unsigned)refusal);
     }
-    return EXIT_SUCCESS;
+    return fflush(stdout) == 0 && !ferror(stdout) ? EXIT_SUCCESS : EXIT_FAILURE;
 }

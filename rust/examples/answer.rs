@@ -1,14 +1,34 @@
 //! Reads a job on standard input and prints its answer, as the program
-//! `resolve` does.
+//! `resolve` does. Its status is 0 if the job was answered to its end, 1 if it
+//! was refused, and 2 if it could not be read or its answer not printed.
 
-use std::io::{self, Read};
+use std::io::{self, Read, Write};
+use std::process::ExitCode;
 
-use parallel_moves::Resolver;
+use parallel_moves::{Refusal, Resolver};
 
-fn main() -> io::Result<()> {
+/// Prints the answer: the refusal, if there is one.
+fn answer() -> io::Result<Option<Refusal>> {
     let mut job = Vec::new();
     // A longer job is refused, however long it is.
     io::stdin().take(65_537).read_to_end(&mut job)?;
-    print!("{}", Resolver::new().answer(&job));
-    Ok(())
+    let answer = Resolver::new().answer(&job);
+    let mut out = io::stdout().lock();
+    out.write_all(answer.text().as_bytes())?;
+    out.flush()?;
+    Ok(answer.refusal())
+}
+
+fn main() -> ExitCode {
+    match answer() {
+        Ok(None) => ExitCode::SUCCESS,
+        Ok(Some(refusal)) => {
+            eprintln!("answer: {refusal}");
+            ExitCode::from(1)
+        }
+        Err(error) => {
+            eprintln!("answer: {error}");
+            ExitCode::from(2)
+        }
+    }
 }

@@ -29,12 +29,15 @@ impl Answer {
     }
 
     /// The patches that were resolved, in the job's order: all of them, or
-    /// those before the refused one.
+    /// those before the refused one. See [`Answer::refusal`] first.
     pub fn patches(&self) -> Patches<'_> {
         Patches { words: &self.words }
     }
 
     /// Why the job was not answered to its end, or `None` if it was.
+    ///
+    /// The patches before the refused one stand; it and those after it have no
+    /// edits, so the function is not complete.
     pub fn refusal(&self) -> Option<Refusal> {
         self.refusal
     }
@@ -114,7 +117,8 @@ impl<'a> Patch<'a> {
     }
 
     /// How many emergency slots the function has after this patch. They are
-    /// numbered from its ordinary slots on.
+    /// numbered from its ordinary slots on; `docs/JOB.md` says how large each
+    /// is.
     pub fn made(&self) -> u16 {
         self.made
     }

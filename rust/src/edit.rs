@@ -49,7 +49,8 @@ impl fmt::Display for Place {
 /// ```
 #[derive(Clone, Copy, Debug, PartialEq, Eq, PartialOrd, Ord, Hash)]
 pub enum Edit {
-    /// The contents of `from` go to `to`.
+    /// The contents of `from` go to `to`. `from` is read whole before `to` is
+    /// written: they may share units.
     Move {
         /// The place written.
         to: Place,

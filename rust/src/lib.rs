@@ -7,7 +7,8 @@
 //! [`Edit`]s that carry it out in order, or with a [`Refusal`]. The work is done
 //! by a library in which every function is proved to meet its contract; this
 //! crate lends it memory and takes its words apart. `docs/JOB.md` of the
-//! repository has the format of a job.
+//! repository says what a job means and how it is written, and what the edits
+//! promise.
 //!
 //! ```
 //! use parallel_moves::Resolver;
@@ -22,6 +23,7 @@
 //! ];
 //! let mut resolver = Resolver::new();
 //! let answer = resolver.answer(&job);
+//! // Of a refused job the patches are only those before the refused one.
 //! assert_eq!(answer.refusal(), None);
 //! for patch in answer.patches() {
 //!     let edits: Vec<String> = patch.edits().map(|edit| edit.to_string()).collect();
@@ -39,3 +41,8 @@ pub use answer::{Answer, Edits, Patch, Patches};
 pub use edit::{Edit, Place};
 pub use refusal::Refusal;
 pub use resolver::Resolver;
+
+/// The snippets of the repository's README are compiled with the tests.
+#[cfg(doctest)]
+#[doc = include_str!("../../README.md")]
+struct Readme;

@@ -37,6 +37,7 @@ impl Resolver {
     /// assert_eq!(refusal.number(), 1);
     /// assert_eq!(resolver.answer(&[]).text(), "refused 1\n");
     /// ```
+    #[must_use = "the answer has the edits, and says whether the job was refused"]
     pub fn answer(&mut self, job: &[u8]) -> Answer {
         loop {
             match sys::answer(&mut self.memory, job, &mut self.words) {

@@ -4,56 +4,8 @@ mod common;
 
 use std::thread;
 
-use common::{jobs, printed, text};
+use common::{deep_chain, jobs, many_swaps, printed, text};
 use parallel_moves::{Answer, Edit, Place, Refusal, Resolver};
-
-/// Swap-full's job with its patch 1,024 times.
-fn many_swaps() -> Vec<u8> {
-    let (_, mut job) = jobs("examples")
-        .into_iter()
-        .find(|(name, _)| name == "swap-full")
-        .unwrap();
-    // The patch count 1 is followed by the patch, which has 10 bytes.
-    let patch = job.split_off(job.len() - 10);
-    assert_eq!(job.pop(), Some(1));
-    job.extend([128, 8]);
-    job.extend(patch.repeat(1024));
-    job
-}
-
-/// A chain of 128 moves, last one first, so that each visit leads to the next.
-fn deep_chain() -> Vec<u8> {
-    let mut numbers = vec![129, 1, 3, 0, 1, 129];
-    numbers.extend((0..129).flat_map(|register| [0, 0, 1, register]));
-    numbers.push(2);
-    for includes_slots in [1, 0] {
-        numbers.extend([0, includes_slots]);
-        for _ in 0..2 {
-            numbers.push(129);
-            numbers.extend(0..129);
-        }
-    }
-    numbers.extend([128, 0, 0]);
-    numbers.extend([0; 2 * 128]);
-    numbers.extend([1, 0, 128]);
-    let register = |number| 2 * number + 1;
-    numbers.extend(
-        (0..128)
-            .rev()
-            .flat_map(|n| [0, register(n), register(n + 1), n]),
-    );
-    numbers.into_iter().flat_map(encoded).collect()
-}
-
-/// A number below 2^14 as it stands in a job.
-fn encoded(number: u16) -> Vec<u8> {
-    let (low, high) = ((number % 128) as u8, (number / 128) as u8);
-    if high == 0 {
-        vec![low]
-    } else {
-        vec![low | 128, high]
-    }
-}
 
 /// The list of words is enlarged, and the answer is whole.
 #[test]
@@ -98,7 +50,7 @@ fn short_after_long() {
     let mut resolver = Resolver::new();
     let long = many_swaps();
     for (name, job) in jobs("compare/trials") {
-        resolver.answer(&long);
+        let _ = resolver.answer(&long);
         assert_eq!(text(&mut resolver, &job), printed(&name), "{name}");
     }
 }

@@ -4,3 +4,5 @@ pub mod Going
 pub mod Opening
 pub mod Ending
 pub mod Printed
+pub mod Numbers
+pub mod SomeLine

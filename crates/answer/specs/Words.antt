@@ -1,5 +1,5 @@
 -- A job's answers as words, and as text.
-use Prim.Native.Nat.{ℕ, _+_, _<_}
+use Prim.Native.Nat.{ℕ, _+_, _<_, _≤_}
 use mathlib.Core.Path.{_≡_}
 use mathlib.Core.List.{List, [], _∷_, _++_}
 use mathlib.Core.Option.{Option, none, some}
@@ -8,7 +8,7 @@ use Rattle.edit.specs.Word.{AllInRange}
 use Rattle.print.specs.Text.{patchText}
 use Rattle.answer_text.specs.Heads.{patchWords}
 use Rattle.answer_text.specs.Lines.{refusalText, answerText}
-use Rattle.job.specs.Job.{Done, Answers}
+use Rattle.job.specs.Job.{Done, Answers, job}
 
 -- patch by patch
 unfoldable pub wordsOf : List Done → List ℕ
@@ -42,3 +42,15 @@ AllPacked (d ∷ l) = Packed d × AllPacked l
 -- then the words print as the job
 abbrev pub JobPrinted : Type 0
 JobPrinted = (a : Answers) → AllPacked (a .done) → answerText (wordsOf (a .done)) (numberOf (a .refusal)) ≡ jobText a
+
+-- 01, Refused jobs: the numbers of the table
+abbrev pub Of01 : ℕ → Type 0
+Of01 n = (1 ≤ n) × (n ≤ 17)
+
+-- a job is refused by one of them
+abbrev pub Numbered : Type 0
+Numbered = (l : List ℕ) (n : ℕ) → job l .refusal ≡ some n → Of01 n
+
+-- every job has a line: that of a patch, or of its refusal
+abbrev pub SomePrinted : Type 0
+SomePrinted = (l : List ℕ) → 0 < length (jobText (job l))

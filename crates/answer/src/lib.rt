@@ -17,6 +17,7 @@ ghost use mathlib.Core.Path.{_≡_};
 ghost use Prim.Native.Nat.{ℕ, _+_, _<_, _≤_};
 ghost use mathlib.Core.List.{_∷_};
 ghost use lib.ListN.{length, take, drop};
+ghost use Rattle.entity.specs.Logic.{Anything};
 ghost use Rattle.reginfo.specs.Table.{regInfoOf};
 ghost use Rattle.function.specs.Known.{Checked};
 ghost use Rattle.function.specs.Table.{functionOf};
@@ -118,6 +119,7 @@ fn answer_next(
 ) -> Onward
     requires { ⌜ Checked (now t) (now f) × CacheOk (now f) (now cache) × (n ≤ length (now words)) ⌝ }
     ensures { λ r. ⌜ Next (now (t .entry)) (now (f .entry)) (now (s .entry)) at (now (cache .entry)) (now (cache .exit)) (now (words .entry)) (now (words .exit)) n r ⌝ }
+    ensures { λ _. ⌜ Anything (now (list .exit)) × Anything (now (free .exit)) × Anything (now (e .exit)) × Anything (now (w .exit)) × Anything (now (available .exit)) × Anything (now (sources .exit)) × Anything (now (edits .exit)) × Anything (now (slots .exit)) × Anything (now (d .exit)) × Anything (now (marks .exit)) × Anything (now (c .exit)) ⌝ }
 {
     told(*list);
     match job::answer_patch(
@@ -169,6 +171,7 @@ fn answer_patches(
 ) -> Whole
     requires { ⌜ Checked (now t) (now f) × CacheOk (now f) (now cache) ⌝ }
     ensures { λ r. ⌜ Wholly (now (words .entry)) (patches (regInfoOf (now (t .entry))) (functionOf (now (f .entry))) count (cacheOf (now (cache .entry))) (drop from (now (s .entry)))) r (now (words .exit)) ⌝ }
+    ensures { λ _. ⌜ Anything (now (cache .exit)) × Anything (now (list .exit)) × Anything (now (free .exit)) × Anything (now (e .exit)) × Anything (now (w .exit)) × Anything (now (available .exit)) × Anything (now (sources .exit)) × Anything (now (edits .exit)) × Anything (now (slots .exit)) × Anything (now (d .exit)) × Anything (now (marks .exit)) × Anything (now (c .exit)) ⌝ }
 {
     let mut at = from;
     let mut n = 0;
@@ -233,6 +236,7 @@ pub fn answer_job(
     c: &mut Carried,
 ) -> Whole
     ensures { λ r. ⌜ Wholly (now (words .entry)) (job (now (s .entry))) r (now (words .exit)) ⌝ }
+    ensures { λ _. ⌜ Anything (now (t .exit)) × Anything (now (f .exit)) × Anything (now (cache .exit)) × Anything (now (list .exit)) × Anything (now (free .exit)) × Anything (now (e .exit)) × Anything (now (w .exit)) × Anything (now (available .exit)) × Anything (now (sources .exit)) × Anything (now (edits .exit)) × Anything (now (slots .exit)) × Anything (now (d .exit)) × Anything (now (marks .exit)) × Anything (now (c .exit)) ⌝ }
 {
     match job::read_opening(s, t, f) {
         Number::Refused(k) => Whole::Refused(k, 0),

@@ -15,10 +15,11 @@ use Rattle.print.proofs.Decimal.{short}
 use Rattle.print.proofs.Lengths.{word-short, refused-short}
 use Rattle.print.proofs.Putting.{nothing-put, same-length, then-put}
 use Rattle.answer_text.specs.Heads.{isHead, countIn, madeIn}
-use Rattle.answer_text.specs.Lines.{answerLine, answerLines, refusalText, answerText, Printed}
+use Rattle.answer_text.specs.Lines.{answerLine, answerLines, refusalText, answerText, wholeLines, linesWithin, frontedBy, Printed}
 use Rattle.answer_text.specs.Fitting.{Fitted, Ended}
 use Rattle.answer_text.specs.declared.Fit.{Fit}
 use Rattle.answer_text.specs.declared.Fit.the-variants.{To, Short}
+use Rattle.answer_text.proofs.Endings.{answer-line, refusal-line as one-refusal, still-whole, front-lines, front-only}
 
 -- ---- a word's line
 pub head-line : {b : Bool} {count made : ℕ} (k w : ℕ) → b ≡ isHead w → b ≡ true → count ≡ countIn w → made ≡ madeIn w
@@ -72,23 +73,29 @@ refusal-put {out} {out′} {text} {n} {m} f e =
 pub refusal-short : {out out′ text : List ℕ} {n : ℕ} {r : Fit} → Fitted out out′ n text r → r ≡ Short → Ended out out′ n text 0
 refusal-short {out} {out′} {text} {n} f e =
     let s = subst (λ (x : Fit). Fitted out out′ n text x) e f in
-    record { fits = λ h. absurd (omega (arith, s .0)); short = λ h. refl }
+    record { fits = λ h. absurd (omega (arith, s .0)); short = λ h. (refl, s .1) }
 
 -- ---- word by word: the lines of the first i words stand there, and patch k is next
 pub record Printing (out₀ words out : List ℕ) (n k i : ℕ) : Type 0 where
   pub text : List ℕ
   pub put : Put out₀ out 0 text n
+  pub whole : wholeLines text ≡ text
   pub rest : answerLines 1 words ≡ text ++ answerLines k (drop i words)
   pub within : i ≤ length words
   pub number : k ≤ i + 1
 
 module _ (out₀ words : List ℕ) where
   pub none-printed : Printing out₀ words out₀ 0 1 0
-  none-printed = record { text = []; put = nothing-put record { fits = omega arith }; rest = refl; within = omega arith; number = omega arith }
+  unfolding wholeLines
+  none-printed = record { text = []; put = nothing-put record { fits = omega arith }; whole = refl; rest = refl; within = omega arith; number = omega arith }
 
   module _ (out : List ℕ) (n k i : ℕ) (s : Printing out₀ words out n k i) where
     pub at-most : n ≤ length out
     at-most = omega (arith, s .put .room, s .put .next, same-length (s .put))
+
+    -- if no more lines have room, these are the front of the text
+    stopped : (out′ text : List ℕ) → out′ ≡ out → linesWithin (length out₀) text ≡ s .text → out′ ≡ frontedBy (linesWithin (length out₀) text) out₀
+    stopped out′ text e l = e ∙ at-front (s .put) .1 ∙ ap (λ (t : List ℕ). frontedBy t out₀) (sym l)
 
     module _ (m : i < length words) where
       abbrev w : ℕ
@@ -114,6 +121,7 @@ module _ (out₀ words : List ℕ) where
           record {
             text = s .text ++ answerLine k w;
             put = then-put (s .put) p;
+            whole = still-whole (s .text) (s .whole) (answer-line k w);
             rest = rw h step;
             within = omega arith;
             number = rw h (next-number (isHead w));
@@ -128,7 +136,14 @@ module _ (out₀ words : List ℕ) where
           ap length step ∙ length-append (s .text ++ answerLine k w) later in
           let long : length out₀ < length (answerText words refusal) =
           rw (length-append (answerLines 1 words) (refusalText refusal), lines, front) (omega (arith, x .0, s .put .next, same-length (s .put))) in
-          record { fits = λ h. absurd (omega (arith, long)); short = λ h. refl }
+          let room : ℕ = length out₀ in
+          let below : room < length (s .text) + length (answerLine k w) = omega (arith, x .0, s .put .next, same-length (s .put)) in
+          let cut : linesWithin room (answerText words refusal) ≡ s .text =
+          ap (λ (t : List ℕ). linesWithin room (t ++ refusalText refusal)) step
+          ∙ front-only ((s .text ++ answerLine k w) ++ later) (refusalText refusal) room (rw (length-append (s .text ++ answerLine k w) later, front) (omega (arith, below)))
+          ∙ front-only (s .text ++ answerLine k w) later room (rw front (omega (arith, below)))
+          ∙ front-lines (s .text) room (s .whole) (answer-line k w) (omega (arith, s .put .room)) below in
+          record { fits = λ h. absurd (omega (arith, long)); short = λ h. (refl, stopped out′ (answerText words refusal) (x .1) cut) }
 
     pub all-printed : (out′ : List ℕ) (refusal r : ℕ) → length words ≤ i → Ended out out′ n (refusalText refusal) r
         → Printed out₀ out′ (answerText words refusal) r
@@ -140,4 +155,12 @@ module _ (out₀ words : List ℕ) where
         let all : length (answerText words refusal) ≤ length out₀ → Put out₀ out′ 0 (answerText words refusal) r =
         λ h. subst (λ (t : List ℕ). Put out₀ out′ 0 (t ++ refusalText refusal) r) (sym text)
         (then-put (s .put) (e .fits (omega (arith, long, same-length (s .put))))) in
-        record { fits = λ h. at-front (all h); short = λ h. e .short (omega (arith, long, same-length (s .put))) }
+        let cut : length out₀ < length (answerText words refusal) → linesWithin (length out₀) (answerText words refusal) ≡ s .text =
+        λ h. ap (λ (t : List ℕ). linesWithin (length out₀) (t ++ refusalText refusal)) text
+        ∙ front-lines (s .text) (length out₀) (s .whole) (one-refusal refusal) (omega (arith, s .put .room)) (omega (arith, h, long, s .put .next)) in
+        record {
+          fits = λ h. at-front (all h);
+          short =
+              λ h. let z = e .short (omega (arith, h, long, same-length (s .put))) in
+              (z .0, stopped out′ (answerText words refusal) (z .1) (cut h));
+        }

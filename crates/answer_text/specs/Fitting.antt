@@ -12,7 +12,7 @@ abbrev pub Fitted : List ℕ → List ℕ → ℕ → List ℕ → Fit → Type 
 Fitted out out′ n text (To m) = Put out out′ n text m
 Fitted out out′ n text Short = (length out < n + length text) × (out′ ≡ out)
 
--- it is put, or 0 is answered
+-- it is put, or 0 is answered and no byte is changed
 pub record Ended (out out′ : List ℕ) (n : ℕ) (text : List ℕ) (r : ℕ) : Type 0 where
   pub fits : n + length text ≤ length out → Put out out′ n text r
-  pub short : length out < n + length text → r ≡ 0
+  pub short : length out < n + length text → (r ≡ 0) × (out′ ≡ out)

@@ -94,7 +94,7 @@ fn put_refusal(out: &mut [u8], n: usize, refusal: u8) -> usize
     }
 }
 
-// The text of the words and the refusal. 0 if it does not fit.
+// The text of the words and the refusal. If it does not fit, the lines that do, and 0.
 pub fn put_answer(out: &mut [u8], words: &[u64], refusal: u8) -> usize
     ensures { λ r. ⌜ Printed (now (out .entry)) (now (out .exit)) (answerText (now (words .entry)) refusal) r ⌝ }
 {

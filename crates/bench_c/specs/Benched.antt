@@ -4,11 +4,13 @@ use mathlib.Core.Path.{_≡_}
 use mathlib.Core.List.{List, _++_, map}
 use mathlib.Core.Option.{Option, none, some}
 use lib.ListN.{length, drop}
+use Rattle.entity.specs.Logic.{Anything}
+use Rattle.reginfo.specs.Refused.{firstOf}
 use Rattle.reginfo.specs.Table.{regInfoOf}
 use Rattle.function.specs.Known.{Checked}
 use Rattle.function.specs.Table.{functionOf}
-use Rattle.rules.specs.Scratch.{Cache}
-use Rattle.rules.specs.Patch.{Entry, Patch, Answer, refused, resolved, nothingSorted, unlessRefused, resolveFrom, resolveSorted}
+use Rattle.rules.specs.Patch.{Entry, Answer, refused, resolved, nothingSorted, sortedFrom}
+use Rattle.rules.specs.Refusals.{entriesConditions}
 use Rattle.edit.specs.Word.{wordOf, AllInRange}
 use Rattle.slots.specs.Stacks.{cacheOf}
 use Rattle.slots.specs.Steps.{Cleared}
@@ -20,9 +22,9 @@ use Rattle.number.specs.Read.{Read}
 use Rattle.parallel_moves.specs.Given.{CacheOk}
 use Rattle.job.specs.Job.{Header}
 
--- an opening refused: 0; read: where the first patch stands, and the tables are ready for it
+-- an opening refused: 0, and the tables hold anything; read: where the first patch stands, and the tables are ready for it
 abbrev pub OpenedAs : (s : List ℕ) → Read Header → ℕ → (t f cache : List ℕ) → Type 0
-OpenedAs s (read.refused k) r t f cache = r ≡ 0
+OpenedAs s (read.refused k) r t f cache = (r ≡ 0) × Anything t × Anything f × Anything cache
 OpenedAs s (read.got h rest) r t f cache =
     (rest ≡ drop r s) × (r ≤ length s) × (regInfoOf t ≡ h .target) × (functionOf f ≡ h .function) × Checked t f × Cleared cache × CacheOk f cache
 
@@ -31,13 +33,11 @@ abbrev pub codeOf : Option ℕ → ℕ
 codeOf none = 0
 codeOf (some n) = 65536 + n
 
--- the entries l added to a patch with none: what is left to answer is the patch without them, or the number of the first refused
+-- the entries l added to a patch with none: the number of the first that is refused; where none is, the table holds what they became
 pub record AddedAllAs (t f e w : List ℕ) (l : List Entry) (r : ℕ) : Type 0 where
-  pub refusal : Option ℕ
-  pub answer : r ≡ codeOf refusal
-  pub yes : r ≡ 0 → EntriesOk t f e w
-  pub is : (p : Patch) (room : ℕ) (c : Cache)
-      → resolveFrom (T t) (functionOf f) p room c l nothingSorted ≡ unlessRefused refusal (resolveSorted (T t) (functionOf f) p room c (sortedOf e))
+  pub is : r ≡ codeOf (firstOf (entriesConditions (T t) (functionOf f) l nothingSorted))
+  pub yes : r ≡ 0 → sortedOf e ≡ sortedFrom (T t) (functionOf f) l nothingSorted
+  pub ok : EntriesOk t f e w
 
 -- `Gives` of crate parallel_moves, with the answer as a number
 abbrev pub ResolvedAs : (f : List ℕ) → Answer → (r : ℕ) → (list list′ cache cache′ : List ℕ) → Type 0

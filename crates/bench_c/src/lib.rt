@@ -17,7 +17,7 @@ use visits::Marks;
 ghost use mathlib.Core.Path.{_≡_};
 ghost use Prim.Native.Nat.{ℕ, _+_};
 ghost use lib.ListN.{length};
-ghost use Rattle.entity.specs.Logic.{has};
+ghost use Rattle.entity.specs.Logic.{has, Anything};
 ghost use Rattle.function.specs.Known.{Checked};
 ghost use Rattle.function.specs.Table.{functionOf};
 ghost use Rattle.small_set.specs.Set.{setOf};
@@ -95,6 +95,7 @@ pub extern "C" fn bench_resolve(
 ) -> usize
     requires { ⌜ Checked (now t) (now f) × EntriesOk (now t) (now f) (now e) (now w) × CacheOk (now f) (now cache) ⌝ }
     ensures { λ r. ⌜ ((p : Patch) → ((u : ℕ) → has u (p .free) ≡ setOf (now (free .entry)) u) → ResolvedAs (now (f .entry)) (resolveSorted (T (now (t .entry))) (functionOf (now (f .entry))) p (length (now (list .entry))) (cacheOf (now (cache .entry))) (sortedOf (now (e .entry)))) r (now (list .entry)) (now (list .exit)) (now (cache .entry)) (now (cache .exit))) ⌝ }
+    ensures { λ _. ⌜ Anything (now (available .exit)) × Anything (now (sources .exit)) × Anything (now (edits .exit)) × Anything (now (slots .exit)) × Anything (now (d .exit)) × Anything (now (marks .exit)) × Anything (now (c .exit)) ⌝ }
 {
     match parallel_moves::resolve(
         t,

@@ -8,7 +8,8 @@ use lib.ListN.{length}
 use Rattle.rules.specs.Edit.{updated, andThen}
 use Rattle.rules.specs.Order.{State, Done, isPending, ParallelMoves, withState, lead, undivertAll, close}
 use Rattle.rules.proofs.Steps.{All, updated-at, updated-same}
-use Rattle.machine.proofs.Bound.{Paid, done-paid, lead-paid}
+use Rattle.machine.specs.Paid.{Paid}
+use Rattle.machine.proofs.Bound.{done-paid, lead-paid}
 use Rattle.carried.specs.Carried.{countOf}
 use Rattle.scratch.specs.declared.ScratchAllocator.{ScratchAllocator}
 use Rattle.scratch.specs.State.{T, F}

@@ -17,7 +17,7 @@ use Rattle.rules.specs.Edit.{andThen}
 use Rattle.rules.specs.Order.{ParallelMoves, withAllocator, withDiverted, lost, undivert, undivertAll}
 use Rattle.rules.proofs.Steps.{All, same?, updated-at}
 use Rattle.machine.proofs.Diversions.{was-live}
-use Rattle.machine.proofs.Bound as bound
+use Rattle.machine.specs.Paid as machine
 use Rattle.machine.proofs.Bound.{live-some, undivert-paid, Left}
 use Rattle.carried.specs.Carried.{countOf, moveAt, valueAt, rowsOf, carriedBy}
 use Rattle.edit.specs.Buffer as edit
@@ -90,7 +90,7 @@ module _ (t f cache e : List ℕ) (ok : MovesOk t f e) (m i n : ℕ) (p : Parall
   copy-room : FitsIn t f cache 0 2 4 k (w .tables)
   copy-room =
       refit t f cache 4 k (w .tables) (h .stands .fits)
-      (omega (arith, h .paid .paid, live-some (T t) (F f) (ok .checked .target) (all-placed t f (ok .checked)) (movesOf e) (ok .named) (p .diverted) v value-named value-lives, ap bound.owed (h .stands .allocator), owed-is t f cache k (w .tables)))
+      (omega (arith, h .paid .paid, live-some (T t) (F f) (ok .checked .target) (all-placed t f (ok .checked)) (movesOf e) (ok .named) (p .diverted) v value-named value-lives, ap machine.owed (h .stands .allocator), owed-is t f cache k (w .tables)))
 
   -- what `undivert` asks
   pub undivertible :

@@ -8,8 +8,9 @@ use Rattle.entity.specs.Logic.{no}
 use Rattle.rules.specs.Edit.{updated}
 use Rattle.rules.specs.Order.{State, Done, ParallelMoves}
 use Rattle.rules.proofs.Steps.{updated-same, updated-other}
-use Rattle.rules.proofs.Sum.{bit, sum-change}
-use Rattle.machine.proofs.Bound as bound
+use Rattle.rules.specs.Counts.{bit}
+use Rattle.rules.proofs.Sum.{sum-change}
+use Rattle.machine.specs.Paid as machine
 use Rattle.edit.specs.Buffer.{countOf}
 use Rattle.scratch.proofs.Bounds as bounds
 use Rattle.scratch.proofs.Unlimited.{owed-is}
@@ -27,7 +28,7 @@ module _ (t f cache : List ℕ) where
 
   -- what is paid for leaves room
   pub roomy : (e : List ℕ) (rows a n : ℕ) (p : ParallelMoves) (k : ScratchAllocator) (w : Work) → Stands t f cache e rows p k w → PaidFor t f cache e a p → a + n ≤ 1024 → FitsIn t f cache 0 2 n k (w .tables)
-  roomy e rows a n p k w s paid h = refit n k (w .tables) (s .fits) (omega (arith, paid .paid, ap bound.owed (s .allocator), owed-is t f cache k (w .tables)))
+  roomy e rows a n p k w s paid h = refit n k (w .tables) (s .fits) (omega (arith, paid .paid, ap machine.owed (s .allocator), owed-is t f cache k (w .tables)))
 
 open-bit : (s : State) → isDone s ≡ false → bit (no (isDone s)) ≡ 1
 unfolding bit

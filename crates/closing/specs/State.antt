@@ -10,7 +10,7 @@ use Rattle.function.specs.Known.{Checked}
 use Rattle.small_set.specs.Set.{setOf}
 use Rattle.rules.specs.Order.{noMove, State, ParallelMoves, cycleMoveSources}
 use Rattle.rules.specs.Sorted.{MoveOk}
-use Rattle.rules.proofs.Sum.{bit, sum}
+use Rattle.rules.specs.Counts.{bit, sum}
 use Rattle.carried.specs.Carried.{countOf}
 use Rattle.scratch.specs.declared.ScratchAllocator.{ScratchAllocator}
 use Rattle.scratch.specs.State.{T, F, PlaceFits}

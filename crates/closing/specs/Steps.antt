@@ -10,7 +10,7 @@ use Rattle.entity.specs.Logic.{pick, any}
 use Rattle.reginfo.specs.RegInfo.{RegInfo}
 use Rattle.function.specs.Function.{Function}
 use Rattle.rules.specs.Order.{KeptMove, ParallelMoves, isPending, value, source, writers, carried, emit, divert, lead, undivertAll, close}
-use Rattle.machine.proofs.Bound.{Paid}
+use Rattle.machine.specs.Paid.{Paid}
 use Rattle.carried.specs.Carried as rows
 use Rattle.scratch.specs.declared.ScratchAllocator.{ScratchAllocator}
 use Rattle.scratch.specs.State.{T, F}

@@ -159,9 +159,9 @@ unfolding noted
 noted-step g us x j h = ap (λ (l : List ℕ). noted g l x) (drop-step us j 0 h)
 
 -- no entry and no writer
-pub tracked-none : (t : RegInfo) (f : Function) (a : Sorted) (w : List ℕ) → a ≡ nothingSorted → Emptied w → Tracked t f a w
+pub tracked-none : (t : RegInfo) (f : Function) (a : Sorted) (v w : List ℕ) → a ≡ nothingSorted → Emptied v w → Tracked t f a w
 unfolding writerOf writerFrom any emptyMap destinations
-tracked-none t f a w e m =
+tracked-none t f a v w e m =
     rw e
     record {
       sorted = record { moves = λ i h. absurd (omega arith); remats = λ i h. absurd (omega arith); rematsWithScratch = λ i h. absurd (omega arith); apart = λ i k h. absurd (omega arith) };

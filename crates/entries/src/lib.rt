@@ -29,7 +29,7 @@ ghost use Rattle.reginfo.specs.Known.{KnownPlace, KnownMembers};
 ghost use Rattle.reginfo.specs.Table.{regInfoOf};
 ghost use Rattle.function.specs.Function.{numValues, rematClass};
 ghost use Rattle.function.specs.Table.{functionOf};
-ghost use Rattle.rules.specs.Patch.{move, remat, namesPlace, becomesRemat, needsScratch, nothingSorted, bound, freeDestination, lastOverlaps, patchConditions, Patch};
+ghost use Rattle.rules.specs.Patch.{move, remat, namesPlace, becomesRemat, needsScratch, nothingSorted, bound, lastOverlaps, patchConditions, Patch};
 ghost use Rattle.rules.specs.Sorted.{RematOk, SortedOk};
 ghost use Rattle.small_set.specs.Set.{setOf};
 ghost use Rattle.sparse.specs.Map.{mapOf, keysOf, Linked};
@@ -447,10 +447,10 @@ fn is_free(free: &RegUnitSet, u: AllocationUnit) -> bool
     }
 }
 
-// 13: whether a free unit is a destination's: one that has a writer. It holds of every patch that has these free units.
-pub fn free_destination(w: &SparseMap, free: &RegUnitSet) -> bool
+// 13: whether a free unit is a destination's: one that has a writer.
+fn free_destination(w: &SparseMap, free: &RegUnitSet) -> bool
     requires { ⌜ Linked (now w) ⌝ }
-    ensures { λ r. ⌜ ((t f e : List ℕ) → Checked t f → EntriesOk t f e (now (w .entry)) → (p : Patch) → ((u : ℕ) → has u (p .free) ≡ setOf (now (free .entry)) u) → r ≡ freeDestination (regInfoOf t) (functionOf f) p (sortedOf e)) ⌝ }
+    ensures { λ r. ⌜ r ≡ any (isFree (now (free .entry))) (keysOf (now (w .entry))) ⌝ }
 {
     let n = sparse::len(w);
     let mut j: usize = 0;

@@ -1,9 +1,10 @@
 -- Demand 3 of every job.
-use Prim.Native.Nat.{ℕ, zero, suc}
+use Prim.Native.Nat.{ℕ, zero, suc, _-_}
 use mathlib.Core.Path.{_≡_, refl}
 use mathlib.Core.Bool.{Bool, true, false}
 use mathlib.Core.List.{List, [], _∷_}
 use mathlib.Core.Option.{Option, none, some}
+use native.Mathlib.Omega.{arith}
 use lib.Dec.{ltb}
 use lib.ListN.{length}
 use Rattle.entity.specs.Logic.{pick}
@@ -11,8 +12,9 @@ use Rattle.reginfo.specs.RegInfo.{RegInfo}
 use Rattle.reginfo.specs.Refused.{targetRefusal}
 use Rattle.function.specs.Function.{Function}
 use Rattle.rules.specs.Scratch.{Cache, emptyCache}
-use Rattle.rules.specs.Patch.{Patch, Call, resolve, cacheAfter}
-use Rattle.machine.specs.Claim.{Claim}
+use Rattle.rules.specs.Patch.{Patch, Answer, Call, resolve, cacheAfter}
+use Rattle.rules.specs.Patch as rules
+use Rattle.machine.specs.Claim.{Answered, Claim}
 use Rattle.machine.proofs.Demand.{demand-3}
 use Rattle.number.specs.Read.{Read, got, refused, then}
 use Rattle.reading.specs.Reading.{between}
@@ -20,42 +22,86 @@ use Rattle.job_target.specs.Target.{target}
 use Rattle.job_function.specs.Reads.{function}
 use Rattle.job_function.proofs.Accepted.{read-accepted}
 use Rattle.job_patch.specs.Patches.{unlessGiven, patch}
-use Rattle.job.specs.Job.{afterTarget, header, opening}
-use Rattle.job.specs.Claim.{afterPatch, PatchesRight, Opened, EveryJob}
+use Rattle.job.specs.Job.{Header, Done, Answers, afterRead, afterCall, leftOver, afterTarget, header, opening, patches, job}
+use Rattle.job.specs.Claim.{Ends, all-done, left-over, not-read, not-resolved, OneByOne, Opened, EveryJob, AllDone}
 
-right : (t : RegInfo) (f : Function) (n : ℕ) (c : Cache) → ((calls : List Call) → Claim t f calls c) → (l : List ℕ) → PatchesRight t f n c l
-right t f zero c all l = tt
-right t f (suc n) c all l = go (patch t f l) (λ c′ more r. right t f n c′ more r)
-  where
-    go : (x : Read Patch) → ((c′ : Cache) → ((calls : List Call) → Claim t f calls c′) → (r : List ℕ) → PatchesRight t f n c′ r) → afterPatch t f c x (PatchesRight t f n)
-    go (refused k) on = tt
-    go (got p r) on =
-        (all (record { patch = p; room = 1024 } ∷ []) .0, on (cacheAfter c (resolve t f p 1024 c)) (λ calls. all (record { patch = p; room = 1024 } ∷ calls) .1) r)
+module _ (t : RegInfo) (f : Function) where
+  abbrev Right : Answers → ℕ → Cache → List ℕ → Type 0
+  Right a n c l = OneByOne t f (a .done) (a .refusal) n c l
 
-counted : (t : RegInfo) (f : Function) → ((calls : List Call) → Claim t f calls emptyCache) → (x : Read ℕ) → Opened (then x (λ n p. got (record { target = t; function = f; patches = n }) p))
-counted t f all (refused k) = tt
+  -- demand 3 of every list of calls from the cache c on
+  abbrev All : Cache → Type 0
+  All c = (calls : List Call) → Claim t f calls c
+
+  ended : (c : Cache) (l : List ℕ) → Right (leftOver l) 0 c l
+  ended c [] = all-done refl refl refl
+  ended c (b ∷ l) = left-over refl (omega arith) refl
+
+  -- a patch that was read, and its call
+  called : (n : ℕ) (c : Cache) (l : List ℕ) (p : Patch) (r : List ℕ) → patch t f l ≡ got p r → (a : Answer) → resolve t f p 1024 c ≡ a → Answered t f p a → All (cacheAfter c a)
+      → (next : Cache → Answers) → ((c′ : Cache) → All c′ → Right (next c′) n c′ r) → Right (afterCall a next) (suc n) c l
+  called n c l p r e (rules.refused k) is ok more next on = not-resolved k p r (omega arith) e is refl
+  called n c l p r e (rules.resolved es c′) is ok more next on =
+      let one : suc n - 1 ≡ n = omega arith in
+      (omega arith, record { p = p; rest = r; after = c′; reads = e; calls = is; made = refl; accepted = ok }, rw one (on c′ more))
+
+  right : (n : ℕ) (c : Cache) → All c → (l : List ℕ) → Right (patches t f n c l) n c l
+  unfolding patches
+  right zero c all l = ended c l
+  right (suc n) c all l = go (patch t f l) refl (λ c′ more r. right n c′ more r)
+    where
+      go : (x : Read Patch) → patch t f l ≡ x → ((c′ : Cache) → All c′ → (r : List ℕ) → Right (patches t f n c′ r) n c′ r)
+          → Right (afterRead x (λ p r. afterCall (resolve t f p 1024 c) (λ c′. patches t f n c′ r))) (suc n) c l
+      go (refused k) e on = not-read k (omega arith) e refl
+      go (got p r) e on =
+          called n c l p r e (resolve t f p 1024 c) refl (all (record { patch = p; room = 1024 } ∷ []) .0)
+          (λ calls. all (record { patch = p; room = 1024 } ∷ calls) .1) (λ c′. patches t f n c′ r) (λ c′ more. on c′ more r)
+
+  -- nothing is refused: no patch is left
+  all-of : (ds : List Done) (n : ℕ) (c : Cache) (l : List ℕ) → OneByOne t f ds none n c l → length ds ≡ n
+  all-of [] n c l h = go h
+    where
+      go : Ends t f n c l none → 0 ≡ n
+      go (all-done z e k) = cc
+      go (left-over z e k) = absurd (let z : _≡_ {A = ℕ} 0 1 = cc in omega arith)
+      go (not-read m z e k) = absurd (let z : _≡_ {A = ℕ} 0 1 = cc in omega arith)
+      go (not-resolved m p r z e i k) = absurd (let z : _≡_ {A = ℕ} 0 1 = cc in omega arith)
+  all-of (d ∷ ds) n c l h = omega (arith, h .0, all-of ds (n - 1) (h .1 .after) (h .1 .rest) (h .2))
+
+-- the answers, from the opening on
+abbrev answers : Read Header → Answers
+answers x = afterRead x (λ h r. patches (h .target) (h .function) (h .patches) emptyCache r)
+
+abbrev RightFrom : Read Header → Type 0
+RightFrom x = Opened x (answers x)
+
+counted : (t : RegInfo) (f : Function) → ((calls : List Call) → Claim t f calls emptyCache) → (x : Read ℕ) → RightFrom (then x (λ n p. got (record { target = t; function = f; patches = n }) p))
+counted t f all (refused k) = (refl, refl)
 counted t f all (got n p) = right t f n emptyCache all p
 
-functions : (t : RegInfo) → targetRefusal t ≡ none → (l : List ℕ) → Opened (afterTarget t l)
+functions : (t : RegInfo) → targetRefusal t ≡ none → (l : List ℕ) → RightFrom (afterTarget t l)
 unfolding afterTarget
 functions t ok l = go (function t l) refl
   where
-    go : (x : Read Function) → function t l ≡ x → Opened (then x (λ f q. then (between 1 1024 q) (λ n p. got (record { target = t; function = f; patches = n }) p)))
-    go (refused k) e = tt
+    go : (x : Read Function) → function t l ≡ x → RightFrom (then x (λ f q. then (between 1 1024 q) (λ n p. got (record { target = t; function = f; patches = n }) p)))
+    go (refused k) e = (refl, refl)
     go (got f q) e = counted t f (demand-3 t f ok (read-accepted t l f q e)) (between 1 1024 q)
 
-targets : (x : Read RegInfo) → Opened (then x (λ t r. unlessGiven (targetRefusal t) (afterTarget t r)))
-targets (refused k) = tt
+targets : (x : Read RegInfo) → RightFrom (then x (λ t r. unlessGiven (targetRefusal t) (afterTarget t r)))
+targets (refused k) = (refl, refl)
 targets (got t r) = go (targetRefusal t) refl
   where
-    go : (o : Option ℕ) → targetRefusal t ≡ o → Opened (unlessGiven o (afterTarget t r))
-    go (some k) e = tt
+    go : (o : Option ℕ) → targetRefusal t ≡ o → RightFrom (unlessGiven o (afterTarget t r))
+    go (some k) e = (refl, refl)
     go none e = functions t e r
 
 pub every-job : EveryJob
-unfolding opening header
+unfolding opening header job
 every-job l = go (ltb 65536 (length l))
   where
-    go : (b : Bool) → Opened (pick b (refused 2) (then (target l) (λ t r. unlessGiven (targetRefusal t) (afterTarget t r))))
-    go true = tt
+    go : (b : Bool) → RightFrom (pick b (refused 2) (then (target l) (λ t r. unlessGiven (targetRefusal t) (afterTarget t r))))
+    go true = (refl, refl)
     go false = targets (target l)
+
+pub no-patch-left : AllDone
+no-patch-left l h r e k = all-of (h .target) (h .function) (job l .done) (h .patches) emptyCache r (rw (e, k) at (every-job l))

@@ -18,6 +18,7 @@ use Rattle.function.specs.Function.{Function, numValues}
 use Rattle.rules.specs.Scratch.{Cache, ScratchAllocator, emptyCache}
 use Rattle.rules.specs.Patch.{Entry, Patch, Sorted, nothingSorted, answerOf, unlessRefused, namesPlace, entryConditions, add, sorted, patchConditions, run, resolveSorted, resolve}
 use Rattle.rules.specs.Refusals.{ranOut}
+use Rattle.parallel_moves.proofs.First.{orThen, first-append}
 use Rattle.number.specs.Read.{Read, got, refused, then}
 use Rattle.number.specs.Number.{number, encoded}
 use Rattle.number.proofs.Laws.{only-form, read-back}
@@ -27,8 +28,8 @@ use Rattle.job_function.specs.Reads.{rebuilt, value, valued, function}
 use Rattle.job_patch.specs.Patches.{unlessGiven, rising, place, entry, entries, patch}
 use Rattle.job.specs.Job.{Answers, afterRead, afterCall, leftOver, afterTarget, header, opening, patches, job}
 use Rattle.job.specs.Conditions.{afterGot, unread, inNumber, inTested, inTimes, inDistinct, inBank, inReg, inClass, inClasses, inTarget, ofTarget, inRebuilt, inValue, inFunction, inRising, afterResolved, inPlace, inEntry, inEntries, inPatch, ofCall, inPatches, inOpening, jobConditions, Refusals, NoNumber}
-use Rattle.job.proofs.Exactly.{refusalOf, Exactly, orThen, first-append, nothing, after, made, unless, passing, given, either, number-exactly, tested-exactly, times-exactly, distinct-exactly, rising-exactly}
-use Rattle.job.proofs.WasRead.{entry-named, settled, patch-taken}
+use Rattle.job.proofs.Exactly.{refusalOf, Exactly, nothing, after, made, unless, passing, given, either, number-exactly, tested-exactly, times-exactly, distinct-exactly, rising-exactly}
+use Rattle.job.proofs.WasRead.{entry-named, settled, patch-called}
 use Rattle.job.proofs.ReadTarget.{target-read}
 
 -- a number that passes a test, then the rest
@@ -184,7 +185,7 @@ module _ (t : RegInfo) (f : Function) where
   patches-exactly zero c l = left-exactly l
   patches-exactly (suc n) c l =
       answered (patch t f l) (inPatch t f l) _ _ (patch-exactly t f l)
-      (λ p r e. called p c _ _ (patch-taken t f l p r e 1024 c) (λ c′. patches-exactly n c′ r))
+      (λ p r e. called p c _ _ (patch-called t f l p r e 1024 c) (λ c′. patches-exactly n c′ r))
 
 -- 2 and 3 are settled when the target's rules are tested
 target-settled : (t : RegInfo) → outsideLimits t ≡ false → listedTwice t ≡ false → targetRefusal t ≡ firstOf (ofTarget t)

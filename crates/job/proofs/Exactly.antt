@@ -6,7 +6,8 @@ use mathlib.Core.List.{List, [], _∷_, _++_}
 use mathlib.Core.Option.{Option, none, some}
 use lib.Dec.{ltb}
 use Rattle.entity.specs.Logic.{pick, no, has}
-use Rattle.reginfo.specs.Refused.{Condition, cond, orElse, firstOf}
+use Rattle.reginfo.specs.Refused.{Condition, cond, firstOf}
+use Rattle.parallel_moves.proofs.First.{orThen, first-append}
 use Rattle.number.specs.Read.{Read, got, refused, then}
 use Rattle.number.specs.Number.{number}
 use Rattle.number.proofs.Laws.{one-refusal}
@@ -21,20 +22,6 @@ refusalOf (refused k) = some k
 -- the part is refused by the first of the conditions that holds, and read where none does
 abbrev pub Exactly : {A : Type 0} → Read A → List Condition → Type 0
 Exactly d cs = firstOf cs ≡ refusalOf d
-
-abbrev pub orThen : Option ℕ → Option ℕ → Option ℕ
-orThen none o = o
-orThen (some k) o = some k
-
-pub first-append : (xs ys : List Condition) → firstOf (xs ++ ys) ≡ orThen (firstOf xs) (firstOf ys)
-unfolding firstOf
-first-append [] ys = refl
-first-append (x ∷ xs) ys = go (x .holds) (first-append xs ys)
-  where
-    go : (b : Bool) → firstOf (xs ++ ys) ≡ orThen (firstOf xs) (firstOf ys)
-        → orElse b (x .number) (firstOf (xs ++ ys)) ≡ orThen (orElse b (x .number) (firstOf xs)) (firstOf ys)
-    go true on = refl
-    go false on = on
 
 -- nothing is read
 pub nothing : firstOf [] ≡ none

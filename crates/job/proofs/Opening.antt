@@ -27,18 +27,18 @@ use Rattle.job.specs.Steps.{HeaderAt}
 module _ (s t f : List ℕ) (at : ℕ) where
   pub function-refused : (k : ℕ) → FunctionRead t s at f (X.Refused k) → HeaderAt s (afterTarget (regInfoOf t) (drop at s)) (N.Refused k) t f
   unfolding afterTarget
-  function-refused k h = rw (← h .reads) refl
+  function-refused k h = rw (← h .reads) (refl, tt, tt)
 
   pub function-read : (next : ℕ) (r : Number) → Accepted (regInfoOf t) → Indexed t → FunctionRead t s at f (X.At next) → ReadAt (between 1 1024) s next r → HeaderAt s (afterTarget (regInfoOf t) (drop at s)) r t f
   unfolding afterTarget
-  function-read next (N.Refused k) at-ok index h g = rw (← h .reads, ← g .reads) refl
+  function-read next (N.Refused k) at-ok index h g = rw (← h .reads, ← g .reads) (refl, tt, tt)
   function-read next (N.Is n q) at-ok index h g =
       let known : Checked t f = record { target = at-ok; indexed = index; function = read-accepted (regInfoOf t) (drop at s) (functionOf f) (drop next s) (sym (h .reads)) } in
       rw (← h .reads, ← g .reads) (q, refl, refl, g .onward .1, refl, refl, known)
 
 -- a target that is refused, and one that is not
 pub target-refused : (s t t′ f : List ℕ) (at k : ℕ) → some k ≡ targetRefusal (regInfoOf t) → HeaderAt s (unlessGiven (targetRefusal (regInfoOf t)) (afterTarget (regInfoOf t) (drop at s))) (N.Refused k) t′ f
-target-refused s t t′ f at k h = rw (← h) refl
+target-refused s t t′ f at k h = rw (← h) (refl, tt, tt)
 
 pub target-taken : (s t t′ f : List ℕ) (at : ℕ) (r : Number) → none ≡ targetRefusal (regInfoOf t) → regInfoOf t′ ≡ regInfoOf t → HeaderAt s (afterTarget (regInfoOf t′) (drop at s)) r t′ f
     → HeaderAt s (unlessGiven (targetRefusal (regInfoOf t)) (afterTarget (regInfoOf t) (drop at s))) r t′ f
@@ -47,11 +47,11 @@ target-taken s t t′ f at r h e g = let h′ = rw e at g in rw (← h) h′
 module _ (s t f : List ℕ) where
   pub too-long : 65536 < length s → HeaderAt s (opening s) (N.Refused 2) t f
   unfolding opening
-  too-long h = rw (lt-ltb 65536 (length s) h) refl
+  too-long h = rw (lt-ltb 65536 (length s) h) (refl, tt, tt)
 
   pub opening-refused : (k : ℕ) → length s ≤ 65536 → TargetAt s 0 t (X.Refused k) → HeaderAt s (opening s) (N.Refused k) t f
   unfolding opening header
-  opening-refused k l h = rw (le-ltb 65536 (length s) l, ← h .reads) refl
+  opening-refused k l h = rw (le-ltb 65536 (length s) l, ← h .reads) (refl, tt, tt)
 
   pub opening-read : (t′ : List ℕ) (next : ℕ) (r : Number) → length s ≤ 65536 → TargetAt s 0 t (X.At next) → HeaderAt s (unlessGiven (targetRefusal (regInfoOf t)) (afterTarget (regInfoOf t) (drop next s))) r t′ f → HeaderAt s (opening s) r t′ f
   unfolding opening header

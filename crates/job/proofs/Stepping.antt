@@ -4,7 +4,7 @@ use mathlib.Core.Path.{_≡_, refl, ap, _∙_}
 use mathlib.Core.Bool.{Bool}
 use mathlib.Core.List.{List}
 use native.Mathlib.Omega.{arith}
-use lib.ListN.{length}
+use lib.ListN.{length, drop}
 use Rattle.entity.specs.Logic.{has}
 use Rattle.reginfo.specs.Table.{regInfoOf}
 use Rattle.function.specs.Table.{functionOf}
@@ -17,11 +17,15 @@ use Rattle.entries.specs.Known.{EntriesOk}
 use Rattle.number.specs.Read.{Read, got, refused}
 use Rattle.reading.specs.declared.Next.the-variants as X
 use Rattle.parallel_moves.specs.declared.Resolved.the-variants as R
+use Rattle.parallel_moves.specs.Given.{Built}
 use Rattle.parallel_moves.specs.Answers.{Gives}
+use Rattle.parallel_moves.proofs.First.{resolve-built}
+use Rattle.job_patch.specs.Patches.{patch}
 use Rattle.job_patch.specs.Steps.{PatchAt}
 use Rattle.job.specs.declared.Step.{Step}
 use Rattle.job.specs.declared.Step.the-variants.{Edits, Refused}
 use Rattle.job.specs.Steps.{CallAt, StepAt}
+use Rattle.job.proofs.WasRead.{patch-taken}
 
 module _ (f : List ℕ) (next : ℕ) (list list′ cache cache′ : List ℕ) where
   pub call-refused : (a : Answer) (k : ℕ) → Gives f a (R.Refused k) list list′ cache cache′ → CallAt f a next (Refused k) list list′ cache cache′
@@ -47,13 +51,15 @@ module _ (t f s : List ℕ) (x : Read Patch) (free : List Bool) (e w : List ℕ)
       go (refused j) h = absurd (let z : _≡_ {A = ℕ} 0 1 = cc in omega arith)
       go (got p rest) h = h .4 .ok
 
-  pub step-read : (next : ℕ) (r : Step) (list list′ cache cache′ : List ℕ) → PatchAt t f s x (X.At next) free e w
+  -- a patch that was read is one built of entries, and its call is that of the rules
+  pub step-read : (at next : ℕ) (r : Step) (list list′ cache cache′ : List ℕ) → patch (regInfoOf t) (functionOf f) (drop at s) ≡ x → PatchAt t f s x (X.At next) free e w
       → ((p : Patch) → ((u : ℕ) → has u (p .free) ≡ setOf free u) → CallAt f (resolveSorted (regInfoOf t) (functionOf f) p (length list) (cacheOf cache) (sortedOf e)) next r list list′ cache cache′)
       → StepAt t f s x r list list′ cache cache′
-  step-read next r list list′ cache cache′ h g = go x h
+  step-read at next r list list′ cache cache′ is h g = go x is h
     where
-      go : (x : Read Patch) → PatchAt t f s x (X.At next) free e w → StepAt t f s x r list list′ cache cache′
-      go (refused j) h = absurd (let z : _≡_ {A = ℕ} 0 1 = cc in omega arith)
-      go (got p rest) h =
+      go : (x : Read Patch) → patch (regInfoOf t) (functionOf f) (drop at s) ≡ x → PatchAt t f s x (X.At next) free e w → StepAt t f s x r list list′ cache cache′
+      go (refused j) is h = absurd (let z : _≡_ {A = ℕ} 0 1 = cc in omega arith)
+      go (got p rest) is h =
           let same : next ≡ h .0 = cc in
-          (next, h .2 ∙ rw same, rw same (h .3), rw (h .4 .rest (length list) (cacheOf cache)) (g p (h .4 .free-is)))
+          let built : Built t f free e p = record { free-is = h .4 .free-is; taken = patch-taken (regInfoOf t) (functionOf f) (drop at s) p rest is; is = h .4 .is } in
+          (next, h .2 ∙ rw same, rw same (h .3), rw (resolve-built t f free e p built (length list) (cacheOf cache)) (g p (h .4 .free-is)))

@@ -1,6 +1,6 @@
 -- What is known of a part that was read.
 use Prim.Native.Nat.{ℕ, zero, suc}
-use mathlib.Core.Path.{_≡_, refl, ap, subst}
+use mathlib.Core.Path.{_≡_, refl, ap, subst, _∙_}
 use mathlib.Core.Bool.{Bool, true, false}
 use mathlib.Core.List.{List, [], _∷_}
 use mathlib.Core.Option.{Option, none, some}
@@ -13,10 +13,12 @@ use Rattle.reginfo.specs.RegInfo.{RegInfo}
 use Rattle.reginfo.specs.Refused.{firstOf}
 use Rattle.function.specs.Function.{Function, numValues}
 use Rattle.rules.specs.Scratch.{Cache}
-use Rattle.rules.specs.Patch.{Entry, move, remat, Patch, Sorted, nothingSorted, namesPlace, entryConditions, add, sortedFrom, sorted, resolveSorted, resolveFrom, resolve}
+use Rattle.rules.specs.Patch.{Entry, move, remat, Patch, Sorted, nothingSorted, namesPlace, entryConditions, add, sorted, resolveSorted, resolve}
+use Rattle.rules.specs.Refusals.{entriesConditions}
 use Rattle.number.specs.Read.{Read, got, refused, then}
 use Rattle.number.specs.Number.{number}
 use Rattle.reading.specs.Reading.{below}
+use Rattle.parallel_moves.proofs.First.{first-append, resolve-first}
 use Rattle.job_function.proofs.Accepted.{then-got, pick-got, tested-got}
 use Rattle.job_patch.specs.Patches.{unlessGiven, rising, place, entry, entries, patch}
 
@@ -82,39 +84,35 @@ module _ (t : RegInfo) (f : Function) where
   settled a (remat d v) b h = rw (b, h .0, h .1)
 
   -- the entries that were read are refused no more
-  module _ (p : Patch) (room : ℕ) (c : Cache) where
-    abbrev Taken : List Entry → Sorted → Type 0
-    Taken es a = resolveFrom t f p room c es a ≡ resolveSorted t f p room c (sortedFrom t f es a)
+  abbrev Taken : List Entry → Sorted → Type 0
+  Taken es a = firstOf (entriesConditions t f es a) ≡ none
 
-    one-taken : (e : Entry) (es : List Entry) (a : Sorted) → firstOf (entryConditions t f a e) ≡ none → Taken es (add t f e a) → Taken (e ∷ es) a
-    unfolding resolveFrom sortedFrom
-    one-taken e es a h on = rw h on
+  one-taken : (e : Entry) (es : List Entry) (a : Sorted) → firstOf (entryConditions t f a e) ≡ none → Taken es (add t f e a) → Taken (e ∷ es) a
+  unfolding entriesConditions
+  one-taken e es a h on = first-append (entryConditions t f a e) (entriesConditions t f es (add t f e a)) ∙ rw h on
 
-    entries-taken : (n : ℕ) (a : Sorted) (l : List ℕ) (es : List Entry) (r : List ℕ) → entries t f n a l ≡ got es r → Taken es a
-    unfolding entries resolveFrom sortedFrom
-    entries-taken zero a l es r h = let e : [] ≡ es = cc in rw (← e)
-    entries-taken (suc n) a l es r h =
-        let b = unless-got (leb 128 (a .count)) 15 _ es r h in
-        let w = then-got (entry t f l) _ es r (b .1) in
-        let g = given-got (firstOf (entryConditions t f a (w .0))) _ es r (w .3) in
-        let x = then-got (entries t f n (add t f (w .0) a) (w .1)) _ es r (g .1) in
-        let e : w .0 ∷ x .0 ≡ es = cc in
-        subst (λ (es : List Entry). Taken es a) e
-        (one-taken (w .0) (x .0) a (g .0) (entries-taken n (add t f (w .0) a) (w .1) (x .0) (x .1) (x .2)))
+  entries-taken : (n : ℕ) (a : Sorted) (l : List ℕ) (es : List Entry) (r : List ℕ) → entries t f n a l ≡ got es r → Taken es a
+  unfolding entries entriesConditions firstOf
+  entries-taken zero a l es r h = let e : [] ≡ es = cc in rw (← e)
+  entries-taken (suc n) a l es r h =
+      let b = unless-got (leb 128 (a .count)) 15 _ es r h in
+      let w = then-got (entry t f l) _ es r (b .1) in
+      let g = given-got (firstOf (entryConditions t f a (w .0))) _ es r (w .3) in
+      let x = then-got (entries t f n (add t f (w .0) a) (w .1)) _ es r (g .1) in
+      let e : w .0 ∷ x .0 ≡ es = cc in
+      subst (λ (es : List Entry). Taken es a) e (one-taken (w .0) (x .0) a (g .0) (entries-taken n (add t f (w .0) a) (w .1) (x .0) (x .1) (x .2)))
 
-  -- so the call of a patch that was read has its own conditions left
-  pub patch-taken : (l : List ℕ) (p : Patch) (r : List ℕ) → patch t f l ≡ got p r → (room : ℕ) (c : Cache)
-      → resolve t f p room c ≡ resolveSorted t f p room c (sorted t f p)
-  unfolding patch resolve
-  patch-taken l p r h room c =
+  pub patch-taken : (l : List ℕ) (p : Patch) (r : List ℕ) → patch t f l ≡ got p r → Taken (p .entries) nothingSorted
+  unfolding patch
+  patch-taken l p r h =
       let w = then-got (number l) _ p r h in
       let u = then-got (rising (w .0) (t .units) 0 (w .1)) _ p r (w .3) in
       let x = then-got (number (u .1)) _ p r (u .3) in
       let y = then-got (entries t f (x .0) nothingSorted (x .1)) _ p r (x .3) in
-      go (u .0) (x .0) (x .1) (y .0) (y .1) (y .2) (y .3)
-    where
-      go : (free : List ℕ) (n : ℕ) (o : List ℕ) (es : List Entry) (q : List ℕ) → entries t f n nothingSorted o ≡ got es q
-          → got (record { free = free; entries = es }) q ≡ got p r → Taken p room c (p .entries) nothingSorted
-      go free n o es q h e =
-          let z : record { free = free; entries = es } ≡ p = cc in
-          rw (ap (λ (q : Patch). q .entries) z) at (entries-taken p room c n nothingSorted o es q h)
+      let es : y .0 ≡ p .entries = ap (λ (q : Patch). q .entries) (let z : record { free = u .0; entries = y .0 } ≡ p = cc in z) in
+      rw es at (entries-taken (x .0) nothingSorted (x .1) (y .0) (y .1) (y .2))
+
+  -- so the call of a patch that was read has its own conditions left
+  pub patch-called : (l : List ℕ) (p : Patch) (r : List ℕ) → patch t f l ≡ got p r → (room : ℕ) (c : Cache)
+      → resolve t f p room c ≡ resolveSorted t f p room c (sorted t f p)
+  patch-called l p r h room c = resolve-first t f p room c ∙ rw (patch-taken l p r h)

@@ -1,29 +1,54 @@
--- Demand 3 of every job: each patch that a job's bytes give is answered as demanded.
-use Prim.Native.Nat.{ℕ, zero, suc}
-use mathlib.Core.List.{List}
+-- Demand 3 of every job: its answers are those of its patches' calls, one behind the other, and the edits of each are as demanded.
+use Prim.Native.Nat.{ℕ, _-_, _<_}
+use mathlib.Core.Path.{_≡_}
+use mathlib.Core.List.{List, [], _∷_}
+use mathlib.Core.Option.{Option, none, some}
+use lib.ListN.{length}
 use Rattle.reginfo.specs.RegInfo.{RegInfo}
 use Rattle.function.specs.Function.{Function}
 use Rattle.rules.specs.Scratch.{Cache, emptyCache}
-use Rattle.rules.specs.Patch.{Patch, resolve, cacheAfter}
-use Rattle.machine.specs.Claim.{Answered}
+use Rattle.rules.specs.Patch.{Patch, resolve}
+use Rattle.rules.specs.Patch as rules
+use Rattle.machine.specs.Claim.{Accepted}
 use Rattle.number.specs.Read.{Read, got, refused}
 use Rattle.job_patch.specs.Patches.{patch}
-use Rattle.job.specs.Job.{Header, opening}
+use Rattle.job.specs.Job.{Header, Done, Answers, opening, job}
 
 module _ (t : RegInfo) (f : Function) where
-  -- a patch that was read is refused, or its edits are as demand 3 says; and so on with the cache that it left
-  abbrev pub afterPatch : Cache → Read Patch → (Cache → List ℕ → Type 0) → Type 0
-  afterPatch c (refused k) next = Unit {0}
-  afterPatch c (got p r) next = Answered t f p (resolve t f p 1024 c) × next (cacheAfter c (resolve t f p 1024 c)) r
+  -- the bytes l begin with a patch that is read, and d is what its call gives from the cache c: its edits, which are as demand 3 says, and how
+  -- many slots the function then has
+  pub record DoneAt (c : Cache) (l : List ℕ) (d : Done) : Type 0 where
+    pub p : Patch
+    pub rest : List ℕ
+    pub after : Cache
+    pub reads : patch t f l ≡ got p rest
+    pub calls : resolve t f p 1024 c ≡ rules.resolved (d .edits) after
+    pub made : d .made ≡ after .made
+    pub accepted : Accepted t f p (d .edits)
 
-  abbrev pub PatchesRight : ℕ → Cache → List ℕ → Type 0
-  PatchesRight zero c l = Unit {0}
-  PatchesRight (suc n) c l = afterPatch c (patch t f l) (PatchesRight n)
+  -- why no more is done where n patches are left: there is none, and the bytes end or are left over; the next one is not read; its call is refused
+  pub data Ends (n : ℕ) (c : Cache) (l : List ℕ) (k : Option ℕ) : Type 0 where
+    all-done : n ≡ 0 → l ≡ [] → k ≡ none → Ends n c l k
+    left-over : n ≡ 0 → 0 < length l → k ≡ some 8 → Ends n c l k
+    not-read : (m : ℕ) → 0 < n → patch t f l ≡ refused m → k ≡ some m → Ends n c l k
+    not-resolved : (m : ℕ) (p : Patch) (rest : List ℕ) → 0 < n → patch t f l ≡ got p rest → resolve t f p 1024 c ≡ rules.refused m → k ≡ some m
+        → Ends n c l k
 
-abbrev pub Opened : Read Header → Type 0
-Opened (refused k) = Unit {0}
-Opened (got h r) = PatchesRight (h .target) (h .function) (h .patches) emptyCache r
+  -- what is done and the refusal k, of n patches from the bytes l and the cache c on: "There is one call for each patch, and what earlier
+  -- patches gave stands"; each call gets the bytes behind the last patch and the cache that its call left
+  abbrev pub OneByOne : List Done → Option ℕ → ℕ → Cache → List ℕ → Type 0
+  OneByOne [] k n c l = Ends n c l k
+  OneByOne (d ∷ ds) k n c l = (0 < n) × (x : DoneAt c l d) × OneByOne ds k (n - 1) (x .after) (x .rest)
+
+-- a job whose opening is refused has that number and nothing done
+abbrev pub Opened : Read Header → Answers → Type 0
+Opened (refused k) a = (a .done ≡ []) × (a .refusal ≡ some k)
+Opened (got h r) a = OneByOne (h .target) (h .function) (a .done) (a .refusal) (h .patches) emptyCache r
 
 -- whatever the bytes
 abbrev pub EveryJob : Type 0
-EveryJob = (l : List ℕ) → Opened (opening l)
+EveryJob = (l : List ℕ) → Opened (opening l) (job l)
+
+-- a job that is not refused has as many patches done as it says
+abbrev pub AllDone : Type 0
+AllDone = (l : List ℕ) (h : Header) (r : List ℕ) → opening l ≡ got h r → job l .refusal ≡ none → length (job l .done) ≡ h .patches

@@ -3,6 +3,7 @@ use Prim.Native.Nat.{ℕ, _≤_}
 use mathlib.Core.Path.{_≡_}
 use mathlib.Core.List.{List, _++_, map}
 use lib.ListN.{length, drop}
+use Rattle.entity.specs.Logic.{Anything}
 use Rattle.reginfo.specs.Table.{regInfoOf}
 use Rattle.function.specs.Known.{Checked}
 use Rattle.function.specs.Table.{functionOf}
@@ -21,9 +22,10 @@ use Rattle.job.specs.declared.Step.{Step}
 use Rattle.job.specs.declared.Step.the-variants.{Edits, Refused}
 use Rattle.job.specs.Job.{Header, header}
 
--- the header read: the tables hold the target and the function, and the answer has the patch count and the next offset
+-- the header read: the tables hold the target and the function, and the answer has the patch count and the next offset; where it is refused,
+-- the tables hold anything
 abbrev pub HeaderAt : (s : List ℕ) → Read Header → Number → (t f : List ℕ) → Type 0
-HeaderAt s (refused k) r t f = r ≡ N.Refused k
+HeaderAt s (refused k) r t f = (r ≡ N.Refused k) × Anything t × Anything f
 HeaderAt s (got h rest) r t f =
     (next : ℕ) × (r ≡ N.Is (h .patches) next) × (rest ≡ drop next s) × (next ≤ length s) × (regInfoOf t ≡ h .target) × (functionOf f ≡ h .function) × Checked t f
 

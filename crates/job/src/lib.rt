@@ -17,7 +17,7 @@ use visits::Marks;
 ghost use mathlib.Core.Path.{_≡_};
 ghost use Prim.Native.Nat.{ℕ, _≤_};
 ghost use lib.ListN.{length, drop};
-ghost use Rattle.entity.specs.Logic.{has};
+ghost use Rattle.entity.specs.Logic.{has, Anything};
 ghost use Rattle.reginfo.specs.Refused.{Accepted, targetRefusal};
 ghost use Rattle.reginfo.specs.Table.{regInfoOf, Indexed};
 ghost use Rattle.function.specs.Known.{Checked};
@@ -97,6 +97,7 @@ fn resolve_before(
 ) -> Step
     requires { ⌜ Checked (now t) (now f) × EntriesOk (now t) (now f) (now e) (now w) × CacheOk (now f) (now cache) ⌝ }
     ensures { λ r. ⌜ ((p : Patch) → ((u : ℕ) → has u (p .free) ≡ setOf (now (free .entry)) u) → CallAt (now (f .entry)) (resolveSorted (regInfoOf (now (t .entry))) (functionOf (now (f .entry))) p (length (now (list .entry))) (cacheOf (now (cache .entry))) (sortedOf (now (e .entry)))) next r (now (list .entry)) (now (list .exit)) (now (cache .entry)) (now (cache .exit))) ⌝ }
+    ensures { λ _. ⌜ Anything (now (available .exit)) × Anything (now (sources .exit)) × Anything (now (edits .exit)) × Anything (now (slots .exit)) × Anything (now (d .exit)) × Anything (now (marks .exit)) × Anything (now (c .exit)) ⌝ }
 {
     match parallel_moves::resolve(
         t,
@@ -140,6 +141,7 @@ pub fn answer_patch(
 ) -> Step
     requires { ⌜ Checked (now t) (now f) × CacheOk (now f) (now cache) ⌝ }
     ensures { λ r. ⌜ StepAt (now (t .entry)) (now (f .entry)) (now (s .entry)) (patch (regInfoOf (now (t .entry))) (functionOf (now (f .entry))) (drop at (now (s .entry)))) r (now (list .entry)) (now (list .exit)) (now (cache .entry)) (now (cache .exit)) ⌝ }
+    ensures { λ _. ⌜ Anything (now (free .exit)) × Anything (now (e .exit)) × Anything (now (w .exit)) × Anything (now (available .exit)) × Anything (now (sources .exit)) × Anything (now (edits .exit)) × Anything (now (slots .exit)) × Anything (now (d .exit)) × Anything (now (marks .exit)) × Anything (now (c .exit)) ⌝ }
 {
     match job_patch::read_patch(t, f, s, at, free, e, w) {
         Next::Refused(k) => Step::Refused(k),

@@ -44,23 +44,23 @@ past-from s at next kept (At n) a b h = (omega (arith, h .0), λ _. h .1 b, h .2
 past-from s at next kept (Refused k) a b h = tt
 
 -- a part, and what is read after it
-module _ (t f s e : List ℕ) (at : ℕ) {A : Type 0} (first : List ℕ → Read A) (then-read : A → List ℕ → Read Entry) where
-  pub part-refused : (e′ w′ : List ℕ) (k : ℕ) → refused k ≡ first (drop at s) → EntryAt t f s e (λ l. then (first l) then-read) at e′ w′ (Refused k)
-  part-refused e′ w′ k h = record { reads = rw (← h); past = tt }
+module _ (t f s e w : List ℕ) (at : ℕ) {A : Type 0} (first : List ℕ → Read A) (then-read : A → List ℕ → Read Entry) where
+  pub part-refused : (k : ℕ) → refused k ≡ first (drop at s) → EntryAt t f s e w (λ l. then (first l) then-read) at e w (Refused k)
+  part-refused k h = record { reads = rw (← h); past = tt; no = λ _ _. (refl, refl) }
 
-  pub part-read : (x : A) (next : ℕ) (e′ w′ : List ℕ) (r : Next) → got x (drop next s) ≡ first (drop at s) → (at < next) × (next ≤ length s) → EntryAt t f s e (then-read x) next e′ w′ r → EntryAt t f s e (λ l. then (first l) then-read) at e′ w′ r
-  part-read x next e′ w′ r h on g = record { reads = rw (← h) (g .reads); past = past-from s at next (EntriesOk t f e′ w′) r (on .0) (on .1) (g .past) }
+  pub part-read : (x : A) (next : ℕ) (e′ w′ : List ℕ) (r : Next) → got x (drop next s) ≡ first (drop at s) → (at < next) × (next ≤ length s) → EntryAt t f s e w (then-read x) next e′ w′ r → EntryAt t f s e w (λ l. then (first l) then-read) at e′ w′ r
+  part-read x next e′ w′ r h on g = record { reads = rw (← h) (g .reads); past = past-from s at next (EntriesOk t f e′ w′) r (on .0) (on .1) (g .past); no = g .no }
 
 -- the last part, and the entry added or refused
 pub entry-added : (t f s e w e′ w′ : List ℕ) (at next v : ℕ) (first : List ℕ → Read ℕ) (make : ℕ → Entry) (a : Option ℕ) → got v (drop next s) ≡ first (drop at s) → (at < next) × (next ≤ length s) → AddedAs t f e w e′ w′ (make v) a
-    → EntryAt t f s e (λ l. then (first l) (λ x o. got (make x) o)) at e′ w′ (addedAt a next)
+    → EntryAt t f s e w (λ l. then (first l) (λ x o. got (make x) o)) at e′ w′ (addedAt a next)
 entry-added t f s e w e′ w′ at next v first make none h on added =
     let y = added .yes refl in
-    record { reads = rw (← h, ← added .is, y .0); past = (omega (arith, on .0), λ _. on .1, y .1) }
-entry-added t f s e w e′ w′ at next v first make (some k) h on added = record { reads = rw (← h, ← added .is); past = tt }
+    record { reads = rw (← h, ← added .is, y .0); past = (omega (arith, on .0), λ _. on .1, y .1); no = λ k q. absurd (let z : _≡_ {A = ℕ} 0 1 = cc in omega arith) }
+entry-added t f s e w e′ w′ at next v first make (some k) h on added = record { reads = rw (← h, ← added .is); past = tt; no = λ _ _. added .no k refl }
 
 -- an entry by its first number
-module _ (t f s e : List ℕ) (at : ℕ) where
+module _ (t f s e w : List ℕ) (at : ℕ) where
   abbrev values : List ℕ → Read ℕ
   values = below (numValues (functionOf f))
 
@@ -68,14 +68,14 @@ module _ (t f s e : List ℕ) (at : ℕ) where
   places = place (regInfoOf t) (functionOf f)
 
   module _ (kind next : ℕ) (e′ w′ : List ℕ) (r : Next) (h : got kind (drop next s) ≡ below 2 (drop at s)) (on : (at < next) × (next ≤ length s)) where
-    pub entry-move : kind ≡ 0 → EntryAt t f s e (λ l. then (places l) (λ x q. then (places q) (λ d p. then (values p) (λ v o. got (move x d v) o)))) next e′ w′ r → EntryAt t f s e (entry (regInfoOf t) (functionOf f)) at e′ w′ r
+    pub entry-move : kind ≡ 0 → EntryAt t f s e w (λ l. then (places l) (λ x q. then (places q) (λ d p. then (values p) (λ v o. got (move x d v) o)))) next e′ w′ r → EntryAt t f s e w (entry (regInfoOf t) (functionOf f)) at e′ w′ r
     unfolding entry
-    entry-move z g = record { reads = rw (← h, z) (g .reads); past = past-from s at next (EntriesOk t f e′ w′) r (on .0) (on .1) (g .past) }
+    entry-move z g = record { reads = rw (← h, z) (g .reads); past = past-from s at next (EntriesOk t f e′ w′) r (on .0) (on .1) (g .past); no = g .no }
 
-    pub entry-remat : (kind ≡ 0 → ⊥) → EntryAt t f s e (λ l. then (places l) (λ d q. then (values q) (λ v p. got (remat d v) p))) next e′ w′ r → EntryAt t f s e (entry (regInfoOf t) (functionOf f)) at e′ w′ r
+    pub entry-remat : (kind ≡ 0 → ⊥) → EntryAt t f s e w (λ l. then (places l) (λ d q. then (values q) (λ v p. got (remat d v) p))) next e′ w′ r → EntryAt t f s e w (entry (regInfoOf t) (functionOf f)) at e′ w′ r
     unfolding entry
-    entry-remat z g = record { reads = rw (← h, ne-eqb kind 0 z) (g .reads); past = past-from s at next (EntriesOk t f e′ w′) r (on .0) (on .1) (g .past) }
+    entry-remat z g = record { reads = rw (← h, ne-eqb kind 0 z) (g .reads); past = past-from s at next (EntriesOk t f e′ w′) r (on .0) (on .1) (g .past); no = g .no }
 
-  pub entry-refused : (e′ w′ : List ℕ) (k : ℕ) → refused k ≡ below 2 (drop at s) → EntryAt t f s e (entry (regInfoOf t) (functionOf f)) at e′ w′ (Refused k)
+  pub entry-refused : (k : ℕ) → refused k ≡ below 2 (drop at s) → EntryAt t f s e w (entry (regInfoOf t) (functionOf f)) at e w (Refused k)
   unfolding entry
-  entry-refused e′ w′ k h = record { reads = rw (← h); past = tt }
+  entry-refused k h = record { reads = rw (← h); past = tt; no = λ _ _. (refl, refl) }

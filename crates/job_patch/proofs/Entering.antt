@@ -1,6 +1,6 @@
 -- The entries of a patch, one after the other.
 use Prim.Native.Nat.{ℕ, suc, _-_, _<_, _≤_}
-use mathlib.Core.Path.{_≡_, refl, sym, _∙_}
+use mathlib.Core.Path.{_≡_, refl, sym, ap, _∙_}
 use mathlib.Core.Bool.{Bool, true, false}
 use mathlib.Core.List.{List, _∷_}
 use mathlib.Core.Option.{Option, none, some}
@@ -12,7 +12,7 @@ use Rattle.reginfo.specs.Refused.{firstOf}
 use Rattle.reginfo.specs.Table.{regInfoOf}
 use Rattle.function.specs.Function.{Function}
 use Rattle.function.specs.Table.{functionOf}
-use Rattle.rules.specs.Patch.{Entry, Sorted, nothingSorted, entryConditions, add, resolveFrom}
+use Rattle.rules.specs.Patch.{Entry, Sorted, nothingSorted, entryConditions, add, sortedFrom}
 use Rattle.entries.specs.Table.{sortedOf}
 use Rattle.entries.specs.Known.{EntriesOk}
 use Rattle.number.specs.Read.{Read, got, refused, then}
@@ -32,33 +32,33 @@ module _ (t f s : List ℕ) where
   F = functionOf f
 
   -- one entry more in front
-  more : (en : Entry) (a : Sorted) (x : Read (List Entry)) (r : Next) (e w : List ℕ) → none ≡ firstOf (entryConditions T F a en) → Entered t f s x (add T F en a) r e w → Entered t f s (then x (λ es q. got (en ∷ es) q)) a r e w
-  unfolding resolveFrom
-  more en a (refused k) r e w n h = h
-  more en a (got es rest) r e w n h = (h .0, h .1, h .2, h .3, h .4, λ p room c. rw (← n) (h .5 p room c))
+  more : (en : Entry) (a : Sorted) (x : Read (List Entry)) (r : Next) (e w : List ℕ) → Entered t f s x (add T F en a) r e w → Entered t f s (then x (λ es q. got (en ∷ es) q)) a r e w
+  unfolding sortedFrom
+  more en a (refused k) r e w h = h
+  more en a (got es rest) r e w h = h
 
   -- an entry that was added, and those after it
   after : (n : ℕ) (a b : Sorted) (x : Read Entry) (rest : List ℕ) (r : Next) (e w : List ℕ) → got b rest ≡ adding T F a x → Entered t f s (entries T F n b rest) b r e w
       → Entered t f s (then x (λ en q. unlessGiven (firstOf (entryConditions T F a en)) (then (entries T F n (add T F en a) q) (λ es o. got (en ∷ es) o)))) a r e w
   after n a b (refused k) rest r e w h g = absurd (let z : _≡_ {A = ℕ} 0 1 = cc in omega arith)
-  after n a b (got en q) rest r e w h g = go (firstOf (entryConditions T F a en)) refl h
+  after n a b (got en q) rest r e w h g = go (firstOf (entryConditions T F a en)) h
     where
-      go : (o : Option ℕ) → firstOf (entryConditions T F a en) ≡ o → got b rest ≡ unlessGiven o (got (add T F en a) q)
+      go : (o : Option ℕ) → got b rest ≡ unlessGiven o (got (add T F en a) q)
           → Entered t f s (unlessGiven o (then (entries T F n (add T F en a) q) (λ es o. got (en ∷ es) o))) a r e w
-      go (some k) is h = absurd (let z : _≡_ {A = ℕ} 0 1 = cc in omega arith)
-      go none is h =
+      go (some k) h = absurd (let z : _≡_ {A = ℕ} 0 1 = cc in omega arith)
+      go none h =
           let here : b ≡ add T F en a = cc in
           let there : rest ≡ q = cc in
-          more en a (entries T F n (add T F en a) q) r e w (sym is) (rw (here, there) at g)
+          more en a (entries T F n (add T F en a) q) r e w (rw (here, there) at g)
 
   -- an entry that was refused
   turned : (n : ℕ) (a : Sorted) (x : Read Entry) (k : ℕ) (e w : List ℕ) → refused k ≡ adding T F a x
       → Entered t f s (then x (λ en q. unlessGiven (firstOf (entryConditions T F a en)) (then (entries T F n (add T F en a) q) (λ es o. got (en ∷ es) o)))) a (Refused k) e w
-  turned n a (refused j) k e w h = let z : k ≡ j = cc in rw z refl
+  turned n a (refused j) k e w h = let z : k ≡ j = cc in (ap Refused z, tt, tt)
   turned n a (got en q) k e w h = go (firstOf (entryConditions T F a en)) h
     where
       go : (o : Option ℕ) → refused k ≡ unlessGiven o (got (add T F en a) q) → Entered t f s (unlessGiven o (then (entries T F n (add T F en a) q) (λ es o. got (en ∷ es) o))) a (Refused k) e w
-      go (some j) h = let z : k ≡ j = cc in rw z refl
+      go (some j) h = let z : k ≡ j = cc in (ap Refused z, tt, tt)
       go none h = absurd (let z : _≡_ {A = ℕ} 0 1 = cc in omega arith)
 
   -- of n entries from `at` on, `left` are left from q on
@@ -76,17 +76,17 @@ module _ (t f s : List ℕ) where
     entering-full b p y is =
         let l : left ≡ suc (left - 1) = omega arith in
         let full : leb 128 (sortedOf e .count) ≡ true = sym is ∙ y in
-        h .rest (Refused 15) e w (rw (l, full) refl)
+        h .rest (Refused 15) e w (rw (l, full) (refl, tt, tt))
 
     module _ (b : Bool) (p : 0 < left) (y : b ≡ false) (is : b ≡ leb 128 (sortedOf e .count)) where
-      pub entering-refused : (k : ℕ) (e′ w′ : List ℕ) → EntryAt t f s e (entry T F) q e′ w′ (Refused k) → Entered t f s (entries T F n nothingSorted (drop at s)) nothingSorted (Refused k) e′ w′
+      pub entering-refused : (k : ℕ) (e′ w′ : List ℕ) → EntryAt t f s e w (entry T F) q e′ w′ (Refused k) → Entered t f s (entries T F n nothingSorted (drop at s)) nothingSorted (Refused k) e′ w′
       unfolding entries
       entering-refused k e′ w′ g =
           let l : left ≡ suc (left - 1) = omega arith in
           let full : leb 128 (sortedOf e .count) ≡ false = sym is ∙ y in
           h .rest (Refused k) e′ w′ (rw (l, full) (turned (left - 1) (sortedOf e) (entry T F (drop q s)) k e′ w′ (g .reads)))
 
-      pub entering-step : (next : ℕ) (e′ w′ : List ℕ) → EntryAt t f s e (entry T F) q e′ w′ (At next) → Entering at n next (left - 1) e′ w′
+      pub entering-step : (next : ℕ) (e′ w′ : List ℕ) → EntryAt t f s e w (entry T F) q e′ w′ (At next) → Entering at n next (left - 1) e′ w′
       unfolding entries
       entering-step next e′ w′ g =
           let l : left ≡ suc (left - 1) = omega arith in
@@ -98,12 +98,12 @@ module _ (t f s : List ℕ) where
           }
 
     pub entering-end : left ≤ 0 → Entered t f s (entries T F n nothingSorted (drop at s)) nothingSorted (At q) e w
-    unfolding entries resolveFrom
-    entering-end z = let l : left ≡ 0 = omega arith in h .rest (At q) e w (rw l (q, refl, refl, h .within, h .ok, λ p room c. refl))
+    unfolding entries sortedFrom
+    entering-end z = let l : left ≡ 0 = omega arith in h .rest (At q) e w (rw l (q, refl, refl, h .within, h .ok, refl))
 
   -- the count in front
   pub counted-refused : (at k : ℕ) (e w : List ℕ) → NumberAt s at (N.Refused k) → Entered t f s (then (number (drop at s)) (λ n p. entries T F n nothingSorted p)) nothingSorted (Refused k) e w
-  counted-refused at k e w h = rw (← h .reads) refl
+  counted-refused at k e w h = rw (← h .reads) (refl, tt, tt)
 
   pub counted : (at n next : ℕ) (r : Next) (e w : List ℕ) → NumberAt s at (N.Is n next) → Entered t f s (entries T F n nothingSorted (drop next s)) nothingSorted r e w
       → Entered t f s (then (number (drop at s)) (λ n p. entries T F n nothingSorted p)) nothingSorted r e w

@@ -47,11 +47,11 @@ module _ (s : List ℕ) (limit : ℕ) where
   module _ (at n q least left : ℕ) (free : List Bool) (h : Freeing at n q least left free) where
     pub freeing-refused : (k : ℕ) → 0 < left → ReadAt (below limit) s q (N.Refused k) → Freed s (rising n limit 0 (drop at s)) emptySet (Refused k) free
     unfolding rising
-    freeing-refused k p g = let l : left ≡ suc (left - 1) = omega arith in h .rest (Refused k) free (rw (l, ← g .reads) refl)
+    freeing-refused k p g = let l : left ≡ suc (left - 1) = omega arith in h .rest (Refused k) free (rw (l, ← g .reads) (refl, tt))
 
     pub freeing-fallen : (u next : ℕ) → 0 < left → ReadAt (below limit) s q (N.Is u next) → u < least → Freed s (rising n limit 0 (drop at s)) emptySet (Refused 3) free
     unfolding rising
-    freeing-fallen u next p g low = let l : left ≡ suc (left - 1) = omega arith in h .rest (Refused 3) free (rw (l, ← g .reads, lt-ltb u least low) refl)
+    freeing-fallen u next p g low = let l : left ≡ suc (left - 1) = omega arith in h .rest (Refused 3) free (rw (l, ← g .reads, lt-ltb u least low) (refl, tt))
 
     pub freeing-step : (u next : ℕ) (free′ : List Bool) → 0 < left → ReadAt (below limit) s q (N.Is u next) → least ≤ u → setOf free′ ≡ inserted (setOf free) u → Freeing at n next (u + 1) (left - 1) free′
     unfolding rising
@@ -81,7 +81,7 @@ module _ (s : List ℕ) (limit : ℕ) where
 
   -- the count in front
   pub free-refused : (at k : ℕ) (free : List Bool) → NumberAt s at (N.Refused k) → Freed s (then (number (drop at s)) (λ n p. rising n limit 0 p)) emptySet (Refused k) free
-  free-refused at k free h = rw (← h .reads) refl
+  free-refused at k free h = rw (← h .reads) (refl, tt)
 
   pub free-counted : (at n next : ℕ) (r : Next) (free : List Bool) → NumberAt s at (N.Is n next) → Freed s (rising n limit 0 (drop next s)) emptySet r free → Freed s (then (number (drop at s)) (λ n p. rising n limit 0 p)) emptySet r free
   free-counted at n next r free h g = rw (← h .reads) g

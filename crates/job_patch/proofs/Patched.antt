@@ -11,7 +11,7 @@ use Rattle.reginfo.specs.Table.{regInfoOf}
 use Rattle.function.specs.Function.{Function}
 use Rattle.function.specs.Table.{functionOf}
 use Rattle.small_set.specs.Set.{setOf, emptySet}
-use Rattle.rules.specs.Patch.{Entry, Patch, nothingSorted, resolve}
+use Rattle.rules.specs.Patch.{Entry, Patch, nothingSorted}
 use Rattle.number.specs.Read.{Read, got, refused, then}
 use Rattle.number.specs.Number.{number}
 use Rattle.reading.specs.declared.Next.{Next}
@@ -62,17 +62,17 @@ module _ (t f s : List ℕ) (at : ℕ) where
   patch-refused k free e w h = rw patch-is (go count-free h)
     where
       go : (x : Read (List ℕ)) → Freed s x emptySet (Refused k) free → PatchAt t f s (then x joined) (Refused k) free e w
-      go (refused j) h = h
+      go (refused j) h = (h .0, h .1, tt, tt)
       go (got us rest) h = absurd (let z : _≡_ {A = ℕ} 0 1 = cc in omega arith)
 
   pub patch-read : (next : ℕ) (r : Next) (free : List Bool) (e w : List ℕ) → Freed s count-free emptySet (At next) free → Entered t f s (then (number (drop next s)) (λ n p. entries T F n nothingSorted p)) nothingSorted r e w
       → PatchAt t f s (patch T F (drop at s)) r free e w
-  unfolding emptySet resolve
+  unfolding emptySet
   patch-read next r free e w h g = rw patch-is (go count-free h)
     where
       ends : (us : List ℕ) (y : Read (List Entry)) → ((u : ℕ) → has u us ≡ setOf free u) → Entered t f s y nothingSorted r e w → PatchAt t f s (then y (whole us)) r free e w
-      ends us (refused k) same g = g
-      ends us (got es rest) same g = (g .0, g .1, g .2, g .3, record { free-is = same; ok = g .4; rest = λ room c. g .5 (record { free = us; entries = es }) room c })
+      ends us (refused k) same g = (g .0, tt, g .1, g .2)
+      ends us (got es rest) same g = (g .0, g .1, g .2, g .3, record { free-is = same; ok = g .4; is = g .5 })
 
       go : (x : Read (List ℕ)) → Freed s x emptySet (At next) free → PatchAt t f s (then x joined) r free e w
       go (refused j) h = absurd (let z : _≡_ {A = ℕ} 0 1 = cc in omega arith)

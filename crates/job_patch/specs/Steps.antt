@@ -5,7 +5,7 @@ use mathlib.Core.Bool.{Bool}
 use mathlib.Core.List.{List}
 use mathlib.Core.Option.{Option, none, some}
 use lib.ListN.{length, drop}
-use Rattle.entity.specs.Logic.{or, has}
+use Rattle.entity.specs.Logic.{or, has, Anything}
 use Rattle.entity.specs.Place.{Place, placeAt}
 use Rattle.reginfo.specs.RegInfo.{RegInfo}
 use Rattle.reginfo.specs.Refused.{firstOf}
@@ -13,15 +13,14 @@ use Rattle.reginfo.specs.Table.{regInfoOf}
 use Rattle.function.specs.Function.{Function}
 use Rattle.function.specs.Table.{functionOf}
 use Rattle.small_set.specs.Set.{setOf}
-use Rattle.rules.specs.Scratch.{Cache}
-use Rattle.rules.specs.Patch.{Entry, Patch, Sorted, entryConditions, add, resolve, resolveFrom, resolveSorted}
+use Rattle.rules.specs.Patch.{Entry, Patch, Sorted, entryConditions, add, sortedFrom, sorted}
 use Rattle.entries.specs.Table.{sortedOf}
 use Rattle.entries.specs.Known.{EntriesOk}
 use Rattle.number.specs.Read.{Read, got, refused, then}
 use Rattle.number.specs.Answer.{Onward}
 use Rattle.number.specs.declared.Number.{Number}
 use Rattle.number.specs.declared.Number.the-variants as N
-use Rattle.reading.specs.Answer.{NextAt}
+use Rattle.reading.specs.Answer.{nextOf, Past}
 use Rattle.reading.specs.declared.Next.{Next}
 use Rattle.reading.specs.declared.Next.the-variants.{At, Refused}
 use Rattle.job_patch.specs.Patches.{unlessGiven, place, patch}
@@ -44,29 +43,30 @@ abbrev pub addedAt : Option ℕ → ℕ → Next
 addedAt none next = At next
 addedAt (some k) next = Refused k
 
--- of the bytes from `at` on, what `d` reads of them is added
-abbrev pub EntryAt : (t f s e : List ℕ) → (List ℕ → Read Entry) → ℕ → (e′ w′ : List ℕ) → Next → Type 0
-EntryAt t f s e d at e′ w′ r = NextAt (λ l. adding (regInfoOf t) (functionOf f) (sortedOf e) (d l)) s at (sortedOf e′) (EntriesOk t f e′ w′) r
+-- of the bytes from `at` on, what `d` reads of them is added; a refusal leaves the tables
+pub record EntryAt (t f s e w : List ℕ) (d : List ℕ → Read Entry) (at : ℕ) (e′ w′ : List ℕ) (r : Next) : Type 0 where
+  pub reads : nextOf s (sortedOf e′) r ≡ adding (regInfoOf t) (functionOf f) (sortedOf e) (d (drop at s))
+  pub past : Past s at (EntriesOk t f e′ w′) r
+  pub no : (k : ℕ) → r ≡ Refused k → (e′ ≡ e) × (w′ ≡ w)
 
--- a patch as the tables hold it: to resolve it is to resolve what its entries became
+-- a patch as the tables hold it: the set has its free units, and the table of entries what they became
 pub record Holds (t f : List ℕ) (free : List Bool) (e w : List ℕ) (p : Patch) : Type 0 where
   pub free-is : (u : ℕ) → has u (p .free) ≡ setOf free u
   pub ok : EntriesOk t f e w
-  pub rest : (room : ℕ) (c : Cache) → resolve (regInfoOf t) (functionOf f) p room c ≡ resolveSorted (regInfoOf t) (functionOf f) p room c (sortedOf e)
+  pub is : sortedOf e ≡ sorted (regInfoOf t) (functionOf f) p
 
--- the entries of a patch, over what those before them became: what is left to do is to resolve what they became
+-- the entries of a patch, over what those before them became: the table holds what they became; where one is refused, anything
 abbrev pub Entered : (t f s : List ℕ) → Read (List Entry) → Sorted → Next → (e w : List ℕ) → Type 0
-Entered t f s (refused k) a r e w = r ≡ Refused k
+Entered t f s (refused k) a r e w = (r ≡ Refused k) × Anything e × Anything w
 Entered t f s (got es rest) a r e w =
-    (next : ℕ) × (r ≡ At next) × (rest ≡ drop next s) × (next ≤ length s) × EntriesOk t f e w
-    × ((p : Patch) (room : ℕ) (c : Cache) → resolveFrom (regInfoOf t) (functionOf f) p room c es a ≡ resolveSorted (regInfoOf t) (functionOf f) p room c (sortedOf e))
+    (next : ℕ) × (r ≡ At next) × (rest ≡ drop next s) × (next ≤ length s) × EntriesOk t f e w × (sortedOf e ≡ sortedFrom (regInfoOf t) (functionOf f) es a)
 
--- free units, over those that were read before them: the set has these and those
+-- free units, over those that were read before them: the set has these and those; where one is refused, anything
 abbrev pub Freed : (s : List ℕ) → Read (List ℕ) → (ℕ → Bool) → Next → List Bool → Type 0
-Freed s (refused k) before r free = r ≡ Refused k
+Freed s (refused k) before r free = (r ≡ Refused k) × Anything free
 Freed s (got us rest) before r free = (next : ℕ) × (r ≡ At next) × (rest ≡ drop next s) × (next ≤ length s) × ((u : ℕ) → or (before u) (has u us) ≡ setOf free u)
 
--- a patch: its free units are the set's, and to resolve it is to resolve what its entries became
+-- a patch: the tables hold it; where it is refused, anything
 abbrev pub PatchAt : (t f s : List ℕ) → Read Patch → Next → List Bool → (e w : List ℕ) → Type 0
-PatchAt t f s (refused k) r free e w = r ≡ Refused k
+PatchAt t f s (refused k) r free e w = (r ≡ Refused k) × Anything free × Anything e × Anything w
 PatchAt t f s (got p rest) r free e w = (next : ℕ) × (r ≡ At next) × (rest ≡ drop next s) × (next ≤ length s) × Holds t f free e w p

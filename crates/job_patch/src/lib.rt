@@ -76,7 +76,7 @@ fn read_move_of(
     dest: u32,
 ) -> Next
     requires { ⌜ Checked (now t) (now f) × EntriesOk (now t) (now f) (now e) (now w) ⌝ }
-    ensures { λ r. ⌜ EntryAt (now (t .entry)) (now (f .entry)) (now (s .entry)) (now (e .entry)) (λ l. then (below (numValues (functionOf (now (f .entry)))) l) (λ v o. got (move (placeAt source) (placeAt dest) v) o)) at (now (e .exit)) (now (w .exit)) r ⌝ }
+    ensures { λ r. ⌜ EntryAt (now (t .entry)) (now (f .entry)) (now (s .entry)) (now (e .entry)) (now (w .entry)) (λ l. then (below (numValues (functionOf (now (f .entry)))) l) (λ v o. got (move (placeAt source) (placeAt dest) v) o)) at (now (e .exit)) (now (w .exit)) r ⌝ }
 {
     match read_value(f, s, at) {
         Number::Refused(k) => Next::Refused(k),
@@ -98,7 +98,7 @@ fn read_move_to(
     source: u32,
 ) -> Next
     requires { ⌜ Checked (now t) (now f) × EntriesOk (now t) (now f) (now e) (now w) ⌝ }
-    ensures { λ r. ⌜ EntryAt (now (t .entry)) (now (f .entry)) (now (s .entry)) (now (e .entry)) (λ l. then (place (regInfoOf (now (t .entry))) (functionOf (now (f .entry))) l) (λ d p. then (below (numValues (functionOf (now (f .entry)))) p) (λ v o. got (move (placeAt source) d v) o))) at (now (e .exit)) (now (w .exit)) r ⌝ }
+    ensures { λ r. ⌜ EntryAt (now (t .entry)) (now (f .entry)) (now (s .entry)) (now (e .entry)) (now (w .entry)) (λ l. then (place (regInfoOf (now (t .entry))) (functionOf (now (f .entry))) l) (λ d p. then (below (numValues (functionOf (now (f .entry)))) p) (λ v o. got (move (placeAt source) d v) o))) at (now (e .exit)) (now (w .exit)) r ⌝ }
 {
     match read_place(t, f, s, at) {
         Number::Refused(k) => Next::Refused(k),
@@ -116,7 +116,7 @@ fn read_move(
     w: &mut SparseMap,
 ) -> Next
     requires { ⌜ Checked (now t) (now f) × EntriesOk (now t) (now f) (now e) (now w) ⌝ }
-    ensures { λ r. ⌜ EntryAt (now (t .entry)) (now (f .entry)) (now (s .entry)) (now (e .entry)) (λ l. then (place (regInfoOf (now (t .entry))) (functionOf (now (f .entry))) l) (λ x q. then (place (regInfoOf (now (t .entry))) (functionOf (now (f .entry))) q) (λ d p. then (below (numValues (functionOf (now (f .entry)))) p) (λ v o. got (move x d v) o)))) at (now (e .exit)) (now (w .exit)) r ⌝ }
+    ensures { λ r. ⌜ EntryAt (now (t .entry)) (now (f .entry)) (now (s .entry)) (now (e .entry)) (now (w .entry)) (λ l. then (place (regInfoOf (now (t .entry))) (functionOf (now (f .entry))) l) (λ x q. then (place (regInfoOf (now (t .entry))) (functionOf (now (f .entry))) q) (λ d p. then (below (numValues (functionOf (now (f .entry)))) p) (λ v o. got (move x d v) o)))) at (now (e .exit)) (now (w .exit)) r ⌝ }
 {
     match read_place(t, f, s, at) {
         Number::Refused(k) => Next::Refused(k),
@@ -135,7 +135,7 @@ fn read_remat_of(
     dest: u32,
 ) -> Next
     requires { ⌜ Checked (now t) (now f) × EntriesOk (now t) (now f) (now e) (now w) ⌝ }
-    ensures { λ r. ⌜ EntryAt (now (t .entry)) (now (f .entry)) (now (s .entry)) (now (e .entry)) (λ l. then (below (numValues (functionOf (now (f .entry)))) l) (λ v o. got (remat (placeAt dest) v) o)) at (now (e .exit)) (now (w .exit)) r ⌝ }
+    ensures { λ r. ⌜ EntryAt (now (t .entry)) (now (f .entry)) (now (s .entry)) (now (e .entry)) (now (w .entry)) (λ l. then (below (numValues (functionOf (now (f .entry)))) l) (λ v o. got (remat (placeAt dest) v) o)) at (now (e .exit)) (now (w .exit)) r ⌝ }
 {
     match read_value(f, s, at) {
         Number::Refused(k) => Next::Refused(k),
@@ -156,7 +156,7 @@ fn read_remat(
     w: &mut SparseMap,
 ) -> Next
     requires { ⌜ Checked (now t) (now f) × EntriesOk (now t) (now f) (now e) (now w) ⌝ }
-    ensures { λ r. ⌜ EntryAt (now (t .entry)) (now (f .entry)) (now (s .entry)) (now (e .entry)) (λ l. then (place (regInfoOf (now (t .entry))) (functionOf (now (f .entry))) l) (λ d q. then (below (numValues (functionOf (now (f .entry)))) q) (λ v p. got (remat d v) p))) at (now (e .exit)) (now (w .exit)) r ⌝ }
+    ensures { λ r. ⌜ EntryAt (now (t .entry)) (now (f .entry)) (now (s .entry)) (now (e .entry)) (now (w .entry)) (λ l. then (place (regInfoOf (now (t .entry))) (functionOf (now (f .entry))) l) (λ d q. then (below (numValues (functionOf (now (f .entry)))) q) (λ v p. got (remat d v) p))) at (now (e .exit)) (now (w .exit)) r ⌝ }
 {
     match read_place(t, f, s, at) {
         Number::Refused(k) => Next::Refused(k),
@@ -174,7 +174,7 @@ fn read_entry(
     w: &mut SparseMap,
 ) -> Next
     requires { ⌜ Checked (now t) (now f) × EntriesOk (now t) (now f) (now e) (now w) ⌝ }
-    ensures { λ r. ⌜ EntryAt (now (t .entry)) (now (f .entry)) (now (s .entry)) (now (e .entry)) (entry (regInfoOf (now (t .entry))) (functionOf (now (f .entry)))) at (now (e .exit)) (now (w .exit)) r ⌝ }
+    ensures { λ r. ⌜ EntryAt (now (t .entry)) (now (f .entry)) (now (s .entry)) (now (e .entry)) (now (w .entry)) (entry (regInfoOf (now (t .entry))) (functionOf (now (f .entry)))) at (now (e .exit)) (now (w .exit)) r ⌝ }
 {
     match reading::below(s, at, 2) {
         Number::Refused(k) => Next::Refused(k),

@@ -23,15 +23,12 @@ use Rattle.rules.specs.Scratch.{Cache, Evicted, ScratchAllocator, push, withEvi
 use Rattle.rules.specs.Order.{KeptMove, noMove, Remat, State, New, Pending, Done, isNew, isPending, Diverted, ParallelMoves, withState, carry, doRemat, remats, rematWithScratch, source, dest, value, bank, writers, cycleMoveSources, emit, noted, divert, carried, lead, lost, undivert, undivertAll, close, visit, visitUnlessMemory, start, moves}
 use Rattle.rules.specs.Patch.{Patch, Sorted, sorted, bound, run}
 use Rattle.rules.specs.Sorted.{MoveOk, RematOk, noRemat, SortedOk, Ran}
-use Rattle.rules.proofs.News.{news, news-all, news-open, news-close}
+use Rattle.rules.proofs.News.{news-all, news-open, news-close}
 use Rattle.rules.proofs.Writers.{writers-low}
-use Rattle.rules.proofs.Sum.{sum, sum-change, sum-part, sum-zero}
+use Rattle.rules.proofs.Sum.{sum-change, sum-part, sum-zero}
 use Rattle.rules.proofs.Steps.{All, all-then, all-after, all-map, branch, Every, every-getD, every-reverse, every-index, all-each, updated-same, updated-other}
-use Rattle.machine.proofs.Diversions.{occurs, Counted, Grown, carry-grown, was-live, lost-counted}
-
--- the edits made, and those still owed: each evicted register will be saved
-abbrev pub owed : ScratchAllocator → ℕ
-owed k = length (k .edits) + length (k .evicted)
+use Rattle.machine.specs.Paid.{owed, occurs, sign, live, Counted, spent, Paid}
+use Rattle.machine.proofs.Diversions.{Grown, carry-grown, was-live, lost-counted}
 
 split-length : {A : Type 0} (p : A → Bool) (l : List A) → length (filter p l) + length (filter (λ e. no (p e)) l) ≡ length l
 unfolding filter
@@ -42,11 +39,6 @@ split-length {A} p (x ∷ l) = go (p x) (split-length p l)
         → length (pick b (x ∷ filter p l) (filter p l)) + length (pick (no b) (x ∷ filter (λ e. no (p e)) l) (filter (λ e. no (p e)) l)) ≡ suc (length l)
     go true h = omega arith
     go false h = omega arith
-
--- 1 unless 0
-sign : ℕ → ℕ
-sign zero = 0
-sign (suc n) = 1
 
 sign-le : (n : ℕ) → sign n ≤ 1
 unfolding sign
@@ -159,19 +151,6 @@ module _ (t : RegInfo) (f : Function) where
   remats-owed [] k = omega arith
   remats-owed (r ∷ l) k = omega (arith, remats-owed l (doRemat t f r k))
 
-  -- the diversions that live
-  pub live : Diverted → ℕ
-  live d = sum (λ v. sign (d .refCount v)) (numValues f)
-
-  module _ (ms : List KeptMove) where
-    -- edits made and owed, 4 for each diversion that lives and 8 for each move not visited
-    abbrev pub spent : ParallelMoves → ℕ
-    spent w = owed (w .allocator) + (4 * live (w .diverted) + 8 * news (length ms) (w .state))
-
-    pub record Paid (a : ℕ) (w : ParallelMoves) : Type 0 where
-      pub paid : spent w ≤ a
-      pub counted : Counted t f ms (w .diverted)
-
   module _ (at : target.Accepted t) (af : Placed t f) where
     -- a rebuild with scratch: a rebuild, two moves, a reload and its save; where its own search evicts, its scratch is no memory
     module _ (r : Remat) (ok : RematOk t f false r) where
@@ -211,17 +190,17 @@ module _ (t : RegInfo) (f : Function) where
       n = length ms
 
       -- a value that is carried is one of them
-      pub live-some : (d : Diverted) (v : ℕ) → v < numValues f → 0 < d .refCount v → 1 ≤ live d
+      pub live-some : (d : Diverted) (v : ℕ) → v < numValues f → 0 < d .refCount v → 1 ≤ live t f d
       unfolding live
       live-some d v vl h = omega (arith, sum-part (λ x. sign (d .refCount x)) (numValues f) v vl, sign-pos (d .refCount v) h)
 
-      live-grown : (v : ℕ) (state : ℕ → State) (d d′ : Diverted) → v < numValues f → Grown t f ms v state d d′ → live d′ ≤ suc (live d)
+      live-grown : (v : ℕ) (state : ℕ → State) (d d′ : Diverted) → v < numValues f → Grown t f ms v state d d′ → live t f d′ ≤ suc (live t f d)
       unfolding live
       live-grown v state d d′ vl g =
           omega (arith, sum-change (λ x. sign (d′ .refCount x)) (λ x. sign (d .refCount x)) (numValues f) v vl (λ x q. ap sign (g .others x q)), sign-le (d′ .refCount v))
 
       module _ (i : ℕ) (il : i < n) (v : ℕ) (rest : List ℕ) (d : Diverted) (e : d .values i ≡ v ∷ rest) (o : Counted t f ms d) where
-        live-change : live (lost t f ms i v rest d) + 1 ≡ live d + sign (pred (d .refCount v))
+        live-change : live t f (lost t f ms i v rest d) + 1 ≡ live t f d + sign (pred (d .refCount v))
         unfolding live
         live-change =
             omega (
@@ -232,16 +211,16 @@ module _ (t : RegInfo) (f : Function) where
               sign-pos (d .refCount v) (was-live t f ms i il v rest d e o),
             )
 
-        live-kept : live (lost t f ms i v rest d) ≤ live d
+        live-kept : live t f (lost t f ms i v rest d) ≤ live t f d
         live-kept = omega (arith, live-change, sign-le (pred (d .refCount v)))
 
         -- at zero a diversion ends
-        live-less : lost t f ms i v rest d .refCount v ≡ 0 → live (lost t f ms i v rest d) < live d
+        live-less : lost t f ms i v rest d .refCount v ≡ 0 → live t f (lost t f ms i v rest d) < live t f d
         live-less z = omega (arith, live-change, sign-zero (pred (d .refCount v)) (sym (updated-same v (pred (d .refCount v)) (d .refCount)) ∙ z))
 
-      pub emit-paid : (a b i : ℕ) (from : Place) (w : ParallelMoves) → Paid ms a w → a + 4 ≤ b → All (Paid ms b) (emit t f ms i from w)
+      pub emit-paid : (a b i : ℕ) (from : Place) (w : ParallelMoves) → Paid t f ms a w → a + 4 ≤ b → All (Paid t f ms b) (emit t f ms i from w)
       emit-paid a b i from w p h =
-          all-then (λ k. owed k ≤ owed (w .allocator) + 4) (Paid ms b) (doMove t f (bank t f ms (value t f ms i)) (dest t f ms i) from (value t f ms i) (w .allocator)) _
+          all-then (λ k. owed k ≤ owed (w .allocator) + 4) (Paid t f ms b) (doMove t f (bank t f ms (value t f ms i)) (dest t f ms i) from (value t f ms i) (w .allocator)) _
           (move-owed (bank t f ms (value t f ms i)) (dest t f ms i) from (value t f ms i) (owed (w .allocator)) (w .allocator) (omega arith))
           (λ k q. record { paid = omega (arith, p .paid); counted = p .counted })
 
@@ -249,33 +228,33 @@ module _ (t : RegInfo) (f : Function) where
         named : value t f ms i < numValues f
         named = ok i il .value-named
 
-        carried-paid : (a : ℕ) (w : ParallelMoves) → Paid ms a w → Paid ms (a + 4) (carried t f ms i w)
+        carried-paid : (a : ℕ) (w : ParallelMoves) → Paid t f ms a w → Paid t f ms (a + 4) (carried t f ms i w)
         carried-paid a w p =
             let g = carry-grown t f ms (value t f ms i) named (w .state) (writers t f ms i) (writers-low t f ms i) (w .diverted) (p .counted) .0 in
             record { paid = omega (arith, p .paid, live-grown (value t f ms i) (w .state) (w .diverted) (carry (value t f ms i) (w .state) (writers t f ms i) (w .diverted)) named g); counted = g .counted }
 
-        divert-paid : (a b : ℕ) (w : ParallelMoves) → Paid ms a w → a + 4 ≤ b → All (Paid ms b) (divert t f ms i w)
+        divert-paid : (a b : ℕ) (w : ParallelMoves) → Paid t f ms a w → a + 4 ≤ b → All (Paid t f ms b) (divert t f ms i w)
         unfolding divert
         divert-paid a b w p h =
-            all-then (λ x. owed (x .scratch) ≤ owed (w .allocator)) (Paid ms b)
+            all-then (λ x. owed (x .scratch) ≤ owed (w .allocator)) (Paid t f ms b)
             (getScratchReg t f (bank t f ms (value t f ms i)) (topLevelClass t (bank t f ms (value t f ms i))) (cycleMoveSources t f ms) (w .allocator)) _
             (slots-owed (bank t f ms (value t f ms i)) (topLevelClass t (bank t f ms (value t f ms i))) (owed (w .allocator))
             (top-slots t at (bank t f ms (value t f ms i)) (af .bank (value t f ms i) named)) (cycleMoveSources t f ms) (w .allocator) (omega arith))
             (λ x q. emit-paid a b i (x .place) (noted t f ms i x w) (record { paid = omega (arith, p .paid); counted = p .counted }) h)
 
-        pub lead-paid : (a b : ℕ) (w : ParallelMoves) → Paid ms a w → a + 8 ≤ b → All (Paid ms b) (lead t f ms i w)
+        pub lead-paid : (a b : ℕ) (w : ParallelMoves) → Paid t f ms a w → a + 8 ≤ b → All (Paid t f ms b) (lead t f ms i w)
         unfolding lead
         lead-paid a b w p h =
-            branch (All (Paid ms b)) (any (λ m. isPending (w .state m)) (writers t f ms i)) _ _
-            (λ _. branch (All (Paid ms b)) (eqb (w .diverted .refCount (value t f ms i)) 0) _ _
+            branch (All (Paid t f ms b)) (any (λ m. isPending (w .state m)) (writers t f ms i)) _ _
+            (λ _. branch (All (Paid t f ms b)) (eqb (w .diverted .refCount (value t f ms i)) 0) _ _
             (λ _. divert-paid (a + 4) b (carried t f ms i w) (carried-paid a w p) (omega arith))
             (λ _. emit-paid (a + 4) b i (w .scratch (value t f ms i)) (carried t f ms i w) (carried-paid a w p) (omega arith)))
             (λ _. emit-paid a b i (source t f ms i) w p (omega arith))
 
         -- the copy of a diversion that ends is paid by its end
-        module _ (a v : ℕ) (l : List ℕ) (w : ParallelMoves) (e : w .diverted .values i ≡ v ∷ l) (p : Paid ms a w) where
+        module _ (a v : ℕ) (l : List ℕ) (w : ParallelMoves) (e : w .diverted .values i ≡ v ∷ l) (p : Paid t f ms a w) where
           abbrev pub Left : ParallelMoves → Type 0
-          Left w′ = Paid ms a w′ × (w′ .diverted .values i ≡ l)
+          Left w′ = Paid t f ms a w′ × (w′ .diverted .values i ≡ l)
 
           pub undivert-paid : All Left (undivert t f ms i v l w)
           unfolding undivert
@@ -295,41 +274,41 @@ module _ (t : RegInfo) (f : Function) where
                 updated-same i l (w .diverted .values),
               ))
 
-        pub undivertAll-paid : (a : ℕ) (l : List ℕ) (w : ParallelMoves) → w .diverted .values i ≡ l → Paid ms a w → All (Paid ms a) (undivertAll t f ms i l w)
+        pub undivertAll-paid : (a : ℕ) (l : List ℕ) (w : ParallelMoves) → w .diverted .values i ≡ l → Paid t f ms a w → All (Paid t f ms a) (undivertAll t f ms i l w)
         unfolding undivertAll
         undivertAll-paid a [] w e p = p
         undivertAll-paid a (v ∷ l) w e p =
-            all-then (Left a v l w e p) (Paid ms a) (undivert t f ms i v l w) _ (undivert-paid a v l w e p) (λ w′ q. undivertAll-paid a l w′ (q .1) (q .0))
+            all-then (Left a v l w e p) (Paid t f ms a) (undivert t f ms i v l w) _ (undivert-paid a v l w e p) (λ w′ q. undivertAll-paid a l w′ (q .1) (q .0))
 
-        pub done-paid : (a : ℕ) (w : ParallelMoves) → Paid ms a w → Paid ms a (withState i Done w)
+        pub done-paid : (a : ℕ) (w : ParallelMoves) → Paid t f ms a w → Paid t f ms a (withState i Done w)
         done-paid a w p = record { paid = omega (arith, p .paid, news-close n i (w .state)); counted = p .counted }
 
-        pub close-paid : (a b : ℕ) (w : ParallelMoves) → Paid ms a w → a + 8 ≤ b → All (Paid ms b) (close t f ms i w)
+        pub close-paid : (a b : ℕ) (w : ParallelMoves) → Paid t f ms a w → a + 8 ≤ b → All (Paid t f ms b) (close t f ms i w)
         unfolding close
         close-paid a b w p h =
-            all-then (Paid ms b) (Paid ms b) (lead t f ms i (withState i Done w)) _ (lead-paid a b (withState i Done w) (done-paid a w p) h)
+            all-then (Paid t f ms b) (Paid t f ms b) (lead t f ms i (withState i Done w)) _ (lead-paid a b (withState i Done w) (done-paid a w p) h)
             (λ w′ q. undivertAll-paid b (w′ .diverted .values i) w′ refl q)
 
         -- to open a move frees its 8
-        pub opened : (w : ParallelMoves) → isNew (w .state i) ≡ true → spent ms (withState i Pending w) + 8 ≤ spent ms w
+        pub opened : (w : ParallelMoves) → isNew (w .state i) ≡ true → spent t f ms (withState i Pending w) + 8 ≤ spent t f ms w
         opened w e = omega (arith, news-open n i (w .state) il e)
 
-      pub visit-paid : (fuel a i : ℕ) (w : ParallelMoves) → i < n → Paid ms a w → All (Paid ms a) (visit t f ms fuel i w)
+      pub visit-paid : (fuel a i : ℕ) (w : ParallelMoves) → i < n → Paid t f ms a w → All (Paid t f ms a) (visit t f ms fuel i w)
       unfolding visit
-      visit-paid zero a i w il p = branch (All (Paid ms a)) (isNew (w .state i)) _ _ (λ _. tt) (λ _. p)
+      visit-paid zero a i w il p = branch (All (Paid t f ms a)) (isNew (w .state i)) _ _ (λ _. tt) (λ _. p)
       visit-paid (suc fuel) a i w il p =
-          branch (All (Paid ms a)) (isNew (w .state i)) _ _
-          (λ e. all-then (Paid ms (spent ms (withState i Pending w))) (Paid ms a) (each (visit t f ms fuel) (reverse (writers t f ms i)) (withState i Pending w)) _
-          (all-each (Paid ms (spent ms (withState i Pending w))) (λ m. m < n) (visit t f ms fuel) (λ m w′ ml q. visit-paid fuel (spent ms (withState i Pending w)) m w′ ml q)
+          branch (All (Paid t f ms a)) (isNew (w .state i)) _ _
+          (λ e. all-then (Paid t f ms (spent t f ms (withState i Pending w))) (Paid t f ms a) (each (visit t f ms fuel) (reverse (writers t f ms i)) (withState i Pending w)) _
+          (all-each (Paid t f ms (spent t f ms (withState i Pending w))) (λ m. m < n) (visit t f ms fuel) (λ m w′ ml q. visit-paid fuel (spent t f ms (withState i Pending w)) m w′ ml q)
           (reverse (writers t f ms i)) (every-reverse (λ m. m < n) (writers t f ms i) (writers-low t f ms i)) (withState i Pending w) (record { paid = omega arith; counted = p .counted }))
-          (λ w′ q. close-paid i il (spent ms (withState i Pending w)) a w′ q (omega (arith, opened i il w e, p .paid))))
+          (λ w′ q. close-paid i il (spent t f ms (withState i Pending w)) a w′ q (omega (arith, opened i il w e, p .paid))))
           (λ _. p)
 
-      pub first-paid : (a i : ℕ) (w : ParallelMoves) → i < n → Paid ms a w → All (Paid ms a) (visitUnlessMemory t f ms i w)
+      pub first-paid : (a i : ℕ) (w : ParallelMoves) → i < n → Paid t f ms a w → All (Paid t f ms a) (visitUnlessMemory t f ms i w)
       unfolding visitUnlessMemory
-      first-paid a i w il p = branch (All (Paid ms a)) (or (isMemory t (source t f ms i)) (isMemory t (dest t f ms i))) _ _ (λ _. p) (λ _. visit-paid n a i w il p)
+      first-paid a i w il p = branch (All (Paid t f ms a)) (or (isMemory t (source t f ms i)) (isMemory t (dest t f ms i))) _ _ (λ _. p) (λ _. visit-paid n a i w il p)
 
-      pub start-paid : (k : ScratchAllocator) → Paid ms (owed k + 8 * n) (start t f ms k)
+      pub start-paid : (k : ScratchAllocator) → Paid t f ms (owed k + 8 * n) (start t f ms k)
       unfolding start live sign occurs
       start-paid k = record { paid = omega (arith, sum-zero (λ v. 0) (numValues f) (λ v h. refl), news-all n (λ i. New)); counted = record { counts = λ v. sym (sum-zero (λ m. 0) n (λ m h. refl)); small = λ v h. absurd (omega arith) } }
 
@@ -343,7 +322,7 @@ module _ (t : RegInfo) (f : Function) where
           (λ w p. omega (arith, p .paid, all-owed (w .allocator)))
         where
           P : ParallelMoves → Type 0
-          P = Paid ms (owed k + 8 * n)
+          P = Paid t f ms (owed k + 8 * n)
 
           below : Every (λ i. i < n) (indices 0 n)
           below = every-index n 0 n (omega arith)

@@ -12,13 +12,10 @@ use Rattle.reginfo.specs.RegInfo.{RegInfo}
 use Rattle.function.specs.Function.{Function, numValues}
 use Rattle.rules.specs.Edit.{updated}
 use Rattle.rules.specs.Order.{KeptMove, State, isPending, Diverted, carryOne, carry, lost}
-use Rattle.rules.proofs.Sum.{bit, sum, sum-change, sum-part}
+use Rattle.rules.specs.Counts.{bit, sum}
+use Rattle.rules.proofs.Sum.{sum-change, sum-part}
 use Rattle.rules.proofs.Steps.{Every, updated-at, updated-same, updated-other}
-
--- how often x is listed
-unfoldable pub occurs : ℕ → List ℕ → ℕ
-occurs x [] = 0
-occurs x (y ∷ l) = bit (eqb x y) + occurs x l
+use Rattle.machine.specs.Paid.{occurs, Counted}
 
 pub occurs-head : (x y : ℕ) (l : List ℕ) → x ≡ y → occurs x (y ∷ l) ≡ suc (occurs x l)
 unfolding occurs bit
@@ -46,19 +43,14 @@ module _ (t : RegInfo) (f : Function) (ms : List KeptMove) where
   abbrev n : ℕ
   n = length ms
 
-  -- each value's count is how often it is carried, and only values there are
-  pub record Counted (d : Diverted) : Type 0 where
-    pub counts : (v : ℕ) → d .refCount v ≡ sum (λ m. occurs v (d .values m)) n
-    pub small : (v : ℕ) → 0 < d .refCount v → v < numValues f
-
   -- only open moves carry more, and only the count of v grows
   pub record Grown (v : ℕ) (state : ℕ → State) (d d′ : Diverted) : Type 0 where
-    pub counted : Counted d′
+    pub counted : Counted t f ms d′
     pub others : (x : ℕ) → (x ≡ v → ⊥) → d′ .refCount x ≡ d .refCount x
     pub more : d .refCount v ≤ d′ .refCount v
     pub only : (k : ℕ) → isPending (state k) ≡ false → d′ .values k ≡ d .values k
 
-  module _ (v : ℕ) (vl : v < numValues f) (m : ℕ) (ml : m < n) (d : Diverted) (o : Counted d) (state : ℕ → State) where
+  module _ (v : ℕ) (vl : v < numValues f) (m : ℕ) (ml : m < n) (d : Diverted) (o : Counted t f ms d) (state : ℕ → State) where
     abbrev d₁ : Diverted
     d₁ = record { refCount = updated v (suc (d .refCount v)) (d .refCount); values = updated m (d .values m ++ (v ∷ [])) (d .values) }
 
@@ -102,7 +94,7 @@ module _ (t : RegInfo) (f : Function) (ms : List KeptMove) where
         go false p b h = (same-grown, λ e. absurd (false≢true e))
 
   pub carry-grown :
-      (v : ℕ) → v < numValues f → (state : ℕ → State) (l : List ℕ) → Every (λ m. m < n) l → (d : Diverted) → Counted d
+      (v : ℕ) → v < numValues f → (state : ℕ → State) (l : List ℕ) → Every (λ m. m < n) l → (d : Diverted) → Counted t f ms d
       → Grown v state d (carry v state l d) × (any (λ m. isPending (state m)) l ≡ true → 0 < carry v state l d .refCount v)
   unfolding carry any
   carry-grown v vl state [] q d o = (record { counted = o; others = λ x q. refl; more = omega arith; only = λ k h. refl }, λ e. absurd (false≢true e))
@@ -125,7 +117,7 @@ module _ (t : RegInfo) (f : Function) (ms : List KeptMove) where
       go false x y z e = y e
 
   -- the first value that i carries loses one
-  module _ (i : ℕ) (il : i < n) (v : ℕ) (rest : List ℕ) (d : Diverted) (e : d .values i ≡ v ∷ rest) (o : Counted d) where
+  module _ (i : ℕ) (il : i < n) (v : ℕ) (rest : List ℕ) (d : Diverted) (e : d .values i ≡ v ∷ rest) (o : Counted t f ms d) where
     abbrev d₂ : Diverted
     d₂ = lost t f ms i v rest d
 
@@ -141,7 +133,7 @@ module _ (t : RegInfo) (f : Function) (ms : List KeptMove) where
     pub was-live : 0 < d .refCount v
     was-live = omega (arith, fewer v, occurs-head v v rest refl, o .counts v)
 
-    pub lost-counted : Counted d₂
+    pub lost-counted : Counted t f ms d₂
     lost-counted =
         record {
           counts = λ x.

@@ -28,8 +28,10 @@ use Rattle.machine.specs.Slots.{InStacks, Stays, SlotsClaim, SlotsLie}
 use Rattle.rules.proofs.Steps.{All, all-then, branch, same?, Every, every-getD, every-reverse, every-index, all-each, updated-at, updated-same, updated-other}
 use Rattle.machine.proofs.Bound.{unevict-evicted}
 use Rattle.rules.proofs.Writers.{writers-low}
-use Rattle.rules.proofs.Sum.{bit, sum, sum-change, sum-zero, sum-ones, sum-le}
-use Rattle.machine.proofs.Diversions.{occurs, occurs-head, occurs-tail, has-occurs, Counted, Grown, carry-grown, was-live, lost-counted}
+use Rattle.rules.specs.Counts.{bit, sum}
+use Rattle.rules.proofs.Sum.{sum-change, sum-zero, sum-ones, sum-le}
+use Rattle.machine.specs.Paid.{occurs, Counted}
+use Rattle.machine.proofs.Diversions.{occurs-head, occurs-tail, has-occurs, Grown, carry-grown, was-live, lost-counted}
 
 positive : (a : ℕ) → (a ≡ 0 → ⊥) → 0 < a
 positive a h = omega arith

@@ -4,7 +4,8 @@ use mathlib.Core.Bool.{Bool, true, false, not}
 use Prim.Native.Nat.{ℕ, zero, suc, _+_, _<_}
 use native.Mathlib.Omega.{arith}
 use lib.Dec.{T}
-use Rattle.rules.proofs.Sum.{bit, bit-yes, sum, sum-change, sum-part, sum-zero}
+use Rattle.rules.specs.Counts.{bit, sum}
+use Rattle.rules.proofs.Sum.{bit-yes, sum-change, sum-part, sum-zero}
 use Rattle.machine.proofs.Tests.{of-yes}
 
 abbrev pub tally : (ℕ → Bool) → ℕ → ℕ

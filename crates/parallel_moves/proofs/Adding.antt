@@ -1,6 +1,6 @@
 -- The entries of a patch, added one after the other.
 use Prim.Native.Nat.{ℕ, _+_, _-_, _<_, _≤_}
-use mathlib.Core.Path.{_≡_, refl, _∙_}
+use mathlib.Core.Path.{_≡_, refl, sym, _∙_}
 use mathlib.Core.Bool.{Bool}
 use mathlib.Core.List.{List, [], _∷_}
 use mathlib.Core.Option.{Option, none, some}
@@ -9,9 +9,10 @@ use lib.ListN.{length, getD, drop, length-drop, drop-of-length-le}
 use borrow.Author.Tests.{ne-eqb}
 use Rattle.entity.specs.Place.{placeAt}
 use Rattle.entity.proofs.Laws.{drop-step}
+use Rattle.reginfo.specs.Refused.{firstOf}
 use Rattle.function.specs.Table.{functionOf}
-use Rattle.rules.specs.Scratch.{Cache}
-use Rattle.rules.specs.Patch.{Entry, move, remat, Patch, nothingSorted, resolveSorted, resolveFrom, resolve}
+use Rattle.rules.specs.Patch.{Entry, move, remat, Patch, nothingSorted, entryConditions, sortedFrom, resolve}
+use Rattle.rules.specs.Refusals.{entriesConditions}
 use Rattle.scratch.specs.State.{T}
 use Rattle.entries.specs.Table.{sortedOf}
 use Rattle.entries.specs.Known.{EntriesOk}
@@ -19,9 +20,11 @@ use Rattle.entries.specs.Answers.{AddedAs}
 use Rattle.slots.specs.Stacks.{cacheOf}
 use Rattle.parallel_moves.specs.declared.Resolved as R
 use Rattle.parallel_moves.specs.declared.Resolved.{Resolved}
-use Rattle.parallel_moves.specs.Given.{nothingNamed, entryOf, entriesOf, patchOf}
-use Rattle.parallel_moves.specs.Answers.{Gives}
+use Rattle.parallel_moves.specs.Given.{nothingNamed, entryOf, entriesOf, patchOf, Built}
+use Rattle.parallel_moves.specs.Answers.{Gives, Resolves}
 use Rattle.parallel_moves.specs.Steps.{AllAdded}
+use Rattle.parallel_moves.proofs.First.{first-append, resolve-first, resolve-built}
+use Rattle.parallel_moves.proofs.Running.{free-is}
 
 -- an entry by its first number
 module _ (t f e w e′ w′ : List ℕ) (kind x y z : ℕ) (r : Option ℕ) where
@@ -55,57 +58,96 @@ short (x ∷ y ∷ []) a b = refl
 short (x ∷ y ∷ z ∷ []) a b = refl
 short (x ∷ y ∷ z ∷ u ∷ l) a b = absurd (omega arith)
 
+-- one entry added or refused, before others
+module _ (t f e w e′ w′ : List ℕ) (x : Entry) (l : List Entry) where
+  one-added : AddedAs t f e w e′ w′ x none
+      → (firstOf (entriesConditions (T t) (functionOf f) (x ∷ l) (sortedOf e)) ≡ firstOf (entriesConditions (T t) (functionOf f) l (sortedOf e′)))
+      × (sortedFrom (T t) (functionOf f) (x ∷ l) (sortedOf e) ≡ sortedFrom (T t) (functionOf f) l (sortedOf e′))
+  unfolding entriesConditions sortedFrom
+  one-added one = let y = one .yes refl in (first-append (entryConditions (T t) (functionOf f) (sortedOf e) x) _ ∙ rw (← one .is, y .0), rw (y .0))
+
+  one-refused : (n : ℕ) → AddedAs t f e w e′ w′ x (some n) → some n ≡ firstOf (entriesConditions (T t) (functionOf f) (x ∷ l) (sortedOf e))
+  unfolding entriesConditions
+  one-refused n one = rw (first-append (entryConditions (T t) (functionOf f) (sortedOf e) x), ← one .is)
+
 module _ (t f e : List ℕ) (numbers : List ℕ) where
   -- the entries before `at` are added, and `left` numbers are left
   pub record Adding (e′ w′ : List ℕ) (at left : ℕ) : Type 0 where
     pub ok : EntriesOk t f e′ w′
-    pub rest : (p : Patch) (room : ℕ) (c : Cache) → resolveFrom (T t) (functionOf f) p room c (entriesOf numbers) (sortedOf e) ≡ resolveFrom (T t) (functionOf f) p room c (entriesOf (drop at numbers)) (sortedOf e′)
+    pub first : firstOf (entriesConditions (T t) (functionOf f) (entriesOf numbers) (sortedOf e)) ≡ firstOf (entriesConditions (T t) (functionOf f) (entriesOf (drop at numbers)) (sortedOf e′))
+    pub became : sortedFrom (T t) (functionOf f) (entriesOf numbers) (sortedOf e) ≡ sortedFrom (T t) (functionOf f) (entriesOf (drop at numbers)) (sortedOf e′)
     pub within : at + left ≡ length numbers
 
   pub adding-start : (w : List ℕ) → EntriesOk t f e w → Adding e w 0 (length numbers)
-  adding-start w ok = record { ok = ok; rest = λ p room c. refl; within = omega arith }
+  adding-start w ok = record { ok = ok; first = refl; became = refl; within = omega arith }
 
   module _ (e′ w′ : List ℕ) (at left : ℕ) (h : Adding e′ w′ at left) where
     abbrev entry : Entry
     entry = entryOf (getD numbers at 0) (getD numbers (at + 1) 0) (getD numbers (at + 2) 0) (getD numbers (at + 3) 0)
 
-    pub adding-step : (e″ w″ : List ℕ) → 4 ≤ left → AddedAs t f e′ w′ e″ w″ entry none → Adding e″ w″ (at + 4) (left - 4)
-    unfolding resolveFrom
-    adding-step e″ w″ l one =
-        let y = one .yes refl in
+    same-tables : (e″ w″ : List ℕ) (n : ℕ) (x : Entry) → AddedAs t f e′ w′ e″ w″ x (some n) → EntriesOk t f e″ w″
+    same-tables e″ w″ n x one = let z = one .no n refl in rw (z .0, z .1) (h .ok)
+
+    -- no entry is left
+    ended : entriesOf (drop at numbers) ≡ [] → AllAdded t f e e′ w′ (entriesOf numbers) none
+    unfolding entriesConditions sortedFrom firstOf
+    ended none-left = record { is = sym (h .first ∙ rw none-left); yes = λ _. sym (h .became ∙ rw none-left); ok = h .ok }
+
+    -- the first of those left is refused
+    stopped : (n : ℕ) (e″ w″ : List ℕ) (x : Entry) (l : List Entry) → entriesOf (drop at numbers) ≡ x ∷ l → AddedAs t f e′ w′ e″ w″ x (some n) → AllAdded t f e e″ w″ (entriesOf numbers) (some n)
+    stopped n e″ w″ x l is one =
         record {
-          ok = y .1;
-          rest = λ p room c. h .rest p room c ∙ rw (entries-at numbers at (omega (arith, h .within)), ← one .is, y .0);
+          is = one-refused t f e′ w′ e″ w″ x l n one ∙ sym (h .first ∙ rw is);
+          yes = λ q. absurd (let z : _≡_ {A = ℕ} 0 1 = cc in omega arith);
+          ok = same-tables e″ w″ n x one;
+        }
+
+    pub adding-step : (e″ w″ : List ℕ) → 4 ≤ left → AddedAs t f e′ w′ e″ w″ entry none → Adding e″ w″ (at + 4) (left - 4)
+    adding-step e″ w″ l one =
+        let is = entries-at numbers at (omega (arith, h .within)) in
+        let y = one-added t f e′ w′ e″ w″ entry (entriesOf (drop (at + 4) numbers)) one in
+        record {
+          ok = one .yes refl .1;
+          first = h .first ∙ rw is (y .0);
+          became = h .became ∙ rw is (y .1);
           within = omega (arith, h .within);
         }
 
     pub adding-refused : (n : ℕ) (e″ w″ : List ℕ) → 4 ≤ left → AddedAs t f e′ w′ e″ w″ entry (some n) → AllAdded t f e e″ w″ (entriesOf numbers) (some n)
-    unfolding resolveFrom
-    adding-refused n e″ w″ l one =
-        record { yes = λ q. absurd (let z : _≡_ {A = ℕ} 0 1 = cc in omega arith); is = λ p room c. h .rest p room c ∙ rw (entries-at numbers at (omega (arith, h .within)), ← one .is) }
+    adding-refused n e″ w″ l one = stopped n e″ w″ entry (entriesOf (drop (at + 4) numbers)) (entries-at numbers at (omega (arith, h .within))) one
 
     pub adding-end : left ≤ 0 → AllAdded t f e e′ w′ (entriesOf numbers) none
-    unfolding resolveFrom entriesOf
-    adding-end z = record { yes = λ _. h .ok; is = λ p room c. h .rest p room c ∙ rw (drop-of-length-le numbers {i = at} (omega (arith, h .within))) }
+    unfolding entriesOf
+    adding-end z = ended (rw (drop-of-length-le numbers {i = at} (omega (arith, h .within))))
 
     left-over : left < 4 → 0 < left → entriesOf (drop at numbers) ≡ nothingNamed ∷ []
     left-over a b = let n : length (drop at numbers) ≡ left = omega (arith, length-drop at numbers, h .within) in short (drop at numbers) (omega arith) (omega arith)
 
     pub adding-short : (e″ w″ : List ℕ) (r : Option ℕ) → left < 4 → 0 < left → AddedAs t f e′ w′ e″ w″ nothingNamed r → AllAdded t f e e″ w″ (entriesOf numbers) r
-    unfolding resolveFrom
-    adding-short e″ w″ none a b one = let y = one .yes refl in record { yes = λ _. y .1; is = λ p room c. h .rest p room c ∙ rw (left-over a b, ← one .is, y .0) }
-    adding-short e″ w″ (some n) a b one =
-        record { yes = λ q. absurd (let z : _≡_ {A = ℕ} 0 1 = cc in omega arith); is = λ p room c. h .rest p room c ∙ rw (left-over a b, ← one .is) }
+    unfolding entriesConditions sortedFrom firstOf
+    adding-short e″ w″ none a b one =
+        let y = one-added t f e′ w′ e″ w″ nothingNamed [] one in
+        record {
+          is = sym (h .first ∙ rw (left-over a b) (y .0));
+          yes = λ _. sym (h .became ∙ rw (left-over a b) (y .1));
+          ok = one .yes refl .1;
+        }
+    adding-short e″ w″ (some n) a b one = stopped n e″ w″ nothingNamed [] (left-over a b) one
 
 -- all entries of a patch
 module _ (t f e e′ w′ : List ℕ) (free : List Bool) (numbers list cache : List ℕ) (empty : sortedOf e ≡ nothingSorted) where
-  pub patch-refused : (n : ℕ) → AllAdded t f e e′ w′ (entriesOf numbers) (some n)
-      → Gives f (resolve (T t) (functionOf f) (patchOf free numbers) (length list) (cacheOf cache)) (R.the-variants.Refused n) list list cache cache
-  unfolding resolve
-  patch-refused n h = rw (← empty, h .is (patchOf free numbers) (length list) (cacheOf cache)) (refl, refl, refl)
+  abbrev patch : Patch
+  patch = patchOf free numbers
 
-  pub patch-resolved : (r : Resolved) (list′ cache′ : List ℕ) → AllAdded t f e e′ w′ (entriesOf numbers) none
-      → Gives f (resolveSorted (T t) (functionOf f) (patchOf free numbers) (length list) (cacheOf cache) (sortedOf e′)) r list list′ cache cache′
-      → Gives f (resolve (T t) (functionOf f) (patchOf free numbers) (length list) (cacheOf cache)) r list list′ cache cache′
-  unfolding resolve
-  patch-resolved r list′ cache′ h g = rw (← empty, h .is (patchOf free numbers) (length list) (cacheOf cache)) g
+  pub patch-refused : (n : ℕ) → AllAdded t f e e′ w′ (entriesOf numbers) (some n)
+      → Gives f (resolve (T t) (functionOf f) patch (length list) (cacheOf cache)) (R.the-variants.Refused n) list list cache cache
+  patch-refused n h =
+      let first : firstOf (entriesConditions (T t) (functionOf f) (entriesOf numbers) nothingSorted) ≡ some n = rw empty at (sym (h .is)) in
+      rw (resolve-first (T t) (functionOf f) patch (length list) (cacheOf cache), first) (refl, refl, refl)
+
+  patch-built : AllAdded t f e e′ w′ (entriesOf numbers) none → Built t f free e′ patch
+  patch-built h = record { free-is = free-is free; taken = rw empty at (sym (h .is)); is = rw empty at (h .yes refl) }
+
+  pub patch-resolved : (r : Resolved) (list′ cache′ : List ℕ) → AllAdded t f e e′ w′ (entriesOf numbers) none → Resolves t f free e′ r list list′ cache cache′
+      → Gives f (resolve (T t) (functionOf f) patch (length list) (cacheOf cache)) r list list′ cache cache′
+  patch-resolved r list′ cache′ h g = rw (resolve-built t f free e′ patch (patch-built h) (length list) (cacheOf cache)) (g patch (free-is free))

@@ -4,6 +4,7 @@ use mathlib.Core.Path.{_≡_, refl, sym, subst, _∙_}
 use mathlib.Core.Bool.{Bool, true, false}
 use mathlib.Core.List.{List, [], _++_}
 use mathlib.Core.Option.{Option, none, some}
+use mathlib.Core.Logic.{inl}
 use native.Mathlib.Omega.{arith}
 use lib.Dec.{ltb}
 use lib.ListN.{length, drop}
@@ -92,10 +93,10 @@ module _ (t f cache e w list : List ℕ) (known : Checked t f) (ok : EntriesOk t
         )
 
     limited : (p : Patch) → Same p → ByLimit (T t) (functionOf f) p (sortedOf e) (cacheOf cache) (stateOf t f cache k x)
-    limited p q = by-limit (T t) (functionOf f) 4096 p (sortedOf e) (cacheOf cache) (stateOf t f cache k x) (cached .made) (ran .is p q)
+    limited p q = by-limit (T t) (functionOf f) 4096 p (sortedOf e) (cacheOf cache) (stateOf t f cache k x) (ran .is p q)
 
     in-stacks : k .made ≤ functionOf f .limit → InStacks (functionOf f) (cacheIn k (x .slots) cache)
-    in-stacks h = run-stacks (T t) (functionOf f) (known .target) (known .function) some-patch (sortedOf e) (cacheOf cache) (stateOf t f cache k x) (ok .sorted) (cached .stacks) (limited some-patch (free-is free) .same h)
+    in-stacks h = run-stacks (T t) (functionOf f) (known .target) (known .function) some-patch (sortedOf e) (cacheOf cache) (stateOf t f cache k x) (ok .sorted) (cached .stacks) (limited some-patch (free-is free) .same (inl h))
 
     pub can-hand-over : CanHandOver f cache list k (x .edits) (x .slots)
     can-hand-over =
@@ -110,7 +111,7 @@ module _ (t f cache e w list : List ℕ) (known : Checked t f) (ok : EntriesOk t
     module _ (r : Resolved) (list′ cache′ : List ℕ) (out : HandedOver f cache list k (x .edits) (x .slots) r list′ cache′) (p : Patch) (q : Same p) where
       run-out : functionOf f .limit < k .made → Gives f (answered p) r list list′ cache cache′
       unfolding resolveSorted
-      run-out h = rw (← passed p q, limited p q .out .1 h) (out .over h)
+      run-out h = rw (← passed p q, limited p q .out .1 (omega (arith, cached .made), h)) (out .over h)
 
       run-ends : k .made ≤ functionOf f .limit → Gives f (answered p) r list list′ cache cache′
       unfolding resolveSorted
@@ -118,7 +119,7 @@ module _ (t f cache e w list : List ℕ) (known : Checked t f) (ok : EntriesOk t
           let o = out .within h in
           let len : length (editsOf (x .edits)) ≡ countOf (x .edits) = length-edits (x .edits) in
           let is : cacheOf cache′ ≡ cacheIn k (x .slots) cache = o .3 .is in
-          rw (← passed p q, limited p q .same h)
+          rw (← passed p q, limited p q .same (inl h))
           (o .0, o .1 ∙ sym len, rw (← ran .fits .written, len) (o .2), all-in-range (x .edits), is, record { fits = o .3 .fits; stacks = rw is (in-stacks h); made = rw is h })
 
       pub gives : Gives f (answered p) r list list′ cache cache′

@@ -1,12 +1,18 @@
 -- What a call answers and leaves, held against the rules' answer.
 use Prim.Native.Nat.{ℕ}
 use mathlib.Core.Path.{_≡_}
+use mathlib.Core.Bool.{Bool}
 use mathlib.Core.List.{List, _++_, map}
 use mathlib.Core.Option.{Option, none, some}
 use lib.ListN.{length, drop}
-use Rattle.rules.specs.Patch.{Answer, refused, resolved}
+use Rattle.entity.specs.Logic.{has}
+use Rattle.function.specs.Table.{functionOf}
+use Rattle.small_set.specs.Set.{setOf}
+use Rattle.rules.specs.Patch.{Patch, Answer, refused, resolved, resolveSorted}
 use Rattle.edit.specs.Word.{wordOf, AllInRange}
 use Rattle.slots.specs.Stacks.{cacheOf}
+use Rattle.scratch.specs.State.{T}
+use Rattle.entries.specs.Table.{sortedOf}
 use Rattle.parallel_moves.specs.declared.Resolved as R
 use Rattle.parallel_moves.specs.declared.Resolved.{Resolved}
 use Rattle.parallel_moves.specs.Given.{CacheOk}
@@ -27,3 +33,9 @@ abbrev pub Gives : List ℕ → Answer → Resolved → List ℕ → List ℕ �
 Gives f (refused n) r list list′ cache cache′ = (numberOf r ≡ some n) × (list′ ≡ list) × (cache′ ≡ cache)
 Gives f (resolved es c) r list list′ cache cache′ =
     (numberOf r ≡ none) × (editsIn r ≡ length es) × (list′ ≡ map wordOf es ++ drop (length es) list) × AllInRange es × (cacheOf cache′ ≡ c) × CacheOk f cache′
+
+-- of free units and of entries that became what the table e holds: the rules' answer to every patch with these free units, once its entries
+-- became that
+abbrev pub Resolves : (t f : List ℕ) → List Bool → List ℕ → Resolved → (list list′ cache cache′ : List ℕ) → Type 0
+Resolves t f free e r list list′ cache cache′ =
+    (p : Patch) → ((u : ℕ) → has u (p .free) ≡ setOf free u) → Gives f (resolveSorted (T t) (functionOf f) p (length list) (cacheOf cache) (sortedOf e)) r list list′ cache cache′

@@ -1,4 +1,4 @@
--- Demand 3 of the code: one claim about a whole list of `resolve_patch` calls.
+-- Demand 3 of the code: one claim about a whole list of calls of `resolve` and `resolve_patch`.
 use Prim.Native.Nat.{ℕ}
 use mathlib.Core.Path.{_≡_}
 use mathlib.Core.Bool.{Bool}
@@ -10,19 +10,18 @@ use Rattle.function.specs.Table.{functionOf}
 use Rattle.reginfo.specs.Table.{regInfoOf}
 use Rattle.rules.specs.Edit.{Edit}
 use Rattle.rules.specs.Scratch.{Cache, emptyCache}
-use Rattle.rules.specs.Patch.{Answer, refused, resolved, resolve, cacheAfter}
+use Rattle.rules.specs.Patch.{Patch, Answer, refused, resolved, resolve, cacheAfter}
 use Rattle.machine.specs.Claim.{Accepted}
-use Rattle.edit.specs.Word.{wordOf}
+use Rattle.edit.specs.Word.{wordOf, AllInRange}
 use Rattle.slots.specs.Stacks.{cacheOf}
 use Rattle.slots.specs.Steps.{Cleared}
 use Rattle.parallel_moves.specs.declared.Resolved.{Resolved}
-use Rattle.parallel_moves.specs.Given.{patchOf}
-use Rattle.parallel_moves.specs.Answers.{numberOf, editsIn, Gives}
+use Rattle.parallel_moves.specs.Given.{patchOf, Built, CacheOk}
+use Rattle.parallel_moves.specs.Answers.{numberOf, editsIn, Gives, Resolves}
 
--- a call that was made: what it was given beside the cache, and what it answered and left
+-- a call that was made: the patch and the list that it was given beside the cache, and what it answered and left
 pub record Made : Type 0 where
-  pub free : List Bool
-  pub numbers : List ℕ
+  pub patch : Patch
   pub list : List ℕ
   pub answer : Resolved
   pub after : List ℕ
@@ -31,19 +30,25 @@ pub record Made : Type 0 where
 module _ (t f : List ℕ) where
   -- what the rules answer
   abbrev pub ruled : Made → Cache → Answer
-  ruled x c = resolve (regInfoOf t) (functionOf f) (patchOf (x .free) (x .numbers)) (length (x .list)) c
+  ruled x c = resolve (regInfoOf t) (functionOf f) (x .patch) (length (x .list)) c
+
+  -- the call did as a contract says: that of `resolve_patch`, its patch given as numbers; that of `resolve`, its patch built of entries
+  pub data Did (x : Made) (cache : List ℕ) : Type 0 where
+    by-numbers : (free : List Bool) (numbers : List ℕ) → x .patch ≡ patchOf free numbers → Gives f (ruled x (cacheOf cache)) (x .answer) (x .list) (x .after) cache (x .cache) → Did x cache
+    by-entries : (free : List Bool) (e : List ℕ) → Built t f free e (x .patch) → Resolves t f free e (x .answer) (x .list) (x .after) cache (x .cache) → Did x cache
 
   -- "Each call gets a patch, a lent list and the cache that the last one returned or left [..] nothing else writes the cache between calls":
-  -- each call did as the contract of `resolve_patch` says
+  -- each call did as a contract says, of a cache that the contract takes
   abbrev pub Called : List Made → List ℕ → Type 0
   Called [] cache = Unit {0}
-  Called (x ∷ l) cache = Gives f (ruled x (cacheOf cache)) (x .answer) (x .list) (x .after) cache (x .cache) × Called l (x .cache)
+  Called (x ∷ l) cache = (CacheOk f cache → Did x cache) × Called l (x .cache)
 
-  -- "acceptance and edits are those of the rules, and of every accepted patch [..]"
+  -- "acceptance and edits are those of the rules, and of every accepted patch [..]": each edit has a word of its own, and the next call takes
+  -- the cache
   pub data Outcome (x : Made) (cache : List ℕ) (c : Cache) : Type 0 where
     turned : (n : ℕ) → ruled x c ≡ refused n → numberOf (x .answer) ≡ some n → x .after ≡ x .list → x .cache ≡ cache → Outcome x cache c
-    taken : (es : List Edit) (c′ : Cache) → ruled x c ≡ resolved es c′ → numberOf (x .answer) ≡ none → editsIn (x .answer) ≡ length es → x .after ≡ map wordOf es ++ drop (length es) (x .list)
-        → cacheOf (x .cache) ≡ c′ → Accepted (regInfoOf t) (functionOf f) (patchOf (x .free) (x .numbers)) es → Outcome x cache c
+    taken : (es : List Edit) (c′ : Cache) → ruled x c ≡ resolved es c′ → numberOf (x .answer) ≡ none → editsIn (x .answer) ≡ length es → x .after ≡ map wordOf es ++ drop (length es) (x .list) → AllInRange es
+        → cacheOf (x .cache) ≡ c′ → CacheOk f (x .cache) → Accepted (regInfoOf t) (functionOf f) (x .patch) es → Outcome x cache c
 
   -- call by call, from the cache c of the rules
   abbrev pub Claim : List Made → List ℕ → Cache → Type 0

@@ -1,14 +1,22 @@
--- What a call is given: free units as a set of flags, entries as numbers, and the cache that the last call left.
+-- What a call is given: free units as a set of flags, entries as numbers or as the table that they were added to, and the cache that the
+-- last call left.
 use Prim.Native.Nat.{ℕ, _+_, _≤_}
+use mathlib.Core.Path.{_≡_}
 use mathlib.Core.Bool.{Bool, true, false}
 use mathlib.Core.List.{List, [], _∷_}
+use mathlib.Core.Option.{none}
 use lib.Dec.{eqb}
-use Rattle.entity.specs.Logic.{pick}
+use Rattle.entity.specs.Logic.{pick, has}
 use Rattle.entity.specs.Place.{placeAt}
+use Rattle.reginfo.specs.Refused.{firstOf}
 use Rattle.function.specs.Table.{functionOf}
-use Rattle.rules.specs.Patch.{Entry, move, remat, Patch}
+use Rattle.small_set.specs.Set.{setOf}
+use Rattle.rules.specs.Patch.{Entry, move, remat, Patch, nothingSorted, sorted}
+use Rattle.rules.specs.Refusals.{entriesConditions}
 use Rattle.machine.specs.Slots.{InStacks}
 use Rattle.slots.specs.Stacks.{cacheOf, CacheFits}
+use Rattle.scratch.specs.State.{T}
+use Rattle.entries.specs.Table.{sortedOf}
 
 -- the units whose flag is set, rising, the first flag being that of unit u
 unfoldable pub freeFrom : ℕ → List Bool → List ℕ
@@ -38,6 +46,12 @@ entriesOf (kind ∷ x ∷ y ∷ z ∷ l) = entryOf kind x y z ∷ entriesOf l
 
 abbrev pub patchOf : List Bool → List ℕ → Patch
 patchOf free numbers = record { free = freeOf free; entries = entriesOf numbers }
+
+-- a patch built of entries: the set has its free units, none of its entries is refused, and the table holds what they became
+pub record Built (t f : List ℕ) (free : List Bool) (e : List ℕ) (p : Patch) : Type 0 where
+  pub free-is : (u : ℕ) → has u (p .free) ≡ setOf free u
+  pub taken : firstOf (entriesConditions (T t) (functionOf f) (p .entries) nothingSorted) ≡ none
+  pub is : sortedOf e ≡ sorted (T t) (functionOf f) p
 
 -- a cache that is fresh or came from a call: its stacks hold every slot made, once, and at most L were made
 pub record CacheOk (f cache : List ℕ) : Type 0 where

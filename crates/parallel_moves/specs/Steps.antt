@@ -6,10 +6,11 @@ use mathlib.Core.List.{List, _++_}
 use mathlib.Core.Option.{Option, none, some}
 use lib.ListN.{length, drop}
 use Rattle.entity.specs.Logic.{has}
+use Rattle.reginfo.specs.Refused.{firstOf}
 use Rattle.function.specs.Table.{functionOf}
 use Rattle.small_set.specs.Set.{setOf}
-use Rattle.rules.specs.Scratch.{Cache}
-use Rattle.rules.specs.Patch.{Entry, Patch, unlessRefused, resolveFrom, resolveSorted, run}
+use Rattle.rules.specs.Patch.{Entry, Patch, sortedFrom, run}
+use Rattle.rules.specs.Refusals.{entriesConditions}
 use Rattle.edit.specs.Buffer.{countOf, wordsOf}
 use Rattle.slots.specs.Stacks.{cacheOf, stacksOf, SlotsFit, Untouched}
 use Rattle.slots.specs.Steps.{Committed}
@@ -39,7 +40,8 @@ pub record HandedOver (f cache list : List ℕ) (k : ScratchAllocator) (edits sl
   pub within : k .made ≤ functionOf f .limit
       → (numberOf r ≡ none) × (editsIn r ≡ countOf edits) × (list′ ≡ wordsOf edits ++ drop (countOf edits) list) × Committed slots cache cache′ (k .made)
 
--- entries added one after the other: what is left to answer is the patch without them, or the number of the first refused
+-- entries added one after the other: the number of the first that is refused; where none is, the table holds what they became
 pub record AllAdded (t f e e′ w′ : List ℕ) (l : List Entry) (r : Option ℕ) : Type 0 where
-  pub yes : r ≡ none → EntriesOk t f e′ w′
-  pub is : (p : Patch) (room : ℕ) (c : Cache) → resolveFrom (T t) (functionOf f) p room c l (sortedOf e) ≡ unlessRefused r (resolveSorted (T t) (functionOf f) p room c (sortedOf e′))
+  pub is : r ≡ firstOf (entriesConditions (T t) (functionOf f) l (sortedOf e))
+  pub yes : r ≡ none → sortedOf e′ ≡ sortedFrom (T t) (functionOf f) l (sortedOf e)
+  pub ok : EntriesOk t f e′ w′

@@ -14,23 +14,19 @@ use slots::Slots;
 use small_set::RegUnitSet;
 use sparse::SparseMap;
 use visits::Marks;
-ghost use mathlib.Core.Path.{_≡_};
-ghost use Prim.Native.Nat.{ℕ, _+_, _≤_};
+ghost use Prim.Native.Nat.{_+_, _≤_};
 ghost use lib.ListN.{length, getD};
-ghost use Rattle.entity.specs.Logic.{has};
+ghost use Rattle.entity.specs.Logic.{Anything};
 ghost use Rattle.function.specs.Known.{Checked};
 ghost use Rattle.function.specs.Table.{functionOf};
-ghost use Rattle.small_set.specs.Set.{setOf};
 ghost use Rattle.rules.specs.Patch as rules;
-ghost use Rattle.rules.specs.Patch.{Patch, resolveSorted};
-ghost use Rattle.entries.specs.Table.{sortedOf};
 ghost use Rattle.entries.specs.Known.{EntriesOk};
 ghost use Rattle.entries.specs.Answers.{addedOf, AddedAs};
 ghost use Rattle.slots.specs.Stacks.{cacheOf};
 ghost use Rattle.scratch.specs.State.{T};
 ghost use Rattle.scratch.specs.Contracts.{tables};
 ghost use Rattle.parallel_moves.specs.Given.{entryOf, entriesOf, patchOf, CacheOk};
-ghost use Rattle.parallel_moves.specs.Answers.{Gives};
+ghost use Rattle.parallel_moves.specs.Answers.{Gives, Resolves};
 ghost use Rattle.parallel_moves.specs.Steps.{Ran, CanHandOver, HandedOver, AllAdded};
 
 // How many edits were handed out, or 01's number.
@@ -57,6 +53,7 @@ fn run(
 ) -> ScratchAllocator
     requires { ⌜ Checked (now t) (now f) × EntriesOk (now t) (now f) (now e) (now w) × CacheOk (now f) (now cache) ⌝ }
     ensures { λ r. ⌜ Ran (now (t .entry)) (now (f .entry)) (now (cache .entry)) (now (e .entry)) (now (free .entry)) r (tables (now (edits .exit)) (now (available .exit)) (now (slots .exit))) ⌝ }
+    ensures { λ _. ⌜ Anything (now (sources .exit)) × Anything (now (d .exit)) × Anything (now (marks .exit)) × Anything (now (c .exit)) ⌝ }
 {
     edit::clear(edits);
     slots::begin(slots, cache);
@@ -113,7 +110,8 @@ pub fn resolve(
     c: &mut Carried,
 ) -> Resolved
     requires { ⌜ Checked (now t) (now f) × EntriesOk (now t) (now f) (now e) (now w) × CacheOk (now f) (now cache) ⌝ }
-    ensures { λ r. ⌜ ((p : Patch) → ((u : ℕ) → has u (p .free) ≡ setOf (now (free .entry)) u) → Gives (now (f .entry)) (resolveSorted (T (now (t .entry))) (functionOf (now (f .entry))) p (length (now (list .entry))) (cacheOf (now (cache .entry))) (sortedOf (now (e .entry)))) r (now (list .entry)) (now (list .exit)) (now (cache .entry)) (now (cache .exit))) ⌝ }
+    ensures { λ r. ⌜ Resolves (now (t .entry)) (now (f .entry)) (now (free .entry)) (now (e .entry)) r (now (list .entry)) (now (list .exit)) (now (cache .entry)) (now (cache .exit)) ⌝ }
+    ensures { λ _. ⌜ Anything (now (available .exit)) × Anything (now (sources .exit)) × Anything (now (edits .exit)) × Anything (now (slots .exit)) × Anything (now (d .exit)) × Anything (now (marks .exit)) × Anything (now (c .exit)) ⌝ }
 {
     if let Added::Refused(n) = entries::refusal(t, f, e, w, free, list.len()) {
         return Resolved::Refused(n);
@@ -231,6 +229,7 @@ pub fn resolve_patch(
 ) -> Resolved
     requires { ⌜ Checked (now t) (now f) × CacheOk (now f) (now cache) ⌝ }
     ensures { λ r. ⌜ Gives (now (f .entry)) (rules.resolve (T (now (t .entry))) (functionOf (now (f .entry))) (patchOf (now (free .entry)) (now (numbers .entry))) (length (now (list .entry))) (cacheOf (now (cache .entry)))) r (now (list .entry)) (now (list .exit)) (now (cache .entry)) (now (cache .exit)) ⌝ }
+    ensures { λ _. ⌜ Anything (now (e .exit)) × Anything (now (w .exit)) × Anything (now (available .exit)) × Anything (now (sources .exit)) × Anything (now (edits .exit)) × Anything (now (slots .exit)) × Anything (now (d .exit)) × Anything (now (marks .exit)) × Anything (now (c .exit)) ⌝ }
 {
     entries::new_parallel_move(e, w);
     if let Added::Refused(n) = add_entries(t, f, e, w, numbers) {

@@ -12,6 +12,7 @@ use slots::Slots;
 use small_set::RegUnitSet;
 use sparse::SparseMap;
 use visits::Marks;
+ghost use Rattle.entity.specs.Logic.{Anything};
 ghost use Rattle.answer_text.specs.Lines.{answerText, Printed};
 ghost use Rattle.job.specs.Job.{job};
 ghost use Rattle.parallel_moves_c.specs.Answered.{AnsweredAs};
@@ -39,6 +40,7 @@ pub extern "C" fn parallel_moves_answer(
     carried: &mut Carried,
 ) -> usize
     ensures { λ r. ⌜ AnsweredAs (now (words .entry)) (job (now (bytes .entry))) r (now (refusal .exit)) (now (words .exit)) ⌝ }
+    ensures { λ _. ⌜ Anything (now (target .exit)) × Anything (now (function .exit)) × Anything (now (cache .exit)) × Anything (now (list .exit)) × Anything (now (free .exit)) × Anything (now (entries .exit)) × Anything (now (writers .exit)) × Anything (now (available .exit)) × Anything (now (sources .exit)) × Anything (now (edits .exit)) × Anything (now (slots .exit)) × Anything (now (diverted .exit)) × Anything (now (marks .exit)) × Anything (now (carried .exit)) ⌝ }
 {
     match answer::answer_job(
         bytes,
@@ -73,7 +75,7 @@ pub extern "C" fn parallel_moves_answer(
     }
 }
 
-// The text of an answer, as the program `resolve` prints it: answers its length, or 0 where `text` is too short.
+// The text of an answer, as the program `resolve` prints it: answers its length, or 0 where `text` is too short and holds the lines that fit.
 #[no_mangle]
 pub extern "C" fn parallel_moves_text(words: &[u64], refusal: u8, text: &mut [u8]) -> usize
     ensures { λ r. ⌜ Printed (now (text .entry)) (now (text .exit)) (answerText (now (words .entry)) refusal) r ⌝ }

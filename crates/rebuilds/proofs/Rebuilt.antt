@@ -17,7 +17,8 @@ use Rattle.rules.specs.Scratch as rules
 use Rattle.rules.specs.Order.{Remat, rematWithScratch}
 use Rattle.rules.specs.Sorted.{RematOk}
 use Rattle.rules.proofs.Steps.{All}
-use Rattle.machine.proofs.Bound as bound
+use Rattle.machine.specs.Paid as machine
+use Rattle.machine.proofs.Bound.{scratch-owed}
 use Rattle.edit.specs.Buffer.{countOf, editsOf, Written}
 use Rattle.search.specs.Search.{barredBy}
 use Rattle.scratch.specs.declared.ScratchAllocator.{ScratchAllocator}
@@ -60,8 +61,8 @@ module _ (t f cache : List ℕ) where
     -- five edits at most, made or owed
     five-more : (k k′ : ScratchAllocator) (w w′ : Tables) → rematWithScratch (T t) (F f) r (stateOf t f cache k w) ≡ some (stateOf t f cache k′ w′) → countOf (w′ .edits) + owed (k′ .evicted) ≤ countOf (w .edits) + owed (k .evicted) + 5
     five-more k k′ w w′ e =
-        let few : All (λ x. bound.owed x ≤ bound.owed (stateOf t f cache k w) + 5) (some (stateOf t f cache k′ w′)) =
-        subst (All (λ x. bound.owed x ≤ bound.owed (stateOf t f cache k w) + 5)) e (bound.scratch-owed (T t) (F f) (known .target) (all-placed t f known) r (same-ok t f false r ok) (stateOf t f cache k w)) in
+        let few : All (λ x. machine.owed x ≤ machine.owed (stateOf t f cache k w) + 5) (some (stateOf t f cache k′ w′)) =
+        subst (All (λ x. machine.owed x ≤ machine.owed (stateOf t f cache k w) + 5)) e (scratch-owed (T t) (F f) (known .target) (all-placed t f known) r (same-ok t f false r ok) (stateOf t f cache k w)) in
         omega (arith, few, owed-is t f cache k w, owed-is t f cache k′ w′)
 
   -- a rebuild with scratch

@@ -17,7 +17,7 @@ printed : (out out′ text : List ℕ) (n : ℕ) → Printed out out′ text n �
 printed out out′ text n p there = go (ltb (length out) (length text)) refl
   where
     go : (b : Bool) → ltb (length out) (length text) ≡ b → (n ≤ length out) × (take n out′ ≡ text)
-    go true h = absurd (there (p .short (ltb-true _ _ h)))
+    go true h = absurd (there (p .short (ltb-true _ _ h) .0))
     go false h =
         let few : length text ≤ length out = ltb-false _ _ h in
         let f = p .fits few in
@@ -28,7 +28,7 @@ module _ (s out out′ : List ℕ) (n : ℕ) (t : Told s out out′ n) where
   shown there = go (ltb 16384 (length (jobWords s))) refl
     where
       go : (b : Bool) → ltb 16384 (length (jobWords s)) ≡ b → (n ≤ length out) × (take n out′ ≡ textOf s)
-      go true h = absurd (there (t .short (ltb-true _ _ h)))
+      go true h = absurd (there (t .short (ltb-true _ _ h) .0))
       go false h = printed out out′ (textOf s) n (t .fits (ltb-false _ _ h)) there
 
 -- a record that was read lies within the lent bytes

@@ -45,8 +45,8 @@ module _ (s words words′ : List ℕ) where
   pub refused : (k n : ℕ) → Wholly words (job s) (Refused k n) words′ → Counted n k
   refused k n = counted n k (Refused k n) (one-refused k n) (λ e. let z : _≡_ {A = ℕ} 0 1 = cc in omega arith)
 
-  pub too-many : Wholly words (job s) Short words′ → length words ≡ 16384 → (out out′ : List ℕ) → Told s out out′ 0
-  too-many w l out out′ = record { fits = λ h. absurd (no-short _ (job s .refusal) (w .fits (omega arith) .0)); short = λ h. refl }
+  pub too-many : Wholly words (job s) Short words′ → length words ≡ 16384 → (out : List ℕ) → Told s out out 0
+  too-many w l out = record { fits = λ h. absurd (no-short _ (job s .refusal) (w .fits (omega arith) .0)); short = λ h. (refl, refl) }
 
   module _ (n number : ℕ) (c : Counted n number) where
     pub within : n ≤ length words′

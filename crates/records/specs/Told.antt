@@ -23,7 +23,7 @@ jobWords s = wordsOf (job s .done)
 abbrev pub textOf : List ℕ → List ℕ
 textOf s = jobText (job s)
 
--- the text is printed; or its words are too many, and 0 is answered
+-- the text is printed; or its words are too many, and 0 is answered and the bytes are as they were
 pub record Told (s out out′ : List ℕ) (r : ℕ) : Type 0 where
   pub fits : length (jobWords s) ≤ 16384 → Printed out out′ (textOf s) r
-  pub short : 16384 < length (jobWords s) → r ≡ 0
+  pub short : 16384 < length (jobWords s) → (r ≡ 0) × (out′ ≡ out)

@@ -80,7 +80,8 @@ pub fn read_record(job: &mut [u8], text: &mut [u8]) -> Record
     Record::Cut
 }
 
-// The text of a job's answer, put at the front of the lent bytes. Answers its length, or 0 where it does not fit or has more than 16,384 words.
+// The text of a job's answer, put at the front of the lent bytes. Answers its length; or 0 where it does not fit, with the lines that do, and where
+// it has more than 16,384 words, with no byte written.
 pub fn put_text(job: &[u8], out: &mut [u8]) -> usize
     ensures { λ r. ⌜ Told (now (job .entry)) (now (out .entry)) (now (out .exit)) r ⌝ }
 {

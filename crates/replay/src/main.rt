@@ -1,11 +1,12 @@
 // Answers each job of the records on standard input and holds the text of its answer against the recorded one.
 use records::Record;
 ghost use Prim.Native.Nat.{_<_};
-ghost use Rattle.replay.specs.Replayed.{Replayed};
+ghost use mathlib.Core.Path.{_≡_};
+ghost use Rattle.replay.specs.Replayed.{isReplayed};
 
-// Whether the text of the job's answer is the recorded one.
+// Whether the text of the job's answer is the recorded one, and has room.
 fn replayed(job: &[u8], text: &[u8]) -> bool
-    ensures { λ r. ⌜ Replayed (now (job .entry)) (now (text .entry)) r ⌝ }
+    ensures { λ r. ⌜ r ≡ isReplayed (now (job .entry)) (now (text .entry)) ⌝ }
 {
     let mut out = [0u8; 65536];
     let n = records::put_text(job, &mut out);

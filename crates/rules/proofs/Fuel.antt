@@ -14,9 +14,10 @@ use Rattle.function.specs.Function.{Function}
 use Rattle.rules.specs.Edit.{updated, andThen, each}
 use Rattle.rules.specs.Scratch.{unevictAll}
 use Rattle.rules.specs.Order.{KeptMove, Pending, Done, isNew, isPending, ParallelMoves, withState, source, dest, value, writers, emit, noted, divert, carried, lead, lost, undivert, undivertAll, close, visit, visitUnlessMemory, start, moves}
+use Rattle.rules.specs.Counts.{news}
 use Rattle.rules.specs.Depth.{visitUnlessMemoryWithin, movesWithin, NeverDecides}
 use Rattle.rules.proofs.Steps.{All, all-then, all-after, all-map, branch, Every, every-reverse, every-index, all-each}
-use Rattle.rules.proofs.News.{news, news-all, news-open, news-close}
+use Rattle.rules.proofs.News.{news-all, news-open, news-close}
 use Rattle.rules.proofs.Writers.{writers-low}
 
 -- the same step after the same result, and the same steps one after the other
@@ -79,7 +80,7 @@ module _ (t : RegInfo) (f : Function) (ms : List KeptMove) where
   close-fewer : (i : ℕ) (w : ParallelMoves) (c : ℕ) → Few c w → All (Few c) (close t f ms i w)
   close-fewer i w c h = all-map (Same (withState i Done w)) (Few c) (close t f ms i w) (λ w′ e. omega (arith, ap (news n) e, news-close n i (w .state))) (close-state i w)
 
-  visit-fewer : (d i : ℕ) (w : ParallelMoves) (c : ℕ) → i < n → Few c w → All (Few c) (visit t f ms d i w)
+  pub visit-fewer : (d i : ℕ) (w : ParallelMoves) (c : ℕ) → i < n → Few c w → All (Few c) (visit t f ms d i w)
   unfolding visit
   visit-fewer zero i w c il h = branch (All (Few c)) (isNew (w .state i)) _ _ (λ _. tt) (λ _. h)
   visit-fewer (suc d) i w c il h =

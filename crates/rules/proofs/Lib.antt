@@ -7,3 +7,4 @@ pub mod Trials
 pub mod Accepted
 pub mod Refusals
 pub mod Limit
+pub mod Enough

@@ -4,6 +4,7 @@ use mathlib.Core.Path.{_≡_, refl, ap, _∙_}
 use mathlib.Core.Bool.{Bool, true, false}
 use mathlib.Core.List.{List, [], _∷_, reverse}
 use mathlib.Core.Option.{Option, none, some}
+use mathlib.Core.Logic.{_⊎_, inl, inr, ⊎-elim}
 use native.Mathlib.Omega.{arith}
 use lib.Dec.{eqb, ltb}
 use lib.ListN.{length}
@@ -27,13 +28,13 @@ module _ (t : RegInfo) (f : Function) (l : ℕ) where
 
   -- o′ is o under the other limit; `made` counts the slots, n of them before
   abbrev Same : {A : Type 0} → (A → ℕ) → ℕ → Option A → Option A → Type 0
-  Same {A} made n o o′ = (x : A) → o′ ≡ some x → (n ≤ made x) × (n ≤ f .limit → made x ≤ f .limit → o ≡ some x) × (n ≤ f .limit → f .limit < made x → o ≡ none)
+  Same {A} made n o o′ = (x : A) → o′ ≡ some x → (n ≤ made x) × ((made x ≤ f .limit) ⊎ (made x ≡ n) → o ≡ some x) × (n < made x → f .limit < made x → o ≡ none)
 
   stay : {A : Type 0} (made : A → ℕ) (n : ℕ) (x : A) → made x ≡ n → Same made n (some x) (some x)
   stay made n x h y e =
       let q : x ≡ y = inside e in
       let r : made x ≡ made y = ap made q in
-      (omega arith, λ a b. ap some q, λ a b. absurd (omega arith))
+      (omega arith, λ a. ap some q, λ a b. absurd (omega arith))
 
   never : {A : Type 0} (made : A → ℕ) (n : ℕ) → Same made n none none
   never made n x e = let z : _≡_ {A = ℕ} 0 1 = cc in absurd (omega arith)
@@ -50,19 +51,25 @@ module _ (t : RegInfo) (f : Function) (l : ℕ) where
   unfolding andThen
   bind ma mb n o none next next′ h g y e = let z : _≡_ {A = ℕ} 0 1 = cc in absurd (omega arith)
   bind ma mb n o (some x) next next′ h g y e =
-      let s = h x refl in
-      let r = g x y e in
-      let up : ma x ≤ mb y = r .0 in (
-        omega (arith, s .0),
-        λ a b. rw (s .1 a (omega arith)) (r .1 (omega arith) b),
-        λ a b. out a b (ltb (f .limit) (ma x)) refl,
-      )
+      (omega (arith, s .0, r .0), ⊎-elim (λ b. on (inl (omega (arith, r .0))) (inl b)) (λ b. on (inr (omega (arith, s .0, r .0))) (inr (omega (arith, s .0, r .0)))), λ a b. out a b (ltb n (ma x)) refl (ltb (f .limit) (ma x)) refl)
     where
-      out : n ≤ f .limit → f .limit < mb y → (b : Bool) → ltb (f .limit) (ma x) ≡ b → andThen o next ≡ none
-      out a b true q = rw (h x refl .2 a (ltb-true (f .limit) (ma x) q))
-      out a b false q =
+      s : (n ≤ ma x) × ((ma x ≤ f .limit) ⊎ (ma x ≡ n) → o ≡ some x) × (n < ma x → f .limit < ma x → o ≡ none)
+      s = h x refl
+
+      r : (ma x ≤ mb y) × ((mb y ≤ f .limit) ⊎ (mb y ≡ ma x) → next x ≡ some y) × (ma x < mb y → f .limit < mb y → next x ≡ none)
+      r = g x y e
+
+      on : (ma x ≤ f .limit) ⊎ (ma x ≡ n) → (mb y ≤ f .limit) ⊎ (mb y ≡ ma x) → andThen o next ≡ some y
+      on a b = rw (s .1 a) (r .1 b)
+
+      out : n < mb y → f .limit < mb y → (b : Bool) → ltb n (ma x) ≡ b → (d : Bool) → ltb (f .limit) (ma x) ≡ d → andThen o next ≡ none
+      out a b true p true q = rw (s .2 (ltb-true n (ma x) p) (ltb-true (f .limit) (ma x) q))
+      out a b true p false q =
           let w : ma x ≤ f .limit = ltb-false (f .limit) (ma x) q in
-          rw (h x refl .1 a w) (g x y e .2 w b)
+          rw (s .1 (inl w)) (r .2 (omega arith) b)
+      out a b false p d q =
+          let w : ma x ≤ n = ltb-false n (ma x) p in
+          rw (s .1 (inr (omega (arith, s .0)))) (r .2 (omega arith) b)
 
   each-same : {A B : Type 0} (made : A → ℕ) (step step′ : B → A → Option A) → ((x : B) (a : A) → Same made (made a) (step x a) (step′ x a))
       → (xs : List B) (a : A) → Same made (made a) (each step xs a) (each step′ xs a)
@@ -91,11 +98,11 @@ module _ (t : RegInfo) (f : Function) (l : ℕ) where
       go true p true q x e =
           let w : c .made < f .limit = ltb-true _ _ p in
           let r : c .made + 1 ≡ x .cache .made = ap ofCache (inside e) in
-          (omega arith, λ a b. e, λ a b. absurd (omega arith))
+          (omega arith, λ a. e, λ a b. absurd (omega arith))
       go false p true q x e =
           let w : f .limit ≤ c .made = ltb-false _ _ p in
           let r : c .made + 1 ≡ x .cache .made = ap ofCache (inside e) in
-          (omega arith, λ a b. absurd (omega arith), λ a b. refl)
+          (omega arith, ⊎-elim (λ a. absurd (omega arith)) (λ a. absurd (omega arith)), λ a b. refl)
 
   unevict-made : (es : List Evicted) (k : ScratchAllocator) → ofKeeper (unevict t f es k) ≡ ofKeeper k
   unfolding unevict
@@ -224,16 +231,19 @@ module _ (t : RegInfo) (f : Function) (l : ℕ) where
       (from ofKeeper (ofKeeper (remats t f (a .remats) k)) (c .made) _ _ (remats-made (a .remats) k) (each-same ofKeeper (rematWithScratch t f) (rematWithScratch t f′) remat-same (a .rematsWithScratch) (remats t f (a .remats) k)))
       (moves-same (a .moves))
 
-  pub by-limit : (p : Patch) (a : Sorted) (c : Cache) (k : ScratchAllocator) → c .made ≤ f .limit → run t (withLimit t f l) p a c ≡ some k → ByLimit t f p a c k
-  by-limit p a c k few e =
-      let s = run-same p a c k e in
-      record { out = (λ q. over q (ltb (f .limit) (k .cache .made)) refl, s .2 few); same = s .1 few }
+  pub by-limit : (p : Patch) (a : Sorted) (c : Cache) (k : ScratchAllocator) → run t (withLimit t f l) p a c ≡ some k → ByLimit t f p a c k
+  by-limit p a c k e = record { out = (λ q. over q (ltb (c .made) (k .cache .made)) refl (ltb (f .limit) (k .cache .made)) refl, λ h. s .2 (h .0) (h .1)); same = s .1 }
     where
-      over : run t f p a c ≡ none → (b : Bool) → ltb (f .limit) (k .cache .made) ≡ b → f .limit < k .cache .made
-      over q true h = ltb-true _ _ h
-      over q false h =
-          let is : run t f p a c ≡ some k = run-same p a c k e .1 few (ltb-false _ _ h) in
-          let z : _≡_ {A = ℕ} 0 1 = cc in absurd (omega arith)
+      s : (c .made ≤ k .cache .made) × ((k .cache .made ≤ f .limit) ⊎ (k .cache .made ≡ c .made) → run t f p a c ≡ some k) × (c .made < k .cache .made → f .limit < k .cache .made → run t f p a c ≡ none)
+      s = run-same p a c k e
+
+      not-both : {A : Type 0} → run t f p a c ≡ none → run t f p a c ≡ some k → A
+      not-both q is = let z : _≡_ {A = ℕ} 0 1 = cc in absurd (omega arith)
+
+      over : run t f p a c ≡ none → (b : Bool) → ltb (c .made) (k .cache .made) ≡ b → (d : Bool) → ltb (f .limit) (k .cache .made) ≡ d → (c .made < k .cache .made) × (f .limit < k .cache .made)
+      over q true h true g = (ltb-true _ _ h, ltb-true _ _ g)
+      over q true h false g = not-both q (s .1 (inl (ltb-false _ _ g)))
+      over q false h d g = let w : k .cache .made ≤ c .made = ltb-false _ _ h in not-both q (s .1 (inr (omega (arith, s .0))))
 
 -- a run that ends makes no fewer slots and at most L
 pub made-within : (t : RegInfo) (f : Function) (p : Patch) (a : Sorted) (c : Cache) (k : ScratchAllocator) → c .made ≤ f .limit → run t f p a c ≡ some k
@@ -242,6 +252,7 @@ made-within t f p a c k few e = (run-same t f (f .limit) p a c k e .0, go (ltb (
   where
     go : (b : Bool) → ltb (f .limit) (k .cache .made) ≡ b → k .cache .made ≤ f .limit
     go true h =
-        let is : run t f p a c ≡ none = run-same t f (f .limit) p a c k e .2 few (ltb-true _ _ h) in
+        let w : f .limit < k .cache .made = ltb-true _ _ h in
+        let is : run t f p a c ≡ none = run-same t f (f .limit) p a c k e .2 (omega arith) w in
         let z : _≡_ {A = ℕ} 0 1 = cc in absurd (omega arith)
     go false h = ltb-false _ _ h

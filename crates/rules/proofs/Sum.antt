@@ -1,15 +1,11 @@
--- Sums over the first n numbers, and tests as numbers.
+-- Laws of sums over the first n numbers and of tests as numbers.
 use Prim.Native.Nat.{ℕ, zero, suc, _+_, _<_, _≤_}
 use mathlib.Core.Path.{_≡_, refl, subst}
 use mathlib.Core.Bool.{Bool, true, false}
 use mathlib.Core.Logic.{⊎-elim}
 use native.Mathlib.Omega.{arith}
+use Rattle.rules.specs.Counts.{bit, sum}
 use Rattle.rules.proofs.Steps.{same?}
-
--- 1 where a test is passed
-unfoldable pub bit : Bool → ℕ
-bit true = 1
-bit false = 0
 
 pub bit-yes : (b : Bool) → b ≡ true → bit b ≡ 1
 unfolding bit
@@ -20,10 +16,6 @@ pub bit-le : (a b : Bool) → (a ≡ true → b ≡ true) → bit a ≤ bit b
 unfolding bit
 bit-le true b h = omega (arith, bit-yes b (h refl))
 bit-le false b h = omega arith
-
-unfoldable pub sum : (ℕ → ℕ) → ℕ → ℕ
-sum f zero = 0
-sum f (suc n) = f n + sum f n
 
 sum-below : (f g : ℕ → ℕ) (n v : ℕ) → n ≤ v → ((k : ℕ) → (k ≡ v → ⊥) → f k ≡ g k) → sum f n ≡ sum g n
 unfolding sum

@@ -8,10 +8,10 @@ use Rattle.rules.specs.Edit.{updated, andThen, each, find, filter}
 use Rattle.rules.specs.Scratch.{acquireFrom, unevict, unevictForReg, slotScratch, evictLast, reuse, orScratch, getScratchReg, moveEdits, doMove}
 use Rattle.rules.specs.Order.{carryOne, carry, remats, rematWithScratch, writerFrom, writersOf, writers, cycleMoveSources, divert, lead, undivert, undivertAll, close, visit, visitUnlessMemory, start, moves}
 use Rattle.rules.specs.Patch.{destinations, add, entryConditions, patchConditions, run, resolveSorted, resolveFrom, resolve}
-use Rattle.rules.specs.Trials.{three, chained, five, six, halves, between, Trials, ToldApart}
+use Rattle.rules.specs.Trials.{three, chained, five, six, halves, between, sizes, slotsAlone, memory, eight, Trials, ToldApart}
 
 both : Trials × ToldApart
-unfolding any all has meets lastOr indices spillslotSize topLevelClass stackToStackClass regMemory bankForReg regUnits bankForClass classSlots classMembers allocationOrder firstOf valueBank rematCost rematClass updated andThen each find filter acquireFrom unevict unevictForReg slotScratch evictLast reuse orScratch getScratchReg moveEdits doMove carryOne carry remats rematWithScratch writerFrom writersOf writers cycleMoveSources divert lead undivert undivertAll close visit visitUnlessMemory start moves destinations add entryConditions patchConditions run resolveSorted resolveFrom resolve three chained five six halves between orderTotal countsFit bankFits regFits classFits outsideLimits listedTwice unequalWidths foreignMember sharedMemory unfitClass targetRefusal twice
+unfolding any all has meets lastOr indices spillslotSize topLevelClass stackToStackClass regMemory bankForReg regUnits bankForClass classSlots classMembers allocationOrder firstOf valueBank rematCost rematClass updated andThen each find filter acquireFrom unevict unevictForReg slotScratch evictLast reuse orScratch getScratchReg moveEdits doMove carryOne carry remats rematWithScratch writerFrom writersOf writers cycleMoveSources divert lead undivert undivertAll close visit visitUnlessMemory start moves destinations add entryConditions patchConditions run resolveSorted resolveFrom resolve three chained five six halves between sizes slotsAlone memory eight orderTotal countsFit bankFits regFits classFits outsideLimits listedTwice unequalWidths foreignMember sharedMemory unfitClass targetRefusal twice
 both = (
   record {
     swap-full = (refl, refl, refl);
@@ -23,10 +23,10 @@ both = (
     no-entries = (refl, refl, refl);
     twice = (refl, refl, refl);
     no-slot = refl;
-    no-slot-cache = refl;
+    no-slot-cache = (refl, refl);
   },
   record {
-    targets = (refl, refl, refl, refl, refl, refl);
+    targets = (refl, refl, refl, refl, refl, refl, refl, refl, refl, refl);
     closed-first = (refl, refl, refl);
     sources-spared = (refl, refl, refl);
     scratch-on-evicted = (refl, refl, refl);
@@ -37,6 +37,20 @@ both = (
     source-last = (refl, refl, refl);
     source-brought-back = (refl, refl, refl);
     stack-first = (refl, refl, refl);
+    first-usable = (refl, refl, refl);
+    rebuilds-backwards = (refl, refl, refl);
+    let-go-as-received = (refl, refl, refl);
+    brought-back-first = (refl, refl, refl);
+    slot-of-its-bank = (refl, refl, refl);
+    rebuilt-available = (refl, refl, refl);
+    rebuilt-by-scratch-available = (refl, refl, refl);
+    memory-rebuilt = (refl, refl, refl);
+    writer-counted-once = (refl, refl, refl);
+    received-once = (refl, refl, refl);
+    fan-out = (refl, refl, refl);
+    fan-out-repeated = (refl, refl, refl);
+    sources-differ = refl;
+    values-differ = refl;
   },
 )
 

@@ -1,6 +1,7 @@
 pub mod Edit
 pub mod Scratch
 pub mod Order
+pub mod Counts
 pub mod Depth
 pub mod Patch
 pub mod Sorted

@@ -172,7 +172,7 @@ module _ (t : RegInfo) (f : Function) where
     close i w = andThen (lead i (withState i Done w)) (λ w′. undivertAll i (w′ .diverted .values i) w′)
 
     -- "In depth, a move visits the unvisited writers of its source units, last unit first, and each writer is a move again." The first
-    -- number bounds the depth; Depth says that it never decides, and proofs/Fuel shows it.
+    -- number bounds the depth: that it never decides is `NeverDecides` of Depth and `OnlyBySlots` of Refusals.
     unfoldable pub visit : ℕ → ℕ → ParallelMoves → Option ParallelMoves
     visit zero i w = pick (isNew (w .state i)) none (some w)
     visit (suc n) i w = pick (isNew (w .state i)) (andThen (each (visit n) (reverse (writers i)) (withState i Pending w)) (close i)) (some w)

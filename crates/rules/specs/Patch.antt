@@ -159,7 +159,3 @@ module _ (t : RegInfo) (f : Function) where
   -- `resolve` of one patch: `room` is the length of the lent list
   unfoldable pub resolve : Patch → ℕ → Cache → Answer
   resolve p room c = resolveFrom p room c (p .entries) nothingSorted
-
-  unfoldable pub resolveAll : List Call → Cache → List Answer
-  resolveAll [] c = []
-  resolveAll (x ∷ l) c = resolve (x .patch) (x .room) c ∷ resolveAll l (cacheAfter c (resolve (x .patch) (x .room) c))

@@ -4,7 +4,7 @@ use mathlib.Core.Path.{_≡_}
 use mathlib.Core.Bool.{Bool, true, false}
 use mathlib.Core.List.{List, [], _∷_, _++_}
 use mathlib.Core.Option.{Option, none, some}
-use mathlib.Core.Logic.{_↔_}
+use mathlib.Core.Logic.{_↔_, _⊎_}
 use Rattle.reginfo.specs.RegInfo.{RegInfo}
 use Rattle.reginfo.specs.Refused.{Condition, cond}
 use Rattle.reginfo.specs.Given.{Given, NoneHolds}
@@ -44,7 +44,16 @@ module _ (t : RegInfo) (f : Function) where
   abbrev pub withLimit : ℕ → Function
   withLimit l = record { values = f .values; slots = f .slots; limit = l }
 
-  -- k is where the run of a patch ends under another L: the run is out of slots exactly where k made more than L, and else ends there too
+  -- k is where the run of a patch ends with slots enough: under every L from some one on
+  abbrev pub EndsWithSlots : Patch → Sorted → Cache → ScratchAllocator → Type 0
+  EndsWithSlots p a c k = (l : ℕ) × ((l′ : ℕ) → l ≤ l′ → run t (withLimit l′) p a c ≡ some k)
+
+  -- the run is out of slots exactly where k made some and made more than L, and else ends in k
   pub record ByLimit (p : Patch) (a : Sorted) (c : Cache) (k : ScratchAllocator) : Type 0 where
-    pub out : (run t f p a c ≡ none) ↔ (f .limit < k .cache .made)
-    pub same : k .cache .made ≤ f .limit → run t f p a c ≡ some k
+    pub out : (run t f p a c ≡ none) ↔ ((c .made < k .cache .made) × (f .limit < k .cache .made))
+    pub same : (k .cache .made ≤ f .limit) ⊎ (k .cache .made ≡ c .made) → run t f p a c ≡ some k
+
+  -- every run ends with slots enough, whatever the moves; so it is out of slots, and 17 is given, exactly where more than L are wanted, and
+  -- for no other reason
+  abbrev pub OnlyBySlots : Type 0
+  OnlyBySlots = (p : Patch) (a : Sorted) (c : Cache) → (k : ScratchAllocator) × EndsWithSlots p a c k × ByLimit p a c k

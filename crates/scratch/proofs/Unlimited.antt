@@ -8,7 +8,7 @@ use Rattle.function.specs.Function.{valueBank, rematClass, rematCost}
 use Rattle.function.specs.Known.{Checked}
 use Rattle.function.specs.Table.{functionOf}
 use Rattle.machine.proofs.Bound.{Placed, placed}
-use Rattle.machine.proofs.Bound as bound
+use Rattle.machine.specs.Paid as machine
 use Rattle.edit.specs.Buffer.{countOf}
 use Rattle.edit.proofs.Laws.{length-edits}
 use Rattle.scratch.specs.declared.Evicted.{Evicted}
@@ -33,5 +33,5 @@ length-evicted : (v : Evicted) → length (evictedOf v) ≡ owed v
 length-evicted Nothing = refl
 length-evicted (Held r s z) = refl
 
-pub owed-is : (t f cache : List ℕ) (k : ScratchAllocator) (w : Tables) → bound.owed (stateOf t f cache k w) ≡ countOf (w .edits) + owed (k .evicted)
+pub owed-is : (t f cache : List ℕ) (k : ScratchAllocator) (w : Tables) → machine.owed (stateOf t f cache k w) ≡ countOf (w .edits) + owed (k .evicted)
 owed-is t f cache k w = omega (arith, length-edits (w .edits), length-evicted (k .evicted))

@@ -211,9 +211,9 @@ keys-same t u zero p = refl
 keys-same t u (suc n) p = rw (p n (lt-suc-self n), keys-same t u n (λ j l. p j (omega arith)))
 
 -- ---- the map emptied
-emptied : (u : List ℕ) → countOf u ≡ 0 → Emptied u
+emptied : (t u : List ℕ) → countOf u ≡ 0 → u ≡ set t 6656 0 → Emptied t u
 unfolding mapOf mapFrom emptyMap keysOf keysFrom
-emptied u e = record { map = rw e; keys = rw e; linked = record { few = omega arith; back = λ j h. absurd (omega arith) } }
+emptied t u e s = record { map = rw e; keys = rw e; linked = record { few = omega arith; back = λ j h. absurd (omega arith) }; rest = s }
 
 -- ---- a value stored where the key stands
 record Over (t u : List ℕ) (i v : ℕ) : Type 0 where
@@ -280,8 +280,8 @@ module _ (t u : List ℕ) (k v : ℕ) (o : Push t u k v) (ok : Linked t) (new : 
 
 -- ---- the stores of the code
 module _ (t : List ℕ) (long : length t ≡ 6657) where
-  pub forgotten : Emptied (set t 6656 0)
-  forgotten = emptied (set t 6656 0) (getD-set-same t 6656 0 0 (omega arith))
+  pub forgotten : Emptied t (set t 6656 0)
+  forgotten = emptied t (set t 6656 0) (getD-set-same t 6656 0 0 (omega arith)) refl
 
   stored-over : (i v : ℕ) → i < 1024 → Over t (set t (4609 + i * 2) v) i v
   stored-over i v h = record {

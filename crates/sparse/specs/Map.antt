@@ -6,7 +6,7 @@ use mathlib.Core.Path.{_≡_}
 use mathlib.Core.Bool.{Bool, true, false}
 use mathlib.Core.List.{List, [], _∷_, _++_}
 use mathlib.Core.Option.{Option, none, some}
-use lib.ListN.{getD}
+use lib.ListN.{getD, set}
 use lib.Dec.{eqb}
 use Rattle.entity.specs.Logic.{pick}
 use Rattle.sparse.specs.declared.Found.{Found}
@@ -70,11 +70,12 @@ pub record Placed (t : List ℕ) (k i : ℕ) : Type 0 where
   pub here : i < countOf t → keyAt t i ≡ k
   pub gone : countOf t ≤ i → Absent t k
 
--- a map with nothing in it
-pub record Emptied (t : List ℕ) : Type 0 where
-  pub map : mapOf t ≡ emptyMap
-  pub keys : keysOf t ≡ []
-  pub linked : Linked t
+-- every key forgotten: a map with nothing in it, whatever the table held; of the table only the count is written
+pub record Emptied (t u : List ℕ) : Type 0 where
+  pub map : mapOf u ≡ emptyMap
+  pub keys : keysOf u ≡ []
+  pub linked : Linked u
+  pub rest : u ≡ set t 6656 0
 
 -- k put in at v
 pub record Inserted (t u : List ℕ) (k v : ℕ) : Type 0 where

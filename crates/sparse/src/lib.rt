@@ -24,7 +24,7 @@ fn told(t: [u16; 6657]) -> bool
 
 // Forgets every key. The rest of the table stays as it is.
 pub fn clear(t: &mut SparseMap)
-    ensures { λ _. ⌜ Emptied (now (t .exit)) ⌝ }
+    ensures { λ _. ⌜ Emptied (now (t .entry)) (now (t .exit)) ⌝ }
 {
     told(*t);
     t[6656] = 0;

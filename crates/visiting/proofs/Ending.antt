@@ -12,7 +12,9 @@ use Rattle.rules.specs.Scratch as rules
 use Rattle.rules.specs.Scratch.{unevictAll, withEvicted}
 use Rattle.rules.specs.Order.{ParallelMoves, State, New, noMove, start, moves}
 use Rattle.rules.proofs.Steps.{All, every-index, all-each}
-use Rattle.rules.proofs.Sum.{bit, bit-le, sum-le, sum-ones}
+use Rattle.rules.specs.Counts.{bit}
+use Rattle.rules.proofs.Sum.{bit-le, sum-le, sum-ones}
+use Rattle.machine.specs.Paid.{owed}
 use Rattle.machine.proofs.Bound as bound
 use Rattle.carried.specs.Carried as rows
 use Rattle.scratch.specs.declared.Evicted.{Evicted}
@@ -69,7 +71,7 @@ module _ (t f cache e : List ℕ) (ok : MovesOk t f e) (k : ScratchAllocator) (w
     start-paid : PaidFor t f cache e 1024 p₀
     start-paid =
         let q = bound.start-paid (T t) (F f) (ok .checked .target) (all-placed t f (ok .checked)) (movesOf e) (ok .named) (stateOf t f cache k (w .tables)) in
-        paid-more t f cache e (bound.owed (stateOf t f cache k (w .tables)) + 8 * n) 1024 p₀ (omega (arith, room .few, owed-is t f cache k (w .tables))) q
+        paid-more t f cache e (owed (stateOf t f cache k (w .tables)) + 8 * n) 1024 p₀ (omega (arith, room .few, owed-is t f cache k (w .tables))) q
 
     pub start-visits : Visits t f cache e p₀ k w
     start-visits = record { stands = start-stands; paid = start-paid }

@@ -8,7 +8,8 @@ use lib.ListN.{length}
 use Rattle.entity.specs.Logic.{no}
 use Rattle.rules.specs.Edit.{updated}
 use Rattle.rules.specs.Order.{State, New, Pending, Done, ParallelMoves, isNew, withState}
-use Rattle.rules.proofs.News.{news, news-open}
+use Rattle.rules.specs.Counts.{news}
+use Rattle.rules.proofs.News.{news-open}
 use Rattle.rules.proofs.Steps.{updated-at}
 use Rattle.rules.proofs.Sum.{bit-le, sum-le}
 use Rattle.machine.proofs.Bound.{opened}

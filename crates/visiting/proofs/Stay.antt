@@ -5,7 +5,8 @@ use mathlib.Core.Bool.{Bool, true, false, false≢true}
 use mathlib.Core.List.{List}
 use Rattle.rules.specs.Edit.{updated}
 use Rattle.rules.specs.Order.{State, Pending, Done, isNew}
-use Rattle.rules.proofs.News.{news, news-fewer, news-open}
+use Rattle.rules.specs.Counts.{news}
+use Rattle.rules.proofs.News.{news-fewer, news-open}
 use Rattle.rules.proofs.Steps.{updated-same, updated-other}
 use Rattle.visits.specs.Marks.{statesOf}
 use Rattle.visiting.specs.Steps.{VisitedStay}

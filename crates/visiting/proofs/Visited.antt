@@ -8,7 +8,7 @@ use native.Mathlib.Omega.{arith}
 use lib.ListN.{length}
 use Rattle.rules.specs.Edit.{updated, andThen, each}
 use Rattle.rules.specs.Order.{State, Pending, Done, ParallelMoves, isNew, withState, writers, close, visit}
-use Rattle.rules.proofs.News.{news}
+use Rattle.rules.specs.Counts.{news}
 use Rattle.rules.proofs.Steps.{All, every-reverse, all-each}
 use Rattle.rules.proofs.Writers.{writers-low}
 use Rattle.machine.proofs.Bound.{visit-paid}

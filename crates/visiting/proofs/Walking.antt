@@ -10,7 +10,7 @@ use Rattle.entity.specs.Place.{Place}
 use Rattle.reginfo.specs.RegInfo.{placeUnits}
 use Rattle.rules.specs.Edit.{andThen, each}
 use Rattle.rules.specs.Order.{ParallelMoves, isNew, noMove, writerFrom, writersOf}
-use Rattle.rules.proofs.News.{news}
+use Rattle.rules.specs.Counts.{news}
 use Rattle.rules.proofs.Steps.{All, all-map}
 use Rattle.rules.proofs.Writers.{writer-low}
 use Rattle.scratch.specs.declared.ScratchAllocator.{ScratchAllocator}

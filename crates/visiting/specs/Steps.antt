@@ -6,7 +6,7 @@ use mathlib.Core.List.{List}
 use mathlib.Core.Option.{Option, some}
 use lib.ListN.{length}
 use Rattle.rules.specs.Order.{ParallelMoves, isNew, moves}
-use Rattle.rules.proofs.News.{news}
+use Rattle.rules.specs.Counts.{news}
 use Rattle.scratch.specs.declared.ScratchAllocator.{ScratchAllocator}
 use Rattle.scratch.specs.declared.Evicted.the-variants.{Nothing}
 use Rattle.scratch.specs.State.{T, F}

@@ -17,7 +17,7 @@ ghost use mathlib.Core.Bool.{true};
 ghost use mathlib.Core.List.{reverse};
 ghost use Prim.Native.Nat.{_*_, _<_};
 ghost use lib.ListN.{length};
-ghost use Rattle.entity.specs.Logic.{indices};
+ghost use Rattle.entity.specs.Logic.{indices, Anything};
 ghost use Rattle.rules.specs.Edit.{each};
 ghost use Rattle.rules.specs.Order.{ParallelMoves, isNew, writers, visit, visitUnlessMemory};
 ghost use Rattle.scratch.specs.State.{T, F, Fits};
@@ -286,6 +286,7 @@ pub fn moves(
 ) -> ScratchAllocator
     requires { ⌜ Given (now t) (now f) (now e) (now w) × Fits 0 2 (8 * length (movesOf (now e))) (now t) k (now edits) (now slots) (now cache) ⌝ }
     ensures { λ r. ⌜ Moves (now (t .entry)) (now (f .entry)) (now (cache .entry)) (now (e .entry)) k (tables (now (edits .entry)) (now (available .entry)) (now (slots .entry))) r (tables (now (edits .exit)) (now (available .exit)) (now (slots .exit))) ⌝ }
+    ensures { λ _. ⌜ Anything (now (sources .exit)) × Anything (now (d .exit)) × Anything (now (marks .exit)) × Anything (now (c .exit)) ⌝ }
 {
     visits::start(e, d, marks);
     carried::clear(c);

@@ -1,19 +1,19 @@
 -- Laws of the marks: a state read, a state stored, no state; and of counts set to 0.
-use Prim.Native.Nat.{ℕ, _+_, _<_}
+use Prim.Native.Nat.{ℕ, _+_, _<_, _≤_}
 use mathlib.Core.Path.{_≡_, refl, sym, ap, _∙_, fun-ext}
 use mathlib.Core.Bool.{Bool, true, false}
 use mathlib.Core.List.{List}
 use native.Mathlib.Omega.{arith}
 use lib.Dec.{eqb, ltb}
-use lib.ListN.{getD, length, set, replicate, getD-replicate}
+use lib.ListN.{getD, length, drop, set, replicate, getD-replicate, drop-of-length-le}
 use lib.Seq.{getD-set-same, getD-set-other}
 use borrow.Author.Tests.{eqb-true, eqb-false, lt-ltb, ltb-true}
 use Rattle.entity.specs.Logic.{pick}
-use Rattle.entity.proofs.Laws.{getD-built, length-built}
+use Rattle.entity.proofs.Laws.{drop-step, getD-built, length-built}
 use Rattle.rules.specs.Edit.{updated}
-use Rattle.rules.specs.Order.{New, Pending, Done, isNew, isPending}
+use Rattle.rules.specs.Order.{KeptMove, noMove, New, Pending, Done, isNew, isPending}
 use Rattle.entries.specs.Table.{rematAt, sortedOf}
-use Rattle.visits.specs.Marks.{rematsOf, noRebuild, stateAt, statesOf, allNew, isNoted}
+use Rattle.visits.specs.Marks.{rematsOf, noRebuild, uncounted, stateAt, statesOf, allNew, isNoted}
 
 -- a rebuild without scratch
 pub remat-is : (e : List ℕ) (i : ℕ) → i < length (rematsOf e) → getD (rematsOf e) i noRebuild ≡ rematAt 512 e i
@@ -71,6 +71,16 @@ nothing-marked = (fun-ext (λ k. go k (ltb k 128) refl), refl)
     go : (k : ℕ) (b : Bool) → ltb k 128 ≡ b → pick b (stateAt (getD (replicate 129 0) k 0)) New ≡ New
     go k true q = rw (getD-replicate {A = ℕ} 129 k 0 0 (omega (arith, ltb-true k 128 q)))
     go k false q = refl
+
+-- one move more is gone through
+pub uncounted-step : (ms : List KeptMove) (d : List ℕ) (i at : ℕ) → i < length ms → at ≡ getD ms i noMove .value
+    → uncounted (drop i ms) d ≡ uncounted (drop (i + 1) ms) (set d at 0)
+unfolding uncounted
+uncounted-step ms d i at h e = rw (drop-step ms i noMove h, e) refl
+
+pub uncounted-end : (ms : List KeptMove) (d : List ℕ) (i : ℕ) → length ms ≤ i → uncounted (drop i ms) d ≡ d
+unfolding uncounted
+uncounted-end ms d i h = rw (drop-of-length-le ms {i = i} h) refl
 
 -- one cell more is 0
 pub zeros-step : (d : List ℕ) (at i : ℕ) (g : ℕ → ℕ) → at ≡ g i → at < length d → ((k : ℕ) → k < i → getD d (g k) 0 ≡ 0) → (k : ℕ) → k < i + 1 → getD (set d at 0) (g k) 0 ≡ 0

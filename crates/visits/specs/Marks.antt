@@ -2,9 +2,9 @@
 -- cell 128 is 1 once the sources of the kept moves are noted.
 use Prim.Native.Nat.{ℕ, _<_, _≤_}
 use mathlib.Core.Bool.{Bool, true, false}
-use mathlib.Core.List.{List}
+use mathlib.Core.List.{List, [], _∷_}
 use lib.Dec.{eqb, ltb}
-use lib.ListN.{length, getD}
+use lib.ListN.{length, getD, set}
 use Rattle.entity.specs.Logic.{pick}
 use Rattle.entity.specs.Place.{slot}
 use Rattle.rules.specs.Order.{KeptMove, Remat, noMove, State, New, Pending, Done}
@@ -26,6 +26,11 @@ noRebuild = record { dest = slot 0; value = 0 }
 pub record Small (ms : List KeptMove) : Type 0 where
   pub few : length ms ≤ 128
   pub values : (i : ℕ) → i < length ms → getD ms i noMove .value < 4096
+
+-- the counts of the moves' values are 0, every other cell is as it was
+unfoldable pub uncounted : List KeptMove → List ℕ → List ℕ
+uncounted [] d = d
+uncounted (m ∷ ms) d = uncounted ms (set d (m .value) 0)
 
 unfoldable pub stateAt : ℕ → State
 stateAt b = pick (eqb b 0) New (pick (eqb b 1) Pending Done)

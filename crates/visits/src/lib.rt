@@ -12,7 +12,7 @@ use sparse::SparseMap;
 ghost use mathlib.Core.Path.{_≡_};
 ghost use mathlib.Core.Bool.{true, false};
 ghost use Prim.Native.Nat.{ℕ, _+_, _<_, _≤_};
-ghost use lib.ListN.{length, getD};
+ghost use lib.ListN.{length, getD, replicate};
 ghost use Rattle.entity.specs.Logic.{or, any};
 ghost use Rattle.entity.specs.Place.{placeAt};
 ghost use Rattle.reginfo.specs.RegInfo.{isMemory};
@@ -23,7 +23,7 @@ ghost use Rattle.rules.specs.Order.{noMove, Pending, Done, isNew, isPending, ca
 ghost use Rattle.sparse.specs.Map.{Linked};
 ghost use Rattle.small_set.specs.Set.{setOf};
 ghost use Rattle.carried.specs.Carried.{countOf};
-ghost use Rattle.visits.specs.Marks.{movesOf, rematsOf, rematsWithScratchOf, noRebuild, Small, statesOf, allNew, isNoted};
+ghost use Rattle.visits.specs.Marks.{movesOf, rematsOf, rematsWithScratchOf, noRebuild, Small, uncounted, statesOf, allNew, isNoted};
 ghost use Rattle.visits.specs.Writers.{writerIs, keptWriter, isOpen, KeptOk, Ready};
 ghost use Rattle.visits.specs.Carry.{carryFor, CarriedAs};
 
@@ -276,10 +276,10 @@ pub fn note_sources(t: &RegInfo, e: &Entries, sources: &mut RegUnitSet)
     }
 }
 
-// No move is visited, no source noted, and no value of a kept move carried. What the tables held does not matter.
+// No move is visited, no source noted, and no value of a kept move carried, whatever the tables held. The other cells of d stay as they are.
 pub fn start(e: &Entries, d: &mut Diverted, marks: &mut Marks)
     requires { ⌜ Small (movesOf (now e)) ⌝ }
-    ensures { λ _. ⌜ (statesOf (now (marks .exit)) ≡ allNew) × (isNoted (now (marks .exit)) ≡ false) × ((i : ℕ) → i < length (movesOf (now (e .entry))) → getD (now (d .exit)) (getD (movesOf (now (e .entry))) i noMove .value) 0 ≡ 0) ⌝ }
+    ensures { λ _. ⌜ (statesOf (now (marks .exit)) ≡ allNew) × (isNoted (now (marks .exit)) ≡ false) × ((i : ℕ) → i < length (movesOf (now (e .entry))) → getD (now (d .exit)) (getD (movesOf (now (e .entry))) i noMove .value) 0 ≡ 0) × (now (marks .exit) ≡ replicate 129 0) × (now (d .exit) ≡ uncounted (movesOf (now (e .entry))) (now (d .entry))) ⌝ }
 {
     told_diverted(*d);
     *marks = [0; 129];

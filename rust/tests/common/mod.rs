@@ -10,6 +10,28 @@ use std::process::Command;
 
 use parallel_moves::{Answer, Resolver};
 
+pub mod machine;
+
+/// The bytes of a job's numbers.
+pub fn encoded(numbers: impl IntoIterator<Item = u32>) -> Vec<u8> {
+    let mut job = Vec::new();
+    for mut number in numbers {
+        while number >= 128 {
+            job.push((number % 128) as u8 + 128);
+            number /= 128;
+        }
+        job.push(number as u8);
+    }
+    job
+}
+
+/// The numbers of a text, in base ten.
+pub fn numbers(text: &str) -> Vec<u32> {
+    text.split_whitespace()
+        .map(|word| word.parse().unwrap())
+        .collect()
+}
+
 /// The repository's root.
 pub fn root() -> &'static Path {
     let here = Path::new(env!("CARGO_MANIFEST_DIR"));
@@ -29,6 +51,44 @@ pub fn jobs(folder: &str) -> Vec<(String, Vec<u8>)> {
     assert!(!jobs.is_empty(), "{folder} has no jobs");
     jobs.sort();
     jobs
+}
+
+/// Swap-full's job with its patch 1,024 times.
+pub fn many_swaps() -> Vec<u8> {
+    let (_, mut job) = jobs("examples")
+        .into_iter()
+        .find(|(name, _)| name == "swap-full")
+        .unwrap();
+    // The patch count 1 is followed by the patch, which has 10 bytes.
+    let patch = job.split_off(job.len() - 10);
+    assert_eq!(job.pop(), Some(1));
+    job.extend([128, 8]);
+    job.extend(patch.repeat(1024));
+    job
+}
+
+/// A chain of 128 moves, last one first, so that each visit leads to the next.
+pub fn deep_chain() -> Vec<u8> {
+    let mut numbers = vec![129, 1, 3, 0, 1, 129];
+    numbers.extend((0..129).flat_map(|register| [0, 0, 1, register]));
+    numbers.push(2);
+    for includes_slots in [1, 0] {
+        numbers.extend([0, includes_slots]);
+        for _ in 0..2 {
+            numbers.push(129);
+            numbers.extend(0..129);
+        }
+    }
+    numbers.extend([128, 0, 0]);
+    numbers.extend([0; 2 * 128]);
+    numbers.extend([1, 0, 128]);
+    let register = |number| 2 * number + 1;
+    numbers.extend(
+        (0..128)
+            .rev()
+            .flat_map(|n| [0, register(n), register(n + 1), n]),
+    );
+    encoded(numbers)
 }
 
 /// What is printed of the trial with a name.

@@ -34,14 +34,14 @@ put-patch-requires : tie.Need-put-patch-requires
 put-patch-requires c κs =
     let s = c .before .before .before .before .before .before .before .before .before .before .before .before .before .before .before .before .before .before .before .before .before .before .before .before .before in
     let p = c .before .before .before .before .before .before .before .before .answer-patch in
-    let g = resolved (s .args .t .now) (s .args .f .now) (s .args .s .now) (s .args .at) (s .args .list .now) (c .before .before .before .before .before .before .before .before .before .before .before .before .before .before .before .before .before .before .before .before .before .told .ensures) (s .args .cache .now) (p .last .1 .1 .1 .1 .1 .0) (p .last .1 .1 .1 .1 .0) _ _ (rw (c .before .before .before .before .before .before .count .given .1) at (p .ensures)) in
+    let g = resolved (s .args .t .now) (s .args .f .now) (s .args .s .now) (s .args .at) (s .args .list .now) (c .before .before .before .before .before .before .before .before .before .before .before .before .before .before .before .before .before .before .before .before .before .told .ensures) (s .args .cache .now) (p .last .1 .1 .1 .1 .1 .0) (p .last .1 .1 .1 .1 .0) _ _ (rw (c .before .before .before .before .before .before .count .given .1) at (p .ensures .0)) in
     (omega (arith, s .pre .2), omega (arith, g .within, p .kept .1 .1 .1 .1 .1 .0, c .before .before .before .before .before .before .before .before .before .before .before .before .before .before .before .before .before .before .before .before .before .told .ensures), c .before .before .wide .ensures .1)
 
 returns : tie.Need-returns
 returns c =
     let s = c .before .before .before .before .before .before .before .before .before .before .before .before .before .before .before .before .before .before .before .before in
     let p = c .before .before .before .answer-patch in
-    next-refused (s .args .t .now) (s .args .f .now) (s .args .s .now) (s .args .at) (s .args .list .now) (c .before .before .before .before .before .before .before .before .before .before .before .before .before .before .before .before .told .ensures) (s .args .cache .now) (p .last .1 .1 .1 .1 .1 .0) (p .last .1 .1 .1 .1 .0) (s .args .words .now) (s .args .n) _ (rw (c .before .k .given .1) at (p .ensures))
+    (next-refused (s .args .t .now) (s .args .f .now) (s .args .s .now) (s .args .at) (s .args .list .now) (c .before .before .before .before .before .before .before .before .before .before .before .before .before .before .before .before .told .ensures) (s .args .cache .now) (p .last .1 .1 .1 .1 .1 .0) (p .last .1 .1 .1 .1 .0) (s .args .words .now) (s .args .n) _ (rw (c .before .k .given .1) at (p .ensures .0)), (tt, tt, tt, tt, tt, tt, tt, tt, tt, tt, tt))
 
 same-length : tie.Need-same-length
 same-length c = search needs
@@ -51,7 +51,7 @@ returns-2 c =
     let s = c .before .before .before .before .before .before .before .before .before .before .before .before .before .before .before .before .before .before .before .before .before .before .before .before .before .before .before .before in
     let p = c .before .before .before .before .before .before .before .before .before .before .before .answer-patch in
     let w = c .before .before .put-patch in
-    next-put (s .args .t .now) (s .args .f .now) (s .args .s .now) (s .args .at) (s .args .list .now) (c .before .before .before .before .before .before .before .before .before .before .before .before .before .before .before .before .before .before .before .before .before .before .before .before .told .ensures) (s .args .cache .now) (p .last .1 .1 .1 .1 .1 .0) (p .last .1 .1 .1 .1 .0) (w .result) _ _ _ (s .args .words .now) (w .last .0) (s .args .n) (p .kept .1 .1 .1 .1 .1 .0 ∙ c .before .before .before .before .before .before .before .before .before .before .before .before .before .before .before .before .before .before .before .before .before .before .before .before .told .ensures) (c .before .before .before .before .before .wide .ensures .1) (rw (c .before .before .before .before .before .before .before .before .before .count .given .1) at (p .ensures)) (c .before .before .before .before .before .wide .ensures .0 ∙ c .before .before .before .before .before .before .made .ensures) (w .ensures)
+    (next-put (s .args .t .now) (s .args .f .now) (s .args .s .now) (s .args .at) (s .args .list .now) (c .before .before .before .before .before .before .before .before .before .before .before .before .before .before .before .before .before .before .before .before .before .before .before .before .told .ensures) (s .args .cache .now) (p .last .1 .1 .1 .1 .1 .0) (p .last .1 .1 .1 .1 .0) (w .result) _ _ _ (s .args .words .now) (w .last .0) (s .args .n) (p .kept .1 .1 .1 .1 .1 .0 ∙ c .before .before .before .before .before .before .before .before .before .before .before .before .before .before .before .before .before .before .before .before .before .before .before .before .told .ensures) (c .before .before .before .before .before .wide .ensures .1) (rw (c .before .before .before .before .before .before .before .before .before .count .given .1) at (p .ensures .0)) (c .before .before .before .before .before .wide .ensures .0 ∙ c .before .before .before .before .before .before .made .ensures) (w .ensures), (tt, tt, tt, tt, tt, tt, tt, tt, tt, tt, tt))
 
 pub answer-next-spec : {M : Type 1} → statement M
 answer-next-spec =

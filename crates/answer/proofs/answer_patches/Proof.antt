@@ -37,7 +37,7 @@ returns c =
     let s = c .before .before .before .before .before .before .before .before .before .before .before .before .before .before .before .before .before .before .before .before .before .before .before .before in
     let l = c .before .before .before .before .before .before .before .before .before .before .before .before .before .before .before .before .before .before .before .before .loop in
     let p = c .before .before .before .before .before .answer-next in
-    refused-here (s .args .t .now) (s .args .f .now) (s .args .s .now) _ (s .args .words .now) (l .cache) (l .words) (l .at) (l .n) (l .left) (l .inv) (p .last .1 .1 .1 .1 .0) (p .last .1 .1 .1 .1 .1 .1 .1 .1 .1 .1 .1 .1 .1 .1 .1 .1 .0) _ (omega (arith, c .before .before .before .before .before .before .before .before .before .before .before .before .before .before .before .before .before .before .before .loop-test .taken)) (rw (c .before .k .given .1) at (p .ensures))
+    (refused-here (s .args .t .now) (s .args .f .now) (s .args .s .now) _ (s .args .words .now) (l .cache) (l .words) (l .at) (l .n) (l .left) (l .inv) (p .last .1 .1 .1 .1 .0) (p .last .1 .1 .1 .1 .1 .1 .1 .1 .1 .1 .1 .1 .1 .1 .1 .1 .0) _ (omega (arith, c .before .before .before .before .before .before .before .before .before .before .before .before .before .before .before .before .before .before .before .loop-test .taken)) (rw (c .before .k .given .1) at (p .ensures .0)), (tt, tt, tt, tt, tt, tt, tt, tt, tt, tt, tt, tt))
 
 enum-told : tie.Need-enum-told Inv-loop μ-loop
 enum-told c = search needs
@@ -50,7 +50,7 @@ returns-2 c =
     let s = c .before .before .before .before .before .before .before .before .before .before .before .before .before .before .before .before .before .before .before .before .before .before .before in
     let l = c .before .before .before .before .before .before .before .before .before .before .before .before .before .before .before .before .before .before .before .loop in
     let p = c .before .before .before .before .answer-next in
-    short-here (s .args .t .now) (s .args .f .now) (s .args .s .now) _ (s .args .words .now) (l .cache) (l .words) (l .at) (l .n) (l .left) (l .inv) (p .last .1 .1 .1 .1 .0) (p .last .1 .1 .1 .1 .1 .1 .1 .1 .1 .1 .1 .1 .1 .1 .1 .1 .0) (omega (arith, c .before .before .before .before .before .before .before .before .before .before .before .before .before .before .before .before .before .before .loop-test .taken)) (rw (c .enum-told .given .1) at (p .ensures))
+    (short-here (s .args .t .now) (s .args .f .now) (s .args .s .now) _ (s .args .words .now) (l .cache) (l .words) (l .at) (l .n) (l .left) (l .inv) (p .last .1 .1 .1 .1 .0) (p .last .1 .1 .1 .1 .1 .1 .1 .1 .1 .1 .1 .1 .1 .1 .1 .1 .0) (omega (arith, c .before .before .before .before .before .before .before .before .before .before .before .before .before .before .before .before .before .before .loop-test .taken)) (rw (c .enum-told .given .1) at (p .ensures .0)), (tt, tt, tt, tt, tt, tt, tt, tt, tt, tt, tt, tt))
 
 enum-known-next : tie.Need-enum-known-next Inv-loop μ-loop
 enum-known-next c = search needs
@@ -66,7 +66,7 @@ loop-again c =
     let s = c .before .before .before .before .before .before .before .before .before .before .before .before .before .before .before .before .before .before .before .before .before .before .before .before in
     let l = c .before .before .before .before .before .before .before .before .before .before .before .before .before .before .before .before .before .before .before .before .loop in
     let p = c .before .before .before .before .before .answer-next in
-    goes-on (s .args .t .now) (s .args .f .now) (s .args .s .now) _ (s .args .words .now) (l .cache) (l .words) (l .at) (l .n) (l .left) (l .inv) (p .last .1 .1 .1 .1 .0) (p .last .1 .1 .1 .1 .1 .1 .1 .1 .1 .1 .1 .1 .1 .1 .1 .1 .0) _ _ (omega (arith, c .before .before .before .before .before .before .before .before .before .before .before .before .before .before .before .before .before .before .before .loop-test .taken)) (rw (c .before .next .given .1) at (p .ensures))
+    goes-on (s .args .t .now) (s .args .f .now) (s .args .s .now) _ (s .args .words .now) (l .cache) (l .words) (l .at) (l .n) (l .left) (l .inv) (p .last .1 .1 .1 .1 .0) (p .last .1 .1 .1 .1 .1 .1 .1 .1 .1 .1 .1 .1 .1 .1 .1 .1 .0) _ _ (omega (arith, c .before .before .before .before .before .before .before .before .before .before .before .before .before .before .before .before .before .before .before .loop-test .taken)) (rw (c .before .next .given .1) at (p .ensures .0))
 
 same-length-3 : tie.Need-same-length-3 Inv-loop μ-loop
 same-length-3 c = put-length (c .before .before .loop .inv .put)
@@ -75,7 +75,7 @@ returns-3 : tie.Need-returns-3 Inv-loop μ-loop
 returns-3 c =
     let s = c .before .before .before .before .before .before in
     let l = c .before .before .loop in
-    left-over (s .args .t .now) (s .args .f .now) (s .args .s .now) _ (s .args .words .now) (l .cache) (l .words) (l .at) (l .n) (l .left) (l .inv) (omega (arith, c .before .loop-test .left)) (c .if1 .taken)
+    (left-over (s .args .t .now) (s .args .f .now) (s .args .s .now) _ (s .args .words .now) (l .cache) (l .words) (l .at) (l .n) (l .left) (l .inv) (omega (arith, c .before .loop-test .left)) (c .if1 .taken), (tt, tt, tt, tt, tt, tt, tt, tt, tt, tt, tt, tt))
 
 same-length-4 : tie.Need-same-length-4 Inv-loop μ-loop
 same-length-4 c = put-length (c .before .before .loop .inv .put)
@@ -84,7 +84,7 @@ returns-4 : tie.Need-returns-4 Inv-loop μ-loop
 returns-4 c =
     let s = c .before .before .before .before .before .before in
     let l = c .before .before .loop in
-    all-read (s .args .t .now) (s .args .f .now) (s .args .s .now) _ (s .args .words .now) (l .cache) (l .words) (l .at) (l .n) (l .left) (l .inv) (omega (arith, c .before .loop-test .left)) (c .if1 .left)
+    (all-read (s .args .t .now) (s .args .f .now) (s .args .s .now) _ (s .args .words .now) (l .cache) (l .words) (l .at) (l .n) (l .left) (l .inv) (omega (arith, c .before .loop-test .left)) (c .if1 .left), (tt, tt, tt, tt, tt, tt, tt, tt, tt, tt, tt, tt))
 
 pub answer-patches-spec : {M : Type 1} → statement M
 answer-patches-spec =

@@ -30,14 +30,14 @@ same-length c = search needs
 
 returns : tie.Need-returns
 returns c =
-    let a = c .before .before .before .before .before .before .before .before .before .before .before .before .before .before .before .before .args in λ p q. gave-edits (a .f .now) (a .list .now) _ (a .cache .now) _ (resolveSorted (T (a .t .now)) (functionOf (a .f .now)) p (length (a .list .now)) (cacheOf (a .cache .now)) (sortedOf (a .e .now))) _ (rw (c .before .n .given .1) at (c .before .before .before .before .before .resolve .ensures p q))
+    let a = c .before .before .before .before .before .before .before .before .before .before .before .before .before .before .before .before .args in (λ p q. gave-edits (a .f .now) (a .list .now) _ (a .cache .now) _ (resolveSorted (T (a .t .now)) (functionOf (a .f .now)) p (length (a .list .now)) (cacheOf (a .cache .now)) (sortedOf (a .e .now))) _ (rw (c .before .n .given .1) at (c .before .before .before .before .before .resolve .ensures .0 p q)), search needs)
 
 same-length-2 : tie.Need-same-length-2
 same-length-2 c = search needs
 
 returns-2 : tie.Need-returns-2
 returns-2 c =
-    let a = c .before .before .before .before .before .before .before .before .before .before .before .before .before .before .before .before .before .args in λ p q. gave-number (a .f .now) (a .list .now) _ (a .cache .now) _ (resolveSorted (T (a .t .now)) (functionOf (a .f .now)) p (length (a .list .now)) (cacheOf (a .cache .now)) (sortedOf (a .e .now))) _ _ (c .refused .ensures) (rw (c .before .before .k .given .1) at (c .before .before .before .before .before .before .resolve .ensures p q))
+    let a = c .before .before .before .before .before .before .before .before .before .before .before .before .before .before .before .before .before .args in (λ p q. gave-number (a .f .now) (a .list .now) _ (a .cache .now) _ (resolveSorted (T (a .t .now)) (functionOf (a .f .now)) p (length (a .list .now)) (cacheOf (a .cache .now)) (sortedOf (a .e .now))) _ _ (c .refused .ensures) (rw (c .before .before .k .given .1) at (c .before .before .before .before .before .before .resolve .ensures .0 p q)), search needs)
 
 pub bench-resolve-spec : {M : Type 1} → statement M
 bench-resolve-spec =

@@ -7,11 +7,7 @@ use lib.ListN.{getD, length, drop, drop-of-length-le}
 use Rattle.entity.specs.Logic.{any}
 use Rattle.sparse.specs.Map.{keysOf}
 use Rattle.entries.specs.Known.{isFree}
-use Rattle.reginfo.specs.Table.{regInfoOf}
-use Rattle.function.specs.Table.{functionOf}
-use Rattle.entries.specs.Table.{sortedOf}
 use Rattle.entries.proofs.Lists.{any-step}
-use Rattle.entries.proofs.Free.{free-is}
 use borrow.Author.Needs.{needs}
 use Rattle.entries.proofs.free_destination.Statement.{statement}
 use Rattle.entries.proofs.free_destination.Tie as tie
@@ -35,11 +31,11 @@ is-free-requires : tie.Need-is-free-requires Inv-loop μ-loop
 is-free-requires c κs = search needs
 
 returns : tie.Need-returns Inv-loop μ-loop
-returns c t f e ok kept p same =
+returns c =
     let s = c .before .before .before .before .before .before in
     let l = c .before .before .before .before .loop in
     let h : isFree (s .args .free .now) (getD (keysOf (s .args .w .now)) (l .j) 0) ≡ true = rw (← c .before .before .key-at .ensures) (sym (c .before .is-free .ensures) ∙ c .if1 .taken) in
-    sym (l .inv .0 ∙ any-step (isFree (s .args .free .now)) (keysOf (s .args .w .now)) (l .j) 0 (omega arith) ∙ rw h) ∙ free-is (regInfoOf t) (ok .target) (functionOf f) (sortedOf e) (s .args .w .now) kept (s .args .free .now) p same
+    sym (l .inv .0 ∙ any-step (isFree (s .args .free .now)) (keysOf (s .args .w .now)) (l .j) 0 (omega arith) ∙ rw h)
 
 add-j : tie.Need-add-j Inv-loop μ-loop
 add-j c = search needs
@@ -56,10 +52,10 @@ loop-again c =
 
 returns-2 : tie.Need-returns-2 Inv-loop μ-loop
 unfolding any
-returns-2 c t f e ok kept p same =
+returns-2 c =
     let s = c .before .before .before in
     let l = c .before .loop in
-    sym (l .inv .0 ∙ ap (any (isFree (s .args .free .now))) (drop-of-length-le (keysOf (s .args .w .now)) {i = l .j} (omega arith))) ∙ free-is (regInfoOf t) (ok .target) (functionOf f) (sortedOf e) (s .args .w .now) kept (s .args .free .now) p same
+    sym (l .inv .0 ∙ ap (any (isFree (s .args .free .now))) (drop-of-length-le (keysOf (s .args .w .now)) {i = l .j} (omega arith)))
 
 pub free-destination-spec : {M : Type 1} → statement M
 free-destination-spec =

@@ -1,3 +1,4 @@
+use mathlib.Core.Path.{refl}
 use lib.ListN.{drop}
 use Rattle.reginfo.specs.Table.{regInfoOf}
 use Rattle.function.specs.Table.{functionOf}
@@ -31,7 +32,7 @@ returns : tie.Need-returns
 returns c =
     let a = c .before .before .before .before .before .before .before .before .before .args in
     let read = c .before .before .before .read-patch in
-    step-refused (a .t .now) (a .f .now) (a .s .now) (patch (regInfoOf (a .t .now)) (functionOf (a .f .now)) (drop (a .at) (a .s .now))) (read .last .1 .1 .1 .1 .0) (read .last .1 .1 .1 .1 .1 .0) (read .last .1 .1 .1 .1 .1 .1 .0) _ (a .list .now) (a .cache .now) (rw (c .before .k .given .1) at (read .ensures))
+    (step-refused (a .t .now) (a .f .now) (a .s .now) (patch (regInfoOf (a .t .now)) (functionOf (a .f .now)) (drop (a .at) (a .s .now))) (read .last .1 .1 .1 .1 .0) (read .last .1 .1 .1 .1 .1 .0) (read .last .1 .1 .1 .1 .1 .1 .0) _ (a .list .now) (a .cache .now) (rw (c .before .k .given .1) at (read .ensures)), search needs)
 
 same-length : tie.Need-same-length
 same-length c = search needs
@@ -40,7 +41,7 @@ returns-2 : tie.Need-returns-2
 returns-2 c =
     let a = c .before .before .before .before .before .before .before .before .before .before .before .before .before .before .before .before .before .before .before .before .before .before .before .before .args in
     let read = c .before .before .before .before .before .before .before .before .before .before .before .before .before .before .before .before .before .before .read-patch in
-    step-read (a .t .now) (a .f .now) (a .s .now) (patch (regInfoOf (a .t .now)) (functionOf (a .f .now)) (drop (a .at) (a .s .now))) (read .last .1 .1 .1 .1 .0) (read .last .1 .1 .1 .1 .1 .0) (read .last .1 .1 .1 .1 .1 .1 .0) _ _ (a .list .now) _ (a .cache .now) _ (rw (c .before .before .before .before .before .before .before .before .before .before .before .before .before .before .before .before .next .given .1) at (read .ensures)) (c .before .before .resolve-before .ensures)
+    (step-read (a .t .now) (a .f .now) (a .s .now) (patch (regInfoOf (a .t .now)) (functionOf (a .f .now)) (drop (a .at) (a .s .now))) (read .last .1 .1 .1 .1 .0) (read .last .1 .1 .1 .1 .1 .0) (read .last .1 .1 .1 .1 .1 .1 .0) (a .at) _ _ (a .list .now) _ (a .cache .now) _ refl (rw (c .before .before .before .before .before .before .before .before .before .before .before .before .before .before .before .before .next .given .1) at (read .ensures)) (c .before .before .resolve-before .ensures .0), search needs)
 
 pub answer-patch-spec : {M : Type 1} → statement M
 answer-patch-spec =

@@ -24,17 +24,17 @@ read-remat-requires : tie.Need-read-remat-requires
 read-remat-requires c κs = search needs
 
 returns : tie.Need-returns
-returns c = let h = rw (c .before .k .given .1) at (c .before .before .before .below .ensures) in entry-refused _ _ _ _ _ _ _ _ (h .reads)
+returns c = let h = rw (c .before .k .given .1) at (c .before .before .before .below .ensures) in entry-refused _ _ _ _ _ _ _ (h .reads)
 
 returns-2 : tie.Need-returns-2
 returns-2 c =
     let h = rw (c .before .before .before .before .before .kind .given .1) at (c .before .before .before .before .before .before .before .below .ensures) in
-    entry-move _ _ _ _ _ _ _ _ _ _ (h .reads) (h .onward) (c .before .before .before .match2 .keys1) (c .read-move .ensures)
+    entry-move _ _ _ _ _ _ _ _ _ _ _ (h .reads) (h .onward) (c .before .before .before .match2 .keys1) (c .read-move .ensures)
 
 returns-3 : tie.Need-returns-3
 returns-3 c =
     let h = rw (c .before .before .before .before .before .kind .given .1) at (c .before .before .before .before .before .before .before .below .ensures) in
-    entry-remat _ _ _ _ _ _ _ _ _ _ (h .reads) (h .onward) (c .before .before .before .match2 .rest .1) (c .read-remat .ensures)
+    entry-remat _ _ _ _ _ _ _ _ _ _ _ (h .reads) (h .onward) (c .before .before .before .match2 .rest .1) (c .read-remat .ensures)
 
 pub read-entry-spec : {M : Type 1} → statement M
 read-entry-spec =

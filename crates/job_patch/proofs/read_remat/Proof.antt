@@ -32,13 +32,13 @@ returns : tie.Need-returns
 returns c =
     let a = c .before .before .before .before .before .args in
     let h = rw (c .before .k .given .1) at (c .before .before .before .read-place .ensures) in
-    part-refused (a .t .now) (a .f .now) (a .s .now) (a .e .now) (a .at) (place (regInfoOf (a .t .now)) (functionOf (a .f .now))) (λ d q. then (below (numValues (functionOf (a .f .now))) q) (λ v p. got (remat d v) p)) _ _ _ (h .reads)
+    part-refused (a .t .now) (a .f .now) (a .s .now) (a .e .now) (a .w .now) (a .at) (place (regInfoOf (a .t .now)) (functionOf (a .f .now))) (λ d q. then (below (numValues (functionOf (a .f .now))) q) (λ v p. got (remat d v) p)) _ (h .reads)
 
 returns-2 : tie.Need-returns-2
 returns-2 c =
     let a = c .before .before .before .before .before .before .before .before .args in
     let h = rw (c .before .before .before .before .dest .given .1) at (c .before .before .before .before .before .before .read-place .ensures) in
-    part-read (a .t .now) (a .f .now) (a .s .now) (a .e .now) (a .at) (place (regInfoOf (a .t .now)) (functionOf (a .f .now))) (λ d q. then (below (numValues (functionOf (a .f .now))) q) (λ v p. got (remat d v) p)) _ _ _ _ _ (h .reads) (h .onward) (c .read-remat-of .ensures)
+    part-read (a .t .now) (a .f .now) (a .s .now) (a .e .now) (a .w .now) (a .at) (place (regInfoOf (a .t .now)) (functionOf (a .f .now))) (λ d q. then (below (numValues (functionOf (a .f .now))) q) (λ v p. got (remat d v) p)) _ _ _ _ _ (h .reads) (h .onward) (c .read-remat-of .ensures)
 
 pub read-remat-spec : {M : Type 1} → statement M
 read-remat-spec =

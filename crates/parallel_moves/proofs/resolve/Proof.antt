@@ -19,7 +19,7 @@ returns : tie.Need-returns
 returns c =
     let a = c .before .before .before .before .before .args in
     let pre = c .before .before .before .before .before .pre in
-    turned-away (a .t .now) (a .f .now) (a .cache .now) (a .e .now) (a .w .now) (a .list .now) (pre .0) (pre .1) (pre .2) (a .free .now) _ (λ p q. rw (c .before .n .given .1) at (c .before .before .before .refusal .ensures p q))
+    (turned-away (a .t .now) (a .f .now) (a .cache .now) (a .e .now) (a .w .now) (a .list .now) (pre .0) (pre .1) (pre .2) (a .free .now) _ (λ p q. rw (c .before .n .given .1) at (c .before .before .before .refusal .ensures p q)), search needs)
 
 enum-told : tie.Need-enum-told
 enum-told c = search needs
@@ -32,7 +32,7 @@ hand-over-requires c κs =
     let a = c .before .before .before .before .before .before .before .before .before .before .before .before .before .before .before .before .before .args in
     let pre = c .before .before .before .before .before .before .before .before .before .before .before .before .before .before .before .before .before .pre in
     let ran = c .before .before .before .before .run in
-    can-hand-over (a .t .now) (a .f .now) (a .cache .now) (a .e .now) (a .w .now) (a .list .now) (pre .0) (pre .1) (pre .2) (a .free .now) (λ p q. rw (c .before .before .before .before .before .before .before .before .before .before .before .before .before .enum-told .given .1) at (c .before .before .before .before .before .before .before .before .before .before .before .before .before .before .before .refusal .ensures p q)) (ran .result) (tables (ran .last .1 .1 .1 .1 .1 .1 .1 .1 .0) (ran .last .1 .1 .1 .1 .1 .1 .0) (ran .last .1 .1 .1 .1 .1 .1 .1 .1 .1 .0)) (ran .ensures)
+    can-hand-over (a .t .now) (a .f .now) (a .cache .now) (a .e .now) (a .w .now) (a .list .now) (pre .0) (pre .1) (pre .2) (a .free .now) (λ p q. rw (c .before .before .before .before .before .before .before .before .before .before .before .before .before .enum-told .given .1) at (c .before .before .before .before .before .before .before .before .before .before .before .before .before .before .before .refusal .ensures p q)) (ran .result) (tables (ran .last .1 .1 .1 .1 .1 .1 .1 .1 .0) (ran .last .1 .1 .1 .1 .1 .1 .0) (ran .last .1 .1 .1 .1 .1 .1 .1 .1 .1 .0)) (ran .ensures .0)
 
 same-length : tie.Need-same-length
 same-length c = search needs
@@ -42,7 +42,7 @@ returns-2 c =
     let a = c .before .before .before .before .before .before .before .before .before .before .before .before .before .before .before .before .before .before .before .before .args in
     let pre = c .before .before .before .before .before .before .before .before .before .before .before .before .before .before .before .before .before .before .before .before .pre in
     let ran = c .before .before .before .before .before .before .before .run in
-    λ p q. gives (a .t .now) (a .f .now) (a .cache .now) (a .e .now) (a .w .now) (a .list .now) (pre .0) (pre .1) (pre .2) (a .free .now) (λ p q. rw (c .before .before .before .before .before .before .before .before .before .before .before .before .before .before .before .before .enum-told .given .1) at (c .before .before .before .before .before .before .before .before .before .before .before .before .before .before .before .before .before .before .refusal .ensures p q)) (ran .result) (tables (ran .last .1 .1 .1 .1 .1 .1 .1 .1 .0) (ran .last .1 .1 .1 .1 .1 .1 .0) (ran .last .1 .1 .1 .1 .1 .1 .1 .1 .1 .0)) (ran .ensures) _ _ _ (c .before .before .hand-over .ensures) p q
+    (λ p q. gives (a .t .now) (a .f .now) (a .cache .now) (a .e .now) (a .w .now) (a .list .now) (pre .0) (pre .1) (pre .2) (a .free .now) (λ p q. rw (c .before .before .before .before .before .before .before .before .before .before .before .before .before .before .before .before .enum-told .given .1) at (c .before .before .before .before .before .before .before .before .before .before .before .before .before .before .before .before .before .before .refusal .ensures p q)) (ran .result) (tables (ran .last .1 .1 .1 .1 .1 .1 .1 .1 .0) (ran .last .1 .1 .1 .1 .1 .1 .0) (ran .last .1 .1 .1 .1 .1 .1 .1 .1 .1 .0)) (ran .ensures .0) _ _ _ (c .before .before .hand-over .ensures) p q, search needs)
 
 pub resolve-spec : {M : Type 1} → statement M
 resolve-spec =

@@ -1,6 +1,3 @@
-use Rattle.parallel_moves.proofs.Running.{free-is}
-use mathlib.Core.Path.{refl, ap}
-use Rattle.entries.specs.Answers.{addedOf}
 use Rattle.parallel_moves.proofs.Adding.{patch-refused, patch-resolved}
 use borrow.Author.Needs.{needs}
 use Rattle.parallel_moves.proofs.resolve_patch.Statement.{statement}
@@ -21,19 +18,19 @@ enum-known-n : tie.Need-enum-known-n
 enum-known-n c = search needs
 
 returns : tie.Need-returns
-returns c = let a = c .before .before .before .before .before .before .before .before .before .before .before .args in patch-refused _ _ _ _ _ (a .free .now) (a .numbers .now) (a .list .now) (a .cache .now) (c .before .before .before .before .before .before .new-parallel-move .ensures .0) _ (rw (c .before .n .given .1) at (c .before .before .before .add-entries .ensures))
+returns c = let a = c .before .before .before .before .before .before .before .before .before .before .before .args in (patch-refused _ _ _ _ _ (a .free .now) (a .numbers .now) (a .list .now) (a .cache .now) (c .before .before .before .before .before .before .new-parallel-move .ensures .0) _ (rw (c .before .n .given .1) at (c .before .before .before .add-entries .ensures)), search needs)
 
 enum-told : tie.Need-enum-told
 enum-told c = search needs
 
 resolve-requires : tie.Need-resolve-requires
-resolve-requires c κs = let pre = c .before .before .before .before .before .before .before .before .before .before .before .before .before .before .before .before .before .before .before .before .before .pre in (pre .0, c .before .before .before .before .before .before .before .before .before .before .before .before .before .add-entries .ensures .yes (ap addedOf (c .before .before .before .before .before .before .before .before .before .before .before .enum-told .given .1)), pre .1)
+resolve-requires c κs = let pre = c .before .before .before .before .before .before .before .before .before .before .before .before .before .before .before .before .before .before .before .before .before .pre in (pre .0, c .before .before .before .before .before .before .before .before .before .before .before .before .before .add-entries .ensures .ok, pre .1)
 
 same-length : tie.Need-same-length
 same-length c = search needs
 
 returns-2 : tie.Need-returns-2
-returns-2 c = let a = c .before .before .before .before .before .before .before .before .before .before .before .before .before .before .before .before .before .before .before .before .before .before .before .before .args in patch-resolved _ _ _ _ _ (a .free .now) (a .numbers .now) (a .list .now) (a .cache .now) (c .before .before .before .before .before .before .before .before .before .before .before .before .before .before .before .before .before .before .before .new-parallel-move .ensures .0) _ _ _ (rw (c .before .before .before .before .before .before .before .before .before .before .before .before .before .before .enum-told .given .1) at (c .before .before .before .before .before .before .before .before .before .before .before .before .before .before .before .before .add-entries .ensures)) (c .before .before .resolve .ensures _ (free-is _))
+returns-2 c = let a = c .before .before .before .before .before .before .before .before .before .before .before .before .before .before .before .before .before .before .before .before .before .before .before .before .args in (patch-resolved _ _ _ _ _ (a .free .now) (a .numbers .now) (a .list .now) (a .cache .now) (c .before .before .before .before .before .before .before .before .before .before .before .before .before .before .before .before .before .before .before .new-parallel-move .ensures .0) _ _ _ (rw (c .before .before .before .before .before .before .before .before .before .before .before .before .before .before .enum-told .given .1) at (c .before .before .before .before .before .before .before .before .before .before .before .before .before .before .before .before .add-entries .ensures)) (c .before .before .resolve .ensures .0), search needs)
 
 pub resolve-patch-spec : {M : Type 1} → statement M
 resolve-patch-spec =

@@ -77,7 +77,7 @@ returns c =
     let direct = c .before .before .before .before .before .before .before .before .before .before .before .before .before .remats in
     let rematted : Rematted (a .t .now) (rematsOf (a .e .now)) (record { evicted = Nothing; made = made .result }) (cleared .last .0) (a .free .now) (direct .result) (direct .last .1 .1 .1 .1 .0) (direct .last .1 .1 .1 .0) = rw (← copied .ensures) (direct .ensures) in
     let rebuilt = c .before .before .before .before .before .before .before .before .remats-with-scratch in
-    ran (a .t .now) (a .f .now) (a .cache .now) (a .e .now) (a .w .now) (pre .0) (pre .1) (pre .2) (cleared .last .0) (begun .last .0) (made .result) (cleared .ensures .1) (cleared .ensures .2) (cleared .ensures .3) (begun .ensures) (made .ensures) (a .free .now) (direct .result) (direct .last .1 .1 .1 .1 .0) (direct .last .1 .1 .1 .0) rematted (rebuilt .result) (tables (rebuilt .last .1 .1 .1 .1 .1 .1 .1 .0) (rebuilt .last .1 .1 .1 .1 .1 .0) (rebuilt .last .1 .1 .1 .1 .1 .1 .1 .1 .0)) (rebuilt .ensures) _ _ (c .moves .ensures)
+    (ran (a .t .now) (a .f .now) (a .cache .now) (a .e .now) (a .w .now) (pre .0) (pre .1) (pre .2) (cleared .last .0) (begun .last .0) (made .result) (cleared .ensures .1) (cleared .ensures .2) (cleared .ensures .3) (begun .ensures) (made .ensures) (a .free .now) (direct .result) (direct .last .1 .1 .1 .1 .0) (direct .last .1 .1 .1 .0) rematted (rebuilt .result) (tables (rebuilt .last .1 .1 .1 .1 .1 .1 .1 .0) (rebuilt .last .1 .1 .1 .1 .1 .0) (rebuilt .last .1 .1 .1 .1 .1 .1 .1 .1 .0)) (rebuilt .ensures) _ _ (c .moves .ensures .0), search needs)
 
 pub run-spec : {M : Type 1} → statement M
 run-spec =

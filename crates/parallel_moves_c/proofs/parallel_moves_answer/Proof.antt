@@ -23,19 +23,19 @@ same-length : tie.Need-same-length
 same-length c = search needs
 
 returns : tie.Need-returns
-returns c = let p = c .before .before .before .before .before .answer-job in answered (c .before .before .before .before .before .before .before .before .before .before .before .before .before .before .before .before .before .before .before .before .before .before .before .args .words .now) (job (c .before .before .before .before .before .before .before .before .before .before .before .before .before .before .before .before .before .before .before .before .before .before .before .args .bytes .now)) (p .last .1 .0) _ (rw (c .before .n .given .1) at (p .ensures))
+returns c = let p = c .before .before .before .before .before .answer-job in (answered (c .before .before .before .before .before .before .before .before .before .before .before .before .before .before .before .before .before .before .before .before .before .before .before .args .words .now) (job (c .before .before .before .before .before .before .before .before .before .before .before .before .before .before .before .before .before .before .before .before .before .before .before .args .bytes .now)) (p .last .1 .0) _ (rw (c .before .n .given .1) at (p .ensures .0)), (tt, tt, tt, tt, tt, tt, tt, tt, tt, tt, tt, tt, tt, tt))
 
 same-length-2 : tie.Need-same-length-2
 same-length-2 c = search needs
 
 returns-2 : tie.Need-returns-2
-returns-2 c = let p = c .before .before .before .before .before .answer-job in refused (c .before .before .before .before .before .before .before .before .before .before .before .before .before .before .before .before .before .before .before .before .before .before .before .args .words .now) (job (c .before .before .before .before .before .before .before .before .before .before .before .before .before .before .before .before .before .before .before .before .before .before .before .args .bytes .now)) (p .last .1 .0) _ _ (rw (c .before .k .given .1) at (p .ensures))
+returns-2 c = let p = c .before .before .before .before .before .answer-job in (refused (c .before .before .before .before .before .before .before .before .before .before .before .before .before .before .before .before .before .before .before .before .before .before .before .args .words .now) (job (c .before .before .before .before .before .before .before .before .before .before .before .before .before .before .before .before .before .before .before .before .before .before .before .args .bytes .now)) (p .last .1 .0) _ _ (rw (c .before .k .given .1) at (p .ensures .0)), (tt, tt, tt, tt, tt, tt, tt, tt, tt, tt, tt, tt, tt, tt))
 
 same-length-3 : tie.Need-same-length-3
 same-length-3 c = search needs
 
 returns-3 : tie.Need-returns-3
-returns-3 c = let p = c .before .before .before .before .answer-job in too-short (c .before .before .before .before .before .before .before .before .before .before .before .before .before .before .before .before .before .before .before .before .before .before .args .words .now) (job (c .before .before .before .before .before .before .before .before .before .before .before .before .before .before .before .before .before .before .before .before .before .before .args .bytes .now)) (p .last .1 .0) (rw (c .enum-told .given .1) at (p .ensures))
+returns-3 c = let p = c .before .before .before .before .answer-job in (too-short (c .before .before .before .before .before .before .before .before .before .before .before .before .before .before .before .before .before .before .before .before .before .before .args .words .now) (job (c .before .before .before .before .before .before .before .before .before .before .before .before .before .before .before .before .before .before .before .before .before .before .args .bytes .now)) (p .last .1 .0) (rw (c .enum-told .given .1) at (p .ensures .0)), (tt, tt, tt, tt, tt, tt, tt, tt, tt, tt, tt, tt, tt, tt))
 
 pub parallel-moves-answer-spec : {M : Type 1} → statement M
 parallel-moves-answer-spec =

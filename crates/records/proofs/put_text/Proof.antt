@@ -25,14 +25,14 @@ array-share-prefix-words : tie.Need-array-share-prefix-words
 array-share-prefix-words c =
     let a = c .before .before .before .before .before .before .before .before .before .before .before .before .before .before .before .before .before .before .before .before .before .before .before .args in
     let p = c .before .before .before .before .before .answer-job in
-    let q = answered (a .job .now) _ (p .last .1 .0) _ (rw (c .before .before .n .given .1) at (p .ensures)) in
+    let q = answered (a .job .now) _ (p .last .1 .0) _ (rw (c .before .before .n .given .1) at (p .ensures .0)) in
     omega (arith, q .few, q .count, length-replicate {A = ℕ} 16384 0)
 
 slice-aggregate-put-answer : tie.Need-slice-aggregate-put-answer
 slice-aggregate-put-answer c =
     let a = c .before .before .before .before .before .before .before .before .before .before .before .before .before .before .before .before .before .before .before .before .before .before .before .before .args in
     let p = c .before .before .before .before .before .before .answer-job in
-    let q = answered (a .job .now) _ (p .last .1 .0) _ (rw (c .before .before .before .n .given .1) at (p .ensures)) in
+    let q = answered (a .job .now) _ (p .last .1 .0) _ (rw (c .before .before .before .n .given .1) at (p .ensures .0)) in
     sym (length-take-le _ (p .last .1 .0) (within (a .job .now) _ (p .last .1 .0) _ _ q))
 
 put-answer-requires : tie.Need-put-answer-requires
@@ -45,14 +45,14 @@ array-share-prefix-words-2 : tie.Need-array-share-prefix-words-2
 array-share-prefix-words-2 c =
     let a = c .before .before .before .before .before .before .before .before .before .before .before .before .before .before .before .before .before .before .before .before .before .before .before .args in
     let p = c .before .before .before .before .before .answer-job in
-    let q = refused (a .job .now) _ (p .last .1 .0) _ _ (rw (c .before .before .k .given .1) at (p .ensures)) in
+    let q = refused (a .job .now) _ (p .last .1 .0) _ _ (rw (c .before .before .k .given .1) at (p .ensures .0)) in
     omega (arith, q .few, q .count, length-replicate {A = ℕ} 16384 0)
 
 slice-aggregate-put-answer-2 : tie.Need-slice-aggregate-put-answer-2
 slice-aggregate-put-answer-2 c =
     let a = c .before .before .before .before .before .before .before .before .before .before .before .before .before .before .before .before .before .before .before .before .before .before .before .before .args in
     let p = c .before .before .before .before .before .before .answer-job in
-    let q = refused (a .job .now) _ (p .last .1 .0) _ _ (rw (c .before .before .before .k .given .1) at (p .ensures)) in
+    let q = refused (a .job .now) _ (p .last .1 .0) _ _ (rw (c .before .before .before .k .given .1) at (p .ensures .0)) in
     sym (length-take-le _ (p .last .1 .0) (within (a .job .now) _ (p .last .1 .0) _ _ q))
 
 put-answer-requires-2 : tie.Need-put-answer-requires-2
@@ -68,7 +68,7 @@ returns : tie.Need-returns
 returns c =
     let a = c .before .before .before .before .before .before .before .before .before .before .before .before .before .before .before .before .before .before .before .before .before .before .before .before .before .before .before .args in
     let p = c .before .before .before .before .before .before .before .before .before .answer-job in
-    let q = answered (a .job .now) _ (p .last .1 .0) _ (rw (c .before .before .before .before .before .before .n .given .1) at (p .ensures)) in
+    let q = answered (a .job .now) _ (p .last .1 .0) _ (rw (c .before .before .before .before .before .before .n .given .1) at (p .ensures .0)) in
     let t = c .before .before .put-answer in
     told (a .job .now) _ (p .last .1 .0) _ _ q (length-replicate {A = ℕ} 16384 0) (a .out .now) (t .last .0) (t .result) (t .ensures)
 
@@ -79,7 +79,7 @@ returns-2 : tie.Need-returns-2
 returns-2 c =
     let a = c .before .before .before .before .before .before .before .before .before .before .before .before .before .before .before .before .before .before .before .before .before .before .before .before .before .before .before .args in
     let p = c .before .before .before .before .before .before .before .before .before .answer-job in
-    let q = refused (a .job .now) _ (p .last .1 .0) _ _ (rw (c .before .before .before .before .before .before .k .given .1) at (p .ensures)) in
+    let q = refused (a .job .now) _ (p .last .1 .0) _ _ (rw (c .before .before .before .before .before .before .k .given .1) at (p .ensures .0)) in
     let t = c .before .before .put-answer2 in
     told (a .job .now) _ (p .last .1 .0) _ _ q (length-replicate {A = ℕ} 16384 0) (a .out .now) (t .last .0) (t .result) (t .ensures)
 
@@ -87,7 +87,7 @@ returns-3 : tie.Need-returns-3
 returns-3 c =
     let a = c .before .before .before .before .before .before .before .before .before .before .before .before .before .before .before .before .before .before .before .before .before .args in
     let p = c .before .before .before .answer-job in
-    too-many (a .job .now) _ (p .last .1 .0) (rw (c .enum-told .given .1) at (p .ensures)) (length-replicate {A = ℕ} 16384 0) (a .out .now) (a .out .now)
+    too-many (a .job .now) _ (p .last .1 .0) (rw (c .enum-told .given .1) at (p .ensures .0)) (length-replicate {A = ℕ} 16384 0) (a .out .now)
 
 pub put-text-spec : {M : Type 1} → statement M
 put-text-spec =

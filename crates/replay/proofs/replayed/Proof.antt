@@ -23,7 +23,7 @@ returns : tie.Need-returns
 returns c =
     let a = c .before .before .before .before .before .before .args in
     let p = c .before .before .put-text in
-    not-told (a .job .now) (a .text .now) _ (p .last .1 .0) (p .result) (p .ensures) (c .if1 .taken) (length-replicate {A = ℕ} 65536 0)
+    not-told (a .job .now) (a .text .now) _ (p .last .1 .0) (p .result) (p .ensures) (length-replicate {A = ℕ} 65536 0) (c .if1 .taken)
 
 array-share-prefix-out : tie.Need-array-share-prefix-out
 array-share-prefix-out c =
@@ -44,7 +44,7 @@ returns-2 : tie.Need-returns-2
 returns-2 c =
     let a = c .before .before .before .before .before .before .before .before .args in
     let p = c .before .before .before .before .put-text in
-    compared (a .job .now) (a .text .now) _ (p .last .1 .0) (p .result) (p .ensures) (c .before .before .if1 .left) (c .same .result) (c .same .ensures)
+    compared (a .job .now) (a .text .now) _ (p .last .1 .0) (p .result) (p .ensures) (length-replicate {A = ℕ} 65536 0) (c .before .before .if1 .left) (c .same .result) (c .same .ensures)
 
 pub replayed-spec : {M : Type 1} → statement M
 replayed-spec =

@@ -59,7 +59,7 @@ show-requires c κs =
     let a = c .before .before .before .before .before .before .before .before .before .before .before .before .before .before .before .before .before .before .before .before .before .before .before .before .before .args in
     let l = c .before .before .before .before .before .before .before .before .before .before .before .before .before .before .before .before .before .before .before .before .before .before .loop in
     let p = c .before .before .before .before .before .before .before .before .answer-patch in
-    let left = step-left (a .t .now) (a .f .now) (a .s .now) (patch (regInfoOf (a .t .now)) (functionOf (a .f .now)) (drop (l .at) (a .s .now))) _ _ (l .list) (p .last .1 .1 .1 .1 .1 .0) (l .cache) _ (rw (c .before .before .before .before .before .n .given .1) at (p .ensures)) in
+    let left = step-left (a .t .now) (a .f .now) (a .s .now) (patch (regInfoOf (a .t .now)) (functionOf (a .f .now)) (drop (l .at) (a .s .now))) _ _ (l .list) (p .last .1 .1 .1 .1 .1 .0) (l .cache) _ (rw (c .before .before .before .before .before .n .given .1) at (p .ensures .0)) in
     (omega (arith, l .inv .2, c .before .before .before .before .before .before .before .before .before .before .before .before .before .before .before .before .before .before .before .before .before .loop-test .taken), omega (arith, left .0, p .kept .1 .1 .1 .1 .1 .0, l .inv .1), c .before .wide .ensures .1)
 
 sub-left : tie.Need-sub-left Inv-loop μ-loop
@@ -76,7 +76,7 @@ loop-again c =
     let a = c .before .before .before .before .before .before .before .before .before .before .before .before .before .before .before .before .before .before .before .before .before .before .before .before .before .before .args in
     let l = c .before .before .before .before .before .before .before .before .before .before .before .before .before .before .before .before .before .before .before .before .before .before .before .loop in
     let p = c .before .before .before .before .before .before .before .before .before .answer-patch in
-    let left = step-left (a .t .now) (a .f .now) (a .s .now) (patch (regInfoOf (a .t .now)) (functionOf (a .f .now)) (drop (l .at) (a .s .now))) _ _ (l .list) (p .last .1 .1 .1 .1 .1 .0) (l .cache) _ (rw (c .before .before .before .before .before .before .n .given .1) at (p .ensures)) in
+    let left = step-left (a .t .now) (a .f .now) (a .s .now) (patch (regInfoOf (a .t .now)) (functionOf (a .f .now)) (drop (l .at) (a .s .now))) _ _ (l .list) (p .last .1 .1 .1 .1 .1 .0) (l .cache) _ (rw (c .before .before .before .before .before .before .n .given .1) at (p .ensures .0)) in
     (left .1, p .kept .1 .1 .1 .1 .1 .0 ∙ l .inv .1, omega (arith, l .inv .2, c .before .before .before .before .before .before .before .before .before .before .before .before .before .before .before .before .before .before .before .before .before .before .loop-test .taken))
 
 refuse-requires-2 : tie.Need-refuse-requires-2 Inv-loop μ-loop

@@ -6,7 +6,7 @@ use lib.ListN.{length}
 use Rattle.entity.specs.Place.{placeAt}
 use Rattle.entity.proofs.Laws.{no-false, has-getD}
 use Rattle.reginfo.specs.RegInfo.{placeUnits}
-use Rattle.rules.proofs.News.{news}
+use Rattle.rules.specs.Counts.{news}
 use Rattle.scratch.specs.State.{T}
 use Rattle.visits.specs.Marks.{movesOf, statesOf}
 use Rattle.visits.proofs.Writers.{source-writable, writer-found}

@@ -35,7 +35,7 @@ returns c =
     let s = c .before .before .before .before .before .before .before .before .before .before .before .before .before .before .before .before .before .before .before .before .before .before .before .before in
     let a = c .before .before .before .before .before .before .before .before .before .before .before .before .before .before .before .before .before .before .before .before .before .start in
     let b = c .before .before .before .before .before .before .before .before .before .before .before .before .before .before .before .before .before .before .before .clear in
-    all-moved _ _ _ _ (s .pre .0 .moves) _ _ (s .pre .1) (a .ensures .0) (a .ensures .1) (a .ensures .2) (b .ensures .0) (b .ensures .1) _ _ (c .before .before .before .before .before .before .before .before .before .before .before .first-pass .ensures) _ _ (c .before .before .before .second-pass .ensures) _ _ (c .unevict-all .ensures _)
+    (all-moved _ _ _ _ (s .pre .0 .moves) _ _ (s .pre .1) (a .ensures .0) (a .ensures .1) (a .ensures .2) (b .ensures .0) (b .ensures .1) _ _ (c .before .before .before .before .before .before .before .before .before .before .before .first-pass .ensures) _ _ (c .before .before .before .second-pass .ensures) _ _ (c .unevict-all .ensures _), (tt, tt, tt, tt))
 
 pub moves-spec : {M : Type 1} → statement M
 moves-spec =

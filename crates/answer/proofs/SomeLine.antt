@@ -1,0 +1,76 @@
+-- Every job has a line: of the patches that were asked for the first was resolved, or there is a refusal.
+use Prim.Native.Nat.{ℕ, zero, suc, _<_, _≤_}
+use mathlib.Core.Path.{_≡_, refl}
+use mathlib.Core.List.{List, [], _∷_, _++_}
+use mathlib.Core.Option.{Option, none, some}
+use native.Mathlib.Omega.{arith}
+use borrow.Author.Tests.{leb-true}
+use lib.Dec.{ltb}
+use lib.ListN.{length, length-append}
+use Rattle.entity.proofs.Laws.{and-true}
+use Rattle.reginfo.specs.RegInfo.{RegInfo}
+use Rattle.reginfo.specs.Refused.{targetRefusal}
+use Rattle.function.specs.Function.{Function}
+use Rattle.rules.specs.Scratch.{Cache, emptyCache}
+use Rattle.rules.specs.Patch.{Answer, resolve}
+use Rattle.rules.specs.Patch as rules
+use Rattle.number.specs.Read.{Read, got, refused}
+use Rattle.reading.specs.Reading.{between}
+use Rattle.job_target.specs.Target.{target}
+use Rattle.job_function.specs.Reads.{function}
+use Rattle.job_function.proofs.Accepted.{then-got, tested-got}
+use Rattle.job_patch.specs.Patches.{patch}
+use Rattle.job.specs.Job.{Header, Done, Answers, afterRead, afterCall, afterTarget, header, opening, patches, job}
+use Rattle.job.proofs.WasRead.{unless-got, given-got}
+use Rattle.answer_text.specs.Lines.{refusalText}
+use Rattle.answer.specs.Words.{numberOf, doneText, Of01, SomePrinted}
+use Rattle.answer.proofs.Numbers.{numbered}
+
+-- without a refusal a patch was resolved
+abbrev Some : Answers → Type 0
+Some a = a .refusal ≡ none → 0 < length (a .done)
+
+after-read : {A : Type 0} (x : Read A) (next : A → List ℕ → Answers) → ((a : A) (r : List ℕ) → x ≡ got a r → Some (next a r)) → Some (afterRead x next)
+after-read (got a r) next h e = h a r refl e
+after-read (refused k) next h e = absurd (let z : _≡_ {A = ℕ} 0 1 = cc in omega arith)
+
+after-call : (a : Answer) (next : Cache → Answers) → Some (afterCall a next)
+after-call (rules.refused k) next e = absurd (let z : _≡_ {A = ℕ} 0 1 = cc in omega arith)
+after-call (rules.resolved es c) next e = omega arith
+
+some-patch : (t : RegInfo) (f : Function) (n : ℕ) (c : Cache) (l : List ℕ) → 1 ≤ n → Some (patches t f n c l)
+unfolding patches
+some-patch t f zero c l h = absurd (omega arith)
+some-patch t f (suc n) c l h = after-read (patch t f l) _ (λ p r e. after-call (resolve t f p 1024 c) _)
+
+-- "patch count 1 to 1,024"
+counted : (l : List ℕ) (h : Header) (r : List ℕ) → opening l ≡ got h r → 1 ≤ h .patches
+unfolding opening header afterTarget
+counted l h r e =
+    let a = unless-got (ltb 65536 (length l)) 2 (header l) h r e in
+    let b = then-got (target l) _ h r (a .1) in
+    let c = given-got (targetRefusal (b .0)) (afterTarget (b .0) (b .1)) h r (b .3) in
+    let d = then-got (function (b .0) (b .1)) _ h r (c .1) in
+    let x = then-got (between 1 1024 (d .1)) _ h r (d .3) in
+    let is : record { target = b .0; function = d .0; patches = x .0 } ≡ h = cc in
+    rw (← is) (leb-true 1 (x .0) (and-true _ _ (tested-got _ (d .1) (x .0) (x .1) (x .2)) .0))
+
+job-some : (l : List ℕ) → Some (job l)
+unfolding job
+job-some l = after-read (opening l) _ (λ h r e. some-patch (h .target) (h .function) (h .patches) emptyCache r (counted l h r e))
+
+done-line : (d : List Done) → 0 < length d → 0 < length (doneText 1 d)
+unfolding doneText
+done-line [] h = absurd (omega arith)
+done-line (x ∷ d) h = omega arith
+
+refusal-line : (n : ℕ) → 1 ≤ n → 0 < length (refusalText n)
+refusal-line zero h = absurd (omega arith)
+refusal-line (suc n) h = omega arith
+
+some-line : (d : List Done) (o : Option ℕ) → (o ≡ none → 0 < length d) → ((n : ℕ) → o ≡ some n → Of01 n) → 0 < length (doneText 1 d ++ refusalText (numberOf o))
+some-line d none s h = rw (length-append (doneText 1 d) (refusalText 0)) (omega (arith, done-line d (s refl)))
+some-line d (some n) s h = rw (length-append (doneText 1 d) (refusalText n)) (omega (arith, refusal-line n (h n refl .0)))
+
+pub some-printed : SomePrinted
+some-printed l = some-line (job l .done) (job l .refusal) (job-some l) (numbered l)

@@ -1,0 +1,112 @@
+//! What `docs/JOB.md` shows: its jobs have the answers that stand there, and
+//! its table of stops is what the machine holds.
+
+mod common;
+
+use std::collections::HashMap;
+use std::fs;
+
+use common::machine::{Machine, Register};
+use common::{encoded, numbers, root, text};
+use parallel_moves::{Place, Resolver};
+
+fn paper() -> String {
+    fs::read_to_string(root().join("docs/JOB.md")).unwrap()
+}
+
+/// The blocks of a paper that begin with a word, in order.
+fn blocks<'a>(paper: &'a str, word: &str) -> Vec<&'a str> {
+    let start = format!("```{word}\n");
+    let after = paper.split(start.as_str()).skip(1);
+    after
+        .map(|rest| rest.split_once("```").unwrap().0)
+        .collect()
+}
+
+/// The jobs of the paper with their answers.
+fn shown(paper: &str) -> Vec<(Vec<u8>, &str)> {
+    let jobs = blocks(paper, "job");
+    let answers = blocks(paper, "answer");
+    assert_eq!(jobs.len(), answers.len());
+    let bytes = jobs.into_iter().map(|job| encoded(numbers(job)));
+    bytes.zip(answers).collect()
+}
+
+/// Registers 0 to 2 with the words a, b and c, and what is in slots 0 to 2.
+fn three(slots: &[(u16, u32)]) -> Machine {
+    let register = |unit| Register {
+        memory: false,
+        bank: 0,
+        units: vec![unit],
+    };
+    Machine {
+        registers: (0..3).map(register).collect(),
+        units: "abc".chars().map(u32::from).collect(),
+        slots: slots.iter().map(|&(s, word)| (s, vec![word])).collect(),
+    }
+}
+
+#[test]
+fn answers_are_as_shown() {
+    let paper = paper();
+    let shown = shown(&paper);
+    assert!(shown.len() >= 4);
+    let mut resolver = Resolver::new();
+    for (job, answer) in shown {
+        assert_eq!(text(&mut resolver, &job), answer);
+    }
+}
+
+/// The rows of the table of stops: the edits done, and what each place holds.
+#[test]
+fn swap_full_stop_by_stop() {
+    let paper = paper();
+    let (job, _) = &shown(&paper)[0];
+    let answer = Resolver::new().answer(job);
+    let patch = answer.patches().next().unwrap();
+    let mut machine = three(&[(0, '?'.into())]);
+    let after = paper.split("| edits done |").nth(1).unwrap();
+    let mut rows = after.lines().skip(2);
+    let mut check = |machine: &Machine, done: String| {
+        let row = rows.next().unwrap().trim_matches('|');
+        let cells: Vec<&str> = row.split('|').map(str::trim).collect();
+        assert_eq!(cells[0], done);
+        let places = [
+            Place::Register(0),
+            Place::Register(1),
+            Place::Register(2),
+            Place::Slot(0),
+        ];
+        for (place, cell) in places.into_iter().zip(&cells[1..]) {
+            let word = char::from_u32(machine.read(place)[0]).unwrap();
+            assert_eq!(word.to_string(), cell.replace("anything", "?"));
+        }
+    };
+    check(&machine, "0".into());
+    for (edit, done) in patch.edits().zip(1..) {
+        machine.step(edit, &|_| unreachable!());
+        check(&machine, format!("{done}: `{edit}`"));
+    }
+    assert!(!rows.next().unwrap().starts_with('|'));
+}
+
+/// The two wrong splits lose a value, as the paper says.
+#[test]
+fn wrong_splits_lose_a_value() {
+    let paper = paper();
+    let (_, rest) = paper.split_once("## Splitting a patch").unwrap();
+    let shown = shown(rest);
+    let end = |job: &[u8], slots: &[(u16, u32)]| -> (Vec<u32>, HashMap<u16, Vec<u32>>) {
+        let mut machine = three(slots);
+        for patch in Resolver::new().answer(job).patches() {
+            machine.run(patch, &|_| unreachable!());
+        }
+        (machine.units, machine.slots)
+    };
+    let [a, b, c] = ['a', 'b', 'c'].map(u32::from);
+    assert_eq!(end(&shown[0].0, &[]).0, [a, a, c]);
+    let (units, slots) = end(&shown[1].0, &[(0, 7), (1, 8), (2, 9)]);
+    assert_eq!(units, [8, b, c]);
+    // Slot 0 should have had a.
+    assert_eq!([0, 1, 2].map(|s| slots[&s][0]), [8, 8, 8]);
+}

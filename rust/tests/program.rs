@@ -1,0 +1,250 @@
+//! The program `resolve` as it is built: recorded jobs byte for byte, its stack,
+//! and what it does where a read or write fails. It is `target/bin/resolve`, or
+//! the one that `RESOLVE` names.
+
+mod common;
+
+use std::collections::HashMap;
+use std::env;
+use std::fs::{self, File};
+use std::path::{Path, PathBuf};
+use std::process::{Command, Output};
+
+use common::{deep_chain, many_swaps, root};
+use parallel_moves::Resolver;
+
+fn program() -> PathBuf {
+    let program = env::var_os("RESOLVE").map_or(root().join("target/bin/resolve"), PathBuf::from);
+    assert!(
+        program.is_file(),
+        "{} is not there: run `rt check resolve`",
+        program.display()
+    );
+    program
+}
+
+/// A file for a test.
+fn file(name: &str, bytes: &[u8]) -> PathBuf {
+    let path = Path::new(env!("CARGO_TARGET_TMPDIR")).join(name);
+    fs::write(&path, bytes).unwrap();
+    path
+}
+
+/// The jobs of the program `replay`, with the text that each is answered.
+fn records() -> Vec<(Vec<u8>, Vec<u8>)> {
+    let stream = fs::read(root().join("crates/replay/stdin")).unwrap();
+    let mut rest = &stream[..];
+    let mut records = Vec::new();
+    let length = |bytes: &[u8]| u32::from_le_bytes(bytes.try_into().unwrap()) as usize;
+    while !rest.is_empty() {
+        let (job, text) = (length(&rest[..4]), length(&rest[4..8]));
+        let (job, after) = rest[8..].split_at(job);
+        let (text, after) = after.split_at(text);
+        records.push((job.to_owned(), text.to_owned()));
+        rest = after;
+    }
+    records
+}
+
+/// The number on a text's last line, or 0.
+fn refused(text: &[u8]) -> u8 {
+    let text = std::str::from_utf8(text).unwrap();
+    let last = text.lines().last().unwrap();
+    let number = last.strip_prefix("refused ");
+    number.map_or(0, |number| number.parse().unwrap())
+}
+
+/// The program in a shell, which has its name as `$0`, after some commands.
+fn in_shell(before: &str, redirected: &str, job: &Path) -> Output {
+    Command::new("bash")
+        .args(["-c", &format!("{before}\nexec \"$0\" {redirected}")])
+        .arg(program())
+        .env("JOB", job)
+        .output()
+        .unwrap()
+}
+
+/// The program with reads and writes that fail or move few bytes.
+struct Faulty {
+    library: PathBuf,
+    notes: PathBuf,
+}
+
+impl Faulty {
+    fn new(name: &str) -> Self {
+        let folder = Path::new(env!("CARGO_TARGET_TMPDIR"));
+        let library = folder.join(format!("{name}.so"));
+        let source = Path::new(env!("CARGO_MANIFEST_DIR")).join("tests/faulty.c");
+        let status = Command::new("gcc")
+            .args([
+                "-std=c11", "-Wall", "-Wextra", "-Werror", "-O2", "-shared", "-fPIC", "-o",
+            ])
+            .args([&library, &source])
+            .status()
+            .unwrap();
+        assert!(status.success());
+        let notes = folder.join(format!("{name}.notes"));
+        Faulty { library, notes }
+    }
+
+    /// What it prints of a job, and what each write to standard output returned.
+    fn run(&self, job: &Path, faults: &[(&str, usize)]) -> (Output, Vec<i64>) {
+        fs::write(&self.notes, "").unwrap();
+        let mut command = Command::new(program());
+        command.env("LD_PRELOAD", &self.library);
+        command.env("NOTES", &self.notes);
+        for (name, number) in faults {
+            command.env(name, number.to_string());
+        }
+        let output = command.stdin(File::open(job).unwrap()).output().unwrap();
+        let notes = fs::read_to_string(&self.notes).unwrap();
+        (
+            output,
+            notes.lines().map(|line| line.parse().unwrap()).collect(),
+        )
+    }
+}
+
+/// The whole answer on standard output, and nothing on standard error.
+fn answers(output: &Output, job: &[u8]) {
+    let text = Resolver::new().answer(job).text();
+    assert!(output.stdout == text.as_bytes(), "it answers otherwise");
+    assert!(output.stderr.is_empty(), "it says something");
+}
+
+/// Nothing on standard output, and something on standard error.
+fn says_so(output: &Output) {
+    assert!(output.stdout.is_empty(), "it prints an answer");
+    assert!(!output.stderr.is_empty(), "it says nothing");
+}
+
+#[test]
+fn recorded_jobs() {
+    let mut seen: HashMap<u8, usize> = HashMap::new();
+    for (index, (job, text)) in records().into_iter().enumerate() {
+        let path = file("recorded.job", &job);
+        let output = Command::new(program())
+            .stdin(File::open(path).unwrap())
+            .output()
+            .unwrap();
+        assert!(
+            output.stdout == text,
+            "record {index} of crates/replay/stdin"
+        );
+        assert!(output.stderr.is_empty());
+        *seen.entry(refused(&text)).or_default() += 1;
+    }
+    for number in 0..=17 {
+        let count = seen.get(&number).copied().unwrap_or(0);
+        assert!(
+            if number == 16 { count == 0 } else { count >= 5 },
+            "{number}"
+        );
+    }
+}
+
+/// The stack that README names is enough.
+#[test]
+fn stack() {
+    let readme = fs::read_to_string(root().join("README.md")).unwrap();
+    let (_, after) = readme.split_once("The program `resolve` needs ").unwrap();
+    let (kilobytes, _) = after.split_once(" KB of stack.").unwrap();
+    let before = format!("ulimit -s {}", kilobytes.parse::<u32>().unwrap());
+    for job in [many_swaps(), deep_chain()] {
+        let path = file("stack.job", &job);
+        let output = in_shell(&before, "< \"$JOB\"", &path);
+        answers(&output, &job);
+    }
+}
+
+/// Bytes that come and go a few at a time are all there.
+#[test]
+fn few_bytes_at_a_time() {
+    let job = many_swaps();
+    let path = file("few.job", &job);
+    let (output, notes) = Faulty::new("few").run(&path, &[("FEW", 7)]);
+    answers(&output, &job);
+    assert!(notes.len() > 1000);
+}
+
+#[test]
+#[ignore = "the program does not see it yet"]
+fn full_device() {
+    let path = file("full.job", &many_swaps());
+    says_so(&in_shell("", "< \"$JOB\" > /dev/full", &path));
+}
+
+/// A file that may not grow has the answer's beginning, and nothing else.
+#[test]
+#[ignore = "the program does not see it yet"]
+fn file_limit() {
+    let job = many_swaps();
+    let path = file("limit.job", &job);
+    let out = file("limit.out", b"");
+    let before = format!("trap '' XFSZ; ulimit -f 8; exec > '{}'", out.display());
+    says_so(&in_shell(&before, "< \"$JOB\"", &path));
+    let printed = fs::read(out).unwrap();
+    assert!(printed.len() <= 8192);
+    let text = Resolver::new().answer(&job).text();
+    assert!(text.as_bytes().starts_with(&printed));
+}
+
+/// A reader that goes away.
+#[test]
+#[ignore = "the program does not see it yet"]
+fn closed_pipe() {
+    let path = file("pipe.job", &many_swaps());
+    let before = "trap '' PIPE; exec 3> >(:); wait $!";
+    says_so(&in_shell(before, "< \"$JOB\" >&3", &path));
+}
+
+#[test]
+#[ignore = "the program does not see it yet"]
+fn nothing_after_a_failed_write() {
+    let faulty = Faulty::new("writes");
+    let job = many_swaps();
+    let path = file("writes.job", &job);
+    let text = Resolver::new().answer(&job).text();
+    for few in [64, 5000, 1 << 20] {
+        for failing in [1, 2, 3, 10] {
+            let (output, notes) = faulty.run(&path, &[("FEW", few), ("FAIL_WRITE", failing)]);
+            assert!(text.as_bytes().starts_with(&output.stdout));
+            if notes.len() < failing {
+                // It was written with fewer calls.
+                answers(&output, &job);
+            } else {
+                assert_eq!(notes.len(), failing, "writes after a failed one");
+                assert!(output.stdout.len() < text.len());
+                assert!(!output.stderr.is_empty());
+            }
+        }
+    }
+}
+
+/// A call that a signal interrupts is made again.
+#[test]
+#[ignore = "the program does not see it yet"]
+fn interrupted_calls() {
+    let faulty = Faulty::new("interrupted");
+    let job = many_swaps();
+    let path = file("interrupted.job", &job);
+    for call in [1, 2, 3] {
+        let (output, notes) = faulty.run(&path, &[("FEW", 5000), ("INTERRUPT", call)]);
+        answers(&output, &job);
+        assert!(notes[call - 1] == -1 && notes.len() > call);
+    }
+}
+
+/// What cannot be read is no job, and not refused as one.
+#[test]
+#[ignore = "the program does not see it yet"]
+fn failed_reads() {
+    let path = file("reads.job", &many_swaps());
+    says_so(&in_shell("", "< /", &path));
+    says_so(&in_shell("", "<&-", &path));
+    let faulty = Faulty::new("reads");
+    for failing in [1, 2, 3] {
+        let (output, _) = faulty.run(&path, &[("FEW", 100), ("FAIL_READ", failing)]);
+        says_so(&output);
+    }
+}
