@@ -18,10 +18,6 @@ static int answer(struct parallel_moves_memory *memory, uint8_t *job, uint64_t *
     }
     uint8_t refusal = 0;
     size_t count = parallel_moves_answer_in(memory, job, length, words, PARALLEL_MOVES_MOST_WORDS, &refusal);
-    if (count == 0 && refusal == 0) {
-        fputs("example: there is no room for the words\n", stderr);
-        return FAILED;
-    }
     length = parallel_moves_text(words, count, refusal, text, PARALLEL_MOVES_MOST_TEXT);
     if (length == 0) {
         fputs("example: there is no room for the text\n", stderr);

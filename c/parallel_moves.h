@@ -1,19 +1,26 @@
 /* Parallel moves over registers that share units, resolved in-process.
  *
  * For C11 and C++. Link target/staticlib/libparallel_moves_c.a, which
- * `rt staticlib parallel_moves_c` builds. docs/JOB.md has the format of a job,
+ * `rt staticlib parallel_moves_c` builds; c/stamp writes parallel_moves_build.h
+ * beside it, which says which build it is. docs/JOB.md has the format of a job,
  * and every refusal with its cause and cure.
  *
- * The functions keep nothing between calls, neither allocate nor print, and
- * accept any bytes as a job. Of a caller they ask:
+ * Patch by patch: parallel_moves_open_in with a target and a function, then
+ * parallel_moves_resolve_in with each patch. A whole job, as bytes:
+ * parallel_moves_answer_in.
+ *
+ * The functions keep nothing but in the tables that they are lent, neither
+ * allocate nor print, and accept any bytes and any patch. Of a caller they ask:
  * - no pointer is null, also where a length is 0;
  * - each list has the length that it is said to have, or that it is declared
  *   with, and is aligned as its type is;
  * - what a call writes overlaps nothing else that is lent to it;
  * - until it returns, other threads leave alone what it writes, and do not write
  *   what it reads (several calls may read one job at once);
- * - each bool is 0 or 1, as calloc makes it and as every call leaves it. Else it
- *   does not matter what the working tables hold;
+ * - each bool is 0 or 1, as calloc makes it and as every call leaves it;
+ * - a patch is given with the target, function and cache that
+ *   parallel_moves_open left when it answered 0, and nothing else writes these
+ *   from then on. Else it does not matter what the tables hold;
  * - 64 KiB of stack are left.
  * The library is for x86-64 Linux.
  */
@@ -24,6 +31,28 @@
 #include <stddef.h>
 #include <stdint.h>
 
+/* The version of the interface: of what each function is lent, and how long the
+ * tables are. The names in the library end in it, so that a library of another
+ * version does not link. */
+#define PARALLEL_MOVES_INTERFACE 1
+
+#define PARALLEL_MOVES_STRING_OF(text) #text
+#define PARALLEL_MOVES_STRING(text) PARALLEL_MOVES_STRING_OF(text)
+/* The name that a function has in the library. */
+#define PARALLEL_MOVES_SYMBOL(name) __asm__(name "_" PARALLEL_MOVES_STRING(PARALLEL_MOVES_INTERFACE))
+
+#ifdef __GNUC__
+#define PARALLEL_MOVES_LOOK_AT_IT __attribute__((warn_unused_result))
+#else
+#define PARALLEL_MOVES_LOOK_AT_IT
+#endif
+
+#ifdef __cplusplus
+#define PARALLEL_MOVES_AS(type, value) (static_cast<type>(value))
+#else
+#define PARALLEL_MOVES_AS(type, value) ((type)(value))
+#endif
+
 /* A longer job is refused. */
 #define PARALLEL_MOVES_MOST_BYTES 65536
 /* As many words are enough for every job: a move has at least 4 bytes of the
@@ -33,11 +62,15 @@
  * each other line at most 36. */
 #define PARALLEL_MOVES_MOST_TEXT (19 * 2 * PARALLEL_MOVES_MOST_BYTES + 36 * 1025)
 
-/* The lengths of the working tables. */
+/* A patch with more entries is refused. */
+#define PARALLEL_MOVES_MOST_ENTRIES 128
+/* As many words are enough for the edits of every patch: 8 for each entry. */
+#define PARALLEL_MOVES_MOST_EDITS (8 * PARALLEL_MOVES_MOST_ENTRIES)
+
+/* The lengths of the tables. */
 #define PARALLEL_MOVES_TARGET 107520
 #define PARALLEL_MOVES_FUNCTION 16387
 #define PARALLEL_MOVES_CACHE 65600
-#define PARALLEL_MOVES_LIST 1024
 #define PARALLEL_MOVES_UNITS 512
 #define PARALLEL_MOVES_ENTRIES 1028
 #define PARALLEL_MOVES_WRITERS 6657
@@ -51,12 +84,57 @@
 extern "C" {
 #endif
 
+/* Opens a function: `bytes` are a target and a function over it, with nothing
+ * behind them. Returns 0, or the number of the refusal (1 to 9; 8 for bytes left
+ * over): then the cache is as it was, and no patch can be given. The function
+ * has no emergency slots yet. */
+PARALLEL_MOVES_LOOK_AT_IT uint8_t parallel_moves_open(
+    const uint8_t *bytes, size_t bytes_length,
+    uint16_t target[PARALLEL_MOVES_TARGET],
+    uint16_t function[PARALLEL_MOVES_FUNCTION],
+    uint16_t cache[PARALLEL_MOVES_CACHE])
+    PARALLEL_MOVES_SYMBOL("parallel_moves_open");
+
+/* Resolves a patch of an opened function. `free_units` are the units that are
+ * free, rising; `numbers` are its entries, four to each, as
+ * parallel_moves_put_move and parallel_moves_put_remat write them. Returns how
+ * many edits the patch has, as words at the front of `list`; the words past them
+ * are left alone. *refusal is set to 0, or to the number of the refusal (2, 3, 9
+ * to 17): look at it first, since then the result is 0, and list and cache are
+ * as they were. PARALLEL_MOVES_MOST_EDITS words are enough for every patch. The
+ * working tables are `entries` to `carried`. */
+size_t parallel_moves_resolve(
+    const uint16_t target[PARALLEL_MOVES_TARGET],
+    const uint16_t function[PARALLEL_MOVES_FUNCTION],
+    const uint32_t *free_units, size_t free_units_length,
+    const uint32_t *numbers, size_t numbers_length,
+    uint16_t cache[PARALLEL_MOVES_CACHE],
+    uint64_t *list, size_t list_length,
+    uint8_t *refusal,
+    uint16_t entries[PARALLEL_MOVES_ENTRIES],
+    uint16_t writers[PARALLEL_MOVES_WRITERS],
+    bool available[PARALLEL_MOVES_UNITS],
+    bool sources[PARALLEL_MOVES_UNITS],
+    uint64_t edits[PARALLEL_MOVES_EDITS],
+    uint16_t slots[PARALLEL_MOVES_SLOTS],
+    uint16_t diverted[PARALLEL_MOVES_DIVERTED],
+    uint8_t marks[PARALLEL_MOVES_MARKS],
+    uint16_t carried[PARALLEL_MOVES_CARRIED])
+    PARALLEL_MOVES_SYMBOL("parallel_moves_resolve");
+
+/* How many emergency slots an opened function has so far. docs/JOB.md says how
+ * large each is. */
+uint16_t parallel_moves_slots_made(
+    const uint16_t cache[PARALLEL_MOVES_CACHE])
+    PARALLEL_MOVES_SYMBOL("parallel_moves_made");
+
 /* Answers a whole job: returns how many words its resolved patches have, and
  * sets *refusal to the number of the refusal, or to 0 if there is none. Look at
  * it before the words: of a refused job they are only the patches before the
  * refused one. The words are, for each patch, a head and then its edits. Where
- * `words` is too short both are 0: an answered job has at least one word. The
- * working tables are `target` to `carried`. */
+ * `words` is too short the refusal is 16; PARALLEL_MOVES_MOST_WORDS are enough
+ * for every job. The words past them are left alone. The working tables are
+ * `target` to `carried`. */
 size_t parallel_moves_answer(
     const uint8_t *job, size_t job_length,
     uint64_t *words, size_t words_length,
@@ -64,7 +142,6 @@ size_t parallel_moves_answer(
     uint16_t target[PARALLEL_MOVES_TARGET],
     uint16_t function[PARALLEL_MOVES_FUNCTION],
     uint16_t cache[PARALLEL_MOVES_CACHE],
-    uint64_t list[PARALLEL_MOVES_LIST],
     bool free_units[PARALLEL_MOVES_UNITS],
     uint16_t entries[PARALLEL_MOVES_ENTRIES],
     uint16_t writers[PARALLEL_MOVES_WRITERS],
@@ -74,7 +151,8 @@ size_t parallel_moves_answer(
     uint16_t slots[PARALLEL_MOVES_SLOTS],
     uint16_t diverted[PARALLEL_MOVES_DIVERTED],
     uint8_t marks[PARALLEL_MOVES_MARKS],
-    uint16_t carried[PARALLEL_MOVES_CARRIED]);
+    uint16_t carried[PARALLEL_MOVES_CARRIED])
+    PARALLEL_MOVES_SYMBOL("parallel_moves_answer");
 
 /* Writes the text of an answer, as the program `resolve` prints it: returns its
  * length, or 0 where `text` is too short; then the lines that fit stand at its
@@ -84,12 +162,13 @@ size_t parallel_moves_answer(
 size_t parallel_moves_text(
     const uint64_t *words, size_t words_length,
     uint8_t refusal,
-    uint8_t *text, size_t text_length);
+    uint8_t *text, size_t text_length)
+    PARALLEL_MOVES_SYMBOL("parallel_moves_text");
 
-/* All working tables, about half a megabyte: make one with calloc, and use it
- * for as many calls as you like, one at a time. */
+/* All tables, about half a megabyte: make one with calloc, and use it for as
+ * many calls as you like, one at a time. It has one opened function at most;
+ * after parallel_moves_answer_in it has none. */
 struct parallel_moves_memory {
-    uint64_t list[PARALLEL_MOVES_LIST];
     uint64_t edits[PARALLEL_MOVES_EDITS];
     uint16_t target[PARALLEL_MOVES_TARGET];
     uint16_t function[PARALLEL_MOVES_FUNCTION];
@@ -105,6 +184,64 @@ struct parallel_moves_memory {
     uint8_t marks[PARALLEL_MOVES_MARKS];
 };
 
+/* parallel_moves_open with the tables of `memory`. */
+PARALLEL_MOVES_LOOK_AT_IT static inline uint8_t parallel_moves_open_in(
+    struct parallel_moves_memory *memory,
+    const uint8_t *bytes, size_t bytes_length)
+{
+    return parallel_moves_open(
+        bytes, bytes_length, memory->target, memory->function, memory->cache);
+}
+
+/* parallel_moves_resolve with the tables of `memory`, in which a function was
+ * opened. */
+static inline size_t parallel_moves_resolve_in(
+    struct parallel_moves_memory *memory,
+    const uint32_t *free_units, size_t free_units_length,
+    const uint32_t *numbers, size_t numbers_length,
+    uint64_t *list, size_t list_length,
+    uint8_t *refusal)
+{
+    return parallel_moves_resolve(
+        memory->target, memory->function,
+        free_units, free_units_length, numbers, numbers_length,
+        memory->cache, list, list_length, refusal,
+        memory->entries, memory->writers, memory->available, memory->sources,
+        memory->edits, memory->slots, memory->diverted, memory->marks,
+        memory->carried);
+}
+
+/* The code of a register. */
+static inline uint32_t parallel_moves_register(uint32_t number)
+{
+    return 2 * number + 1;
+}
+
+/* The code of a slot. */
+static inline uint32_t parallel_moves_slot(uint32_t number)
+{
+    return 2 * number;
+}
+
+/* Writes the entry of a move: `dest` is to hold what `source` holds before the
+ * patch, which is `value`. Places are given by their codes. */
+static inline void parallel_moves_put_move(uint32_t entry[4], uint32_t source, uint32_t dest, uint32_t value)
+{
+    entry[0] = 0;
+    entry[1] = source;
+    entry[2] = dest;
+    entry[3] = value;
+}
+
+/* Writes the entry of a rebuild: `value` is to be rebuilt in `dest`. */
+static inline void parallel_moves_put_remat(uint32_t entry[4], uint32_t dest, uint32_t value)
+{
+    entry[0] = 1;
+    entry[1] = dest;
+    entry[2] = value;
+    entry[3] = 0;
+}
+
 /* parallel_moves_answer with the tables of `memory`. */
 static inline size_t parallel_moves_answer_in(
     struct parallel_moves_memory *memory,
@@ -114,7 +251,7 @@ static inline size_t parallel_moves_answer_in(
 {
     return parallel_moves_answer(
         job, job_length, words, words_length, refusal,
-        memory->target, memory->function, memory->cache, memory->list,
+        memory->target, memory->function, memory->cache,
         memory->free_units, memory->entries, memory->writers,
         memory->available, memory->sources, memory->edits, memory->slots,
         memory->diverted, memory->marks, memory->carried);
@@ -133,7 +270,7 @@ enum parallel_moves_word_kind {
 /* The kind of a word. */
 static inline enum parallel_moves_word_kind parallel_moves_kind(uint64_t word)
 {
-    return (enum parallel_moves_word_kind)(word % 8);
+    return PARALLEL_MOVES_AS(enum parallel_moves_word_kind, word % 8);
 }
 
 /* Whether a word is a patch's head, and no edit. */
@@ -145,32 +282,32 @@ static inline bool parallel_moves_is_head(uint64_t word)
 /* Of a head: how many edits follow it. */
 static inline size_t parallel_moves_count(uint64_t head)
 {
-    return (size_t)(head / 8 % 65536);
+    return head / 8 % 65536;
 }
 
 /* Of a head: how many emergency slots the function has after the patch.
  * docs/JOB.md says how large each is. */
 static inline uint16_t parallel_moves_made(uint64_t head)
 {
-    return (uint16_t)(head / 524288 % 65536);
+    return PARALLEL_MOVES_AS(uint16_t, head / 524288 % 65536);
 }
 
 /* Of an edit: the place that it writes. */
 static inline uint16_t parallel_moves_to(uint64_t edit)
 {
-    return (uint16_t)(edit / 8 % 16384);
+    return PARALLEL_MOVES_AS(uint16_t, edit / 8 % 16384);
 }
 
 /* Of a move, spill or reload: the place that it reads. */
 static inline uint16_t parallel_moves_from(uint64_t edit)
 {
-    return (uint16_t)(edit / 131072 % 16384);
+    return PARALLEL_MOVES_AS(uint16_t, edit / 131072 % 16384);
 }
 
 /* Of a move or rebuild: its value. */
 static inline uint16_t parallel_moves_value(uint64_t edit)
 {
-    return (uint16_t)(edit / 2147483648u % 4096);
+    return PARALLEL_MOVES_AS(uint16_t, edit / 2147483648u % 4096);
 }
 
 /* Whether a place is a register; else it is a slot. */
@@ -182,7 +319,7 @@ static inline bool parallel_moves_is_register(uint16_t place)
 /* The number of a register or slot. */
 static inline uint16_t parallel_moves_number(uint16_t place)
 {
-    return (uint16_t)(place / 2);
+    return PARALLEL_MOVES_AS(uint16_t, place / 2);
 }
 
 #ifdef __cplusplus

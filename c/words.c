@@ -1,6 +1,6 @@
 /* Reads a job on standard input and prints its answer from the words, taken
- * apart with the header's functions. It is C and C++. The list of words is just
- * as long as needed: a shorter one must be told from it. */
+ * apart with the header's functions. It is C and C++. Also sees that a list of
+ * words that is too short, and a text, are refused. */
 #include <stdio.h>
 #include <stdlib.h>
 
@@ -9,11 +9,15 @@
 static struct parallel_moves_memory memory;
 static uint8_t job[PARALLEL_MOVES_MOST_BYTES + 1];
 static uint64_t words[PARALLEL_MOVES_MOST_WORDS];
+static uint64_t less[PARALLEL_MOVES_MOST_WORDS];
 static uint8_t text[PARALLEL_MOVES_MOST_TEXT];
+
+static const uint64_t LEFT_ALONE = 0x5555555555555555;
 
 static void print_place(uint16_t place)
 {
-    printf(" %c%u", parallel_moves_is_register(place) ? 'r' : 's', (unsigned)parallel_moves_number(place));
+    unsigned number = parallel_moves_number(place);
+    printf(" %c%u", parallel_moves_is_register(place) ? 'r' : 's', number);
 }
 
 static void print_edit(uint64_t edit)
@@ -25,12 +29,14 @@ static void print_edit(uint64_t edit)
         print_place(parallel_moves_from(edit));
     }
     if (kind == PARALLEL_MOVES_MOVE || kind == PARALLEL_MOVES_REMATERIALIZE) {
-        printf(" %u", (unsigned)parallel_moves_value(edit));
+        unsigned value = parallel_moves_value(edit);
+        printf(" %u", value);
     }
     putchar('\n');
 }
 
-/* Whether one word or byte too few is answered with 0 and 0. */
+/* Whether one word or byte too few is told: with 16 and the first patches, the
+ * rest of the list left alone, or with 0. */
 static bool short_is_told(size_t length, size_t count, uint8_t refusal)
 {
     uint8_t other = 99;
@@ -38,8 +44,19 @@ static bool short_is_told(size_t length, size_t count, uint8_t refusal)
     if (printed == 0 || parallel_moves_text(words, count, refusal, text, printed - 1) != 0) {
         return false;
     }
-    return count == 0
-        || (parallel_moves_answer_in(&memory, job, length, words, count - 1, &other) == 0 && other == 0);
+    if (count == 0) {
+        return true;
+    }
+    for (size_t i = 0; i < count; i++) {
+        less[i] = LEFT_ALONE;
+    }
+    size_t given = parallel_moves_answer_in(&memory, job, length, less, count - 1, &other);
+    for (size_t i = 0; i < count; i++) {
+        if (less[i] != (i < given ? words[i] : LEFT_ALONE)) {
+            return false;
+        }
+    }
+    return given < count && other == 16;
 }
 
 int main(void)
@@ -50,8 +67,7 @@ int main(void)
         return EXIT_FAILURE;
     }
     size_t count = parallel_moves_answer_in(&memory, job, length, words, PARALLEL_MOVES_MOST_WORDS, &refusal);
-    if (!short_is_told(length, count, refusal)
-        || parallel_moves_answer_in(&memory, job, length, words, count, &refusal) != count) {
+    if (!short_is_told(length, count, refusal)) {
         return EXIT_FAILURE;
     }
     unsigned patch = 0;
@@ -62,7 +78,8 @@ int main(void)
             return EXIT_FAILURE;
         }
         patch++;
-        printf("patch %u edits %u made %u\n", patch, (unsigned)parallel_moves_count(head), (unsigned)parallel_moves_made(head));
+        unsigned made = parallel_moves_made(head);
+        printf("patch %u edits %zu made %u\n", patch, parallel_moves_count(head), made);
         for (at++; at < end; at++) {
             if (parallel_moves_is_head(words[at])) {
                 return EXIT_FAILURE;
@@ -71,7 +88,8 @@ int main(void)
         }
     }
     if (refusal != 0) {
-        printf("refused %u\n", (unsigned)refusal);
+        unsigned number = refusal;
+        printf("refused %u\n", number);
     }
     return fflush(stdout) == 0 && !ferror(stdout) ? EXIT_SUCCESS : EXIT_FAILURE;
 }

@@ -15,7 +15,7 @@ pub const MOST_BYTES: usize = 65_536;
 pub const MOST_PATCHES: usize = 1024;
 
 /// 8: bytes left over.
-const LEFT_OVER: Refused = Refused(8);
+pub(crate) const LEFT_OVER: Refused = Refused(8);
 /// 17: a slot is needed, its stack is empty and L are made.
 const OUT_OF_SLOTS: Refused = Refused(17);
 
@@ -80,16 +80,16 @@ fn run(reader: &mut Reader, text: &mut String) -> Result<(), Refused> {
 }
 
 /// The original, over one function.
-struct Resolver<'a> {
+pub(crate) struct Resolver<'a> {
     target: &'a Target,
     values: &'a Values,
     moves: ParallelMoves,
     /// How many emergency slots were made so far.
-    made: usize,
+    pub(crate) made: usize,
 }
 
 impl<'a> Resolver<'a> {
-    fn new(target: &'a Target, values: &'a Values) -> Self {
+    pub(crate) fn new(target: &'a Target, values: &'a Values) -> Self {
         let mut moves = ParallelMoves::new();
         moves.prepare(values, values.slots + values.emergency_limit);
         Resolver {
@@ -104,7 +104,7 @@ impl<'a> Resolver<'a> {
     /// so that it runs to its end, and the call is then refused with 17.
     ///
     /// The list lent to it is as long as it needs, so 16 never comes.
-    fn resolve(&mut self, patch: &Patch) -> Result<Vec<Edit>, Refused> {
+    pub(crate) fn resolve(&mut self, patch: &Patch) -> Result<Vec<Edit>, Refused> {
         self.moves.new_parallel_move();
         for &entry in &patch.entries {
             match entry {

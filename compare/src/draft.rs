@@ -84,6 +84,16 @@ pub struct Field {
     pub range: Option<(usize, usize)>,
 }
 
+impl Place {
+    /// Slot s is 2s, register r is 2r + 1.
+    pub fn code(self) -> usize {
+        match self {
+            Place::Slot(slot) => 2 * slot,
+            Place::Register(reg) => 2 * reg + 1,
+        }
+    }
+}
+
 impl Target {
     /// Whether some unit of a place, in a table over all units, is such.
     pub fn any_unit(&self, place: Place, mut such: impl FnMut(usize) -> bool) -> bool {
@@ -173,6 +183,14 @@ impl Draft {
         write(&self.fields())
     }
 
+    /// The target and the function, with nothing behind them.
+    pub fn opening(&self) -> Vec<u8> {
+        let mut fields = Fields(Vec::new());
+        self.put_target(&mut fields);
+        self.put_function(&mut fields);
+        write(&fields.0)
+    }
+
     fn put_target(&self, fields: &mut Fields) {
         let target = &self.target;
         fields.within(target.units, 1, 512);
@@ -244,11 +262,11 @@ impl Draft {
     /// One past the range of a place is the first slot or register that is
     /// not there.
     fn put_place(&self, fields: &mut Fields, place: Place) {
-        let (code, past) = match place {
-            Place::Slot(slot) => (2 * slot, 2 * self.slots),
-            Place::Register(reg) => (2 * reg + 1, 2 * self.target.registers.len() + 1),
+        let past = match place {
+            Place::Slot(_) => 2 * self.slots,
+            Place::Register(_) => 2 * self.target.registers.len() + 1,
         };
-        fields.index(code, past);
+        fields.index(place.code(), past);
     }
 }
 

@@ -1,6 +1,7 @@
 //! Random jobs, decided by a seed.
 
 mod accepted;
+pub mod calls;
 mod damaged;
 pub mod limits;
 mod patches;

@@ -1,6 +1,7 @@
 //! The original as the judge of jobs, and jobs for it to judge.
 
 pub mod answer;
+pub mod calls;
 pub mod draft;
 pub mod encode;
 pub mod frame;

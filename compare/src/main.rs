@@ -6,10 +6,12 @@ use std::io::{self, BufReader, BufWriter, Read, Write};
 use std::path::Path;
 use std::process::ExitCode;
 
+use judge::generate::calls::session;
 use judge::generate::{Generator, MODES};
+use judge::random::Random;
 use judge::replay::{self, Record};
 use judge::tally::Tally;
-use judge::{answer, encode, frame};
+use judge::{answer, calls, encode, frame};
 
 const HELP: &str = "\
 compare answer
@@ -34,6 +36,12 @@ compare replay SEED FOLDER
     of the folder are among them. Says on standard error what was chosen.
 compare replay-trials FILE
     Writes the same of the trials in the file.
+compare calls SEED COUNT
+    Writes COUNT random calls that open a function or give it a patch, with what
+    they should come to, a line each, all numbers in base ten:
+    open REFUSAL COUNT BYTE..
+    call REFUSAL MADE ROOM COUNT FREE-UNIT.. COUNT NUMBER.. COUNT WORD..
+    ROOM is the length of the lent list; the words are those of the edits.
 compare tally
     Reads answers, each after its length, and prints counts over them.
     Fails if there is a panic among them.
@@ -56,6 +64,7 @@ fn main() -> ExitCode {
         ["trials", file, folder] => write_trials(file, Path::new(folder)),
         ["replay", seed, folder] => write_replay(seed, Path::new(folder)),
         ["replay-trials", file] => write_replay_of_trials(file),
+        ["calls", seed, count] => write_calls(seed, count),
         ["tally"] => tally(),
         ["--help" | "help"] => io::stdout()
             .write_all(help().as_bytes())
@@ -80,6 +89,20 @@ fn help() -> String {
         help.push_str(&format!("    {name:8} {what}\n"));
     }
     help
+}
+
+fn write_calls(seed: &str, count: &str) -> Outcome {
+    let seed = seed.parse().map_err(|_| "SEED is not a number")?;
+    let mut left: usize = count.parse().map_err(|_| "COUNT is not a number")?;
+    let mut random = Random::new(seed);
+    let mut output = BufWriter::new(io::stdout().lock());
+    while left > 0 {
+        let session = session(&mut random, left);
+        left -= session.count();
+        output.write_all(calls::record(&session).as_bytes())?;
+    }
+    output.flush()?;
+    Ok(())
 }
 
 fn answer_one() -> Outcome {

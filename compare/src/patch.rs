@@ -37,10 +37,14 @@ pub enum Entry {
     },
 }
 
-/// A patch that is accepted unless it needs too many slots.
+/// A patch that is accepted unless it needs too many slots, or is lent too
+/// short a list.
 pub struct Patch {
     pub free: RegUnitSet,
     pub entries: Vec<Entry>,
+    /// How many edits it can have: 8 for a kept move, 5 for a rebuild with
+    /// scratch, 1 for another.
+    pub bound: usize,
 }
 
 impl Patch {
@@ -66,7 +70,11 @@ impl Patch {
         if seen.evicts_destination {
             return Err(EVICTS_DESTINATION);
         }
-        Ok(Patch { free, entries })
+        Ok(Patch {
+            free,
+            entries,
+            bound: seen.bound,
+        })
     }
 }
 
@@ -141,6 +149,8 @@ struct Seen {
     slots: Vec<SpillSlot>,
     /// Whether 14 holds of an entry.
     evicts_destination: bool,
+    /// How many edits they can have.
+    bound: usize,
 }
 
 impl Seen {
@@ -173,17 +183,15 @@ impl Seen {
             }
             self.write(dest, target)?;
             self.kept.push(kept);
+            self.bound += 8;
         } else {
             self.write(dest, target)?;
         }
 
-        if let Fate::Rebuild {
-            class,
-            scratch: true,
-        } = fate
-        {
+        if let Fate::Rebuild { class, scratch } = fate {
+            self.bound += if scratch { 5 } else { 1 };
             let class = target.class(class);
-            if !class.slots && overlaps(class.order.last().copied(), dest, target) {
+            if scratch && !class.slots && overlaps(class.order.last().copied(), dest, target) {
                 self.evicts_destination = true;
             }
         }

@@ -3,13 +3,15 @@
 //!
 //! The environment's `STUB_FAULT` names the fault, if there is to be one.
 
+use std::collections::HashMap;
 use std::slice;
-use std::sync::OnceLock;
+use std::sync::{Mutex, OnceLock};
 
+use judge::calls::{Call, Function, Room, Session};
 use judge::{answer, words};
 
 /// The faults, each in some answers only.
-const FAULTS: [&str; 9] = [
+const FAULTS: [&str; 16] = [
     "order",       // two edits change places in a patch with four or more
     "place",       // a copy into slot 3 goes to slot 1
     "made",        // a slot too many is counted from the second patch on
@@ -19,6 +21,13 @@ const FAULTS: [&str; 9] = [
     "text",        // the text of rebuilds is wrong, their words are right
     "words",       // the words of rebuilds are wrong, their text is right
     "little-room", // no heed is paid to the room that there is
+    "open",        // a function with bytes left over is opened
+    "call-number", // 12 for 13
+    "call-order",  // the last two of four edits and more change places
+    "call-made",   // a slot too many is counted
+    "call-list",   // a call refused by 17 writes a word of the list
+    "call-cache",  // a call refused by 13 changes the cache
+    "call-past",   // a word past the edits is written
 ];
 
 fn fault() -> &'static str {
@@ -109,9 +118,22 @@ fn spoil(words: &mut Vec<u64>, refusal: &mut u8) {
     }
 }
 
+/// How many words the patches have that there is room for.
+fn whole_patches(words: &[u64], room: usize) -> usize {
+    let mut at = 0;
+    while at < words.len() {
+        let next = at + 1 + (words[at] / 8 % 65_536) as usize;
+        if next > room {
+            break;
+        }
+        at = next;
+    }
+    at
+}
+
 /// # Safety
 /// As the library's.
-#[unsafe(no_mangle)]
+#[unsafe(export_name = "parallel_moves_answer_1")]
 pub unsafe extern "C" fn parallel_moves_answer(
     job: *const u8,
     job_len: usize,
@@ -121,7 +143,6 @@ pub unsafe extern "C" fn parallel_moves_answer(
     _target: *mut u16,
     _function: *mut u16,
     _cache: *mut u16,
-    _list: *mut u64,
     _free_units: *mut u8,
     _entries: *mut u16,
     _writers: *mut u16,
@@ -136,10 +157,12 @@ pub unsafe extern "C" fn parallel_moves_answer(
     let job = unsafe { slice::from_raw_parts(job, job_len) };
     let (mut found, mut number) = words_of(&answer::answer(job));
     spoil(&mut found, &mut number);
-    let full = found.len() > words_len;
-    if full && fault() != "little-room" {
-        unsafe { *refusal = 0 };
-        return 0;
+    if fault() != "little-room" {
+        let whole = whole_patches(&found, words_len);
+        if whole < found.len() {
+            number = 16;
+            found.truncate(whole);
+        }
     }
     let lent = unsafe { slice::from_raw_parts_mut(words, words_len) };
     found.truncate(words_len);
@@ -150,7 +173,7 @@ pub unsafe extern "C" fn parallel_moves_answer(
 
 /// # Safety
 /// As the library's.
-#[unsafe(no_mangle)]
+#[unsafe(export_name = "parallel_moves_text_1")]
 pub unsafe extern "C" fn parallel_moves_text(
     words: *const u64,
     words_len: usize,
@@ -176,4 +199,112 @@ pub unsafe extern "C" fn parallel_moves_text(
     let lent = unsafe { slice::from_raw_parts_mut(text, text_len) };
     lent[..found.len()].copy_from_slice(found.as_bytes());
     found.len()
+}
+
+/// The functions that are open, by the table of the target.
+fn opened() -> &'static Mutex<HashMap<usize, Session<'static>>> {
+    static OPENED: OnceLock<Mutex<HashMap<usize, Session<'static>>>> = OnceLock::new();
+    OPENED.get_or_init(Mutex::default)
+}
+
+/// # Safety
+/// As the library's.
+#[unsafe(export_name = "parallel_moves_open_1")]
+pub unsafe extern "C" fn parallel_moves_open(
+    bytes: *const u8,
+    bytes_len: usize,
+    target: *mut u16,
+    _function: *mut u16,
+    cache: *mut u16,
+) -> u8 {
+    let mut bytes = unsafe { slice::from_raw_parts(bytes, bytes_len) };
+    let function = loop {
+        match Function::open(bytes) {
+            Ok(function) => break function,
+            Err(refused) if refused.0 == 8 && fault() == "open" => {
+                bytes = &bytes[..bytes.len() - 1]
+            }
+            Err(refused) => return refused.0,
+        }
+    };
+    let session = Session::new(Box::leak(Box::new(function)));
+    opened().lock().unwrap().insert(target as usize, session);
+    unsafe { *cache = 0 };
+    0
+}
+
+/// # Safety
+/// As the library's.
+#[unsafe(export_name = "parallel_moves_resolve_1")]
+pub unsafe extern "C" fn parallel_moves_resolve(
+    target: *const u16,
+    _function: *const u16,
+    free_units: *const u32,
+    free_units_len: usize,
+    numbers: *const u32,
+    numbers_len: usize,
+    cache: *mut u16,
+    list: *mut u64,
+    list_len: usize,
+    refusal: *mut u8,
+    _entries: *mut u16,
+    _writers: *mut u16,
+    _available: *mut u8,
+    _sources: *mut u8,
+    _edits: *mut u64,
+    _slots: *mut u16,
+    _diverted: *mut u16,
+    _marks: *mut u8,
+    _carried: *mut u16,
+) -> usize {
+    let call = Call {
+        free: unsafe { slice::from_raw_parts(free_units, free_units_len) }.to_vec(),
+        numbers: unsafe { slice::from_raw_parts(numbers, numbers_len) }.to_vec(),
+        room: Room::Exact(list_len),
+    };
+    let mut all = opened().lock().unwrap();
+    let session = all.get_mut(&(target as usize)).expect("a function is open");
+    let expected = session.call(&call);
+    let lent = unsafe { slice::from_raw_parts_mut(list, list_len) };
+    match expected.outcome {
+        Ok(mut edits) => {
+            let count = edits.len();
+            match fault() {
+                "call-order" if count >= 4 => edits.swap(count - 2, count - 1),
+                "call-past" if count + 1 < list_len => lent[count + 1] ^= 1,
+                _ => {}
+            }
+            lent[..count].copy_from_slice(&edits);
+            unsafe {
+                *refusal = 0;
+                *cache = expected.made as u16;
+            }
+            count
+        }
+        Err(refused) => {
+            match (fault(), refused.0) {
+                ("call-list", 17) if list_len > 0 => lent[list_len - 1] = 0,
+                ("call-cache", 13) => unsafe { *cache.add(65_599) ^= 1 },
+                _ => {}
+            }
+            let number = match (fault(), refused.0) {
+                ("call-number", 13) => 12,
+                (_, number) => number,
+            };
+            unsafe { *refusal = number };
+            0
+        }
+    }
+}
+
+/// # Safety
+/// As the library's.
+#[unsafe(export_name = "parallel_moves_made_1")]
+pub unsafe extern "C" fn parallel_moves_made(cache: *const u16) -> u16 {
+    let made = unsafe { *cache };
+    if fault() == "call-made" && made > 0 {
+        made + 1
+    } else {
+        made
+    }
 }

@@ -12,11 +12,14 @@ fn answer() -> io::Result<Option<Refusal>> {
     let mut job = Vec::new();
     // A longer job is refused, however long it is.
     io::stdin().take(65_537).read_to_end(&mut job)?;
-    let answer = Resolver::new().answer(&job);
+    let (text, refusal) = match Resolver::new().answer(&job) {
+        Ok(answer) => (answer.text(), None),
+        Err(refused) => (refused.text(), Some(refused.refusal())),
+    };
     let mut out = io::stdout().lock();
-    out.write_all(answer.text().as_bytes())?;
+    out.write_all(text.as_bytes())?;
     out.flush()?;
-    Ok(answer.refusal())
+    Ok(refusal)
 }
 
 fn main() -> ExitCode {

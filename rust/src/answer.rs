@@ -1,59 +1,62 @@
-//! What a job is answered.
+//! What a whole job is answered.
 
+use std::error::Error;
 use std::fmt;
 use std::iter::FusedIterator;
-use std::slice;
 
-use crate::edit::Edit;
+use crate::edit::Edits;
 use crate::refusal::Refusal;
 use crate::sys;
 
-/// The answer of a job: its resolved patches and, if not all were, why the next
-/// one, or the job itself, is refused.
+/// The answer of a job: its resolved patches.
 ///
 /// It is printed as the program `resolve` prints it.
 #[derive(Clone, PartialEq, Eq, Hash)]
+#[must_use = "a patch is carried out only if all its edits are done"]
 pub struct Answer {
     /// For each patch a head, `(made * 2^16 + count) * 8`, and its edits.
     words: Box<[u64]>,
-    refusal: Option<Refusal>,
 }
 
 impl Answer {
-    /// The answer with these words and this refusal, as the library gave them.
-    pub(crate) fn new(words: &[u64], refusal: u8) -> Self {
+    /// The answer with these words, as the library gave them.
+    pub(crate) fn new(words: &[u64]) -> Self {
         Answer {
             words: words.into(),
-            refusal: Refusal::of_number(refusal),
         }
     }
 
-    /// The patches that were resolved, in the job's order: all of them, or
-    /// those before the refused one. See [`Answer::refusal`] first.
+    /// The patches that were resolved, in the job's order.
     pub fn patches(&self) -> Patches<'_> {
         Patches { words: &self.words }
     }
 
-    /// Why the job was not answered to its end, or `None` if it was.
-    ///
-    /// The patches before the refused one stand; it and those after it have no
-    /// edits, so the function is not complete.
-    pub fn refusal(&self) -> Option<Refusal> {
-        self.refusal
-    }
-
     /// The text of the answer, as the program `resolve` prints it.
+    #[must_use]
     pub fn text(&self) -> String {
-        let refusal = self.refusal.map_or(0, Refusal::number);
-        let mut text = vec![0; 20 * self.words.len() + 40];
-        let length = loop {
-            match sys::text(&self.words, refusal, &mut text) {
-                Some(length) => break length,
-                None => text.resize(2 * text.len(), 0),
-            }
-        };
-        text.truncate(length);
-        String::from_utf8(text).expect("the library writes ASCII")
+        text(&self.words, 0)
+    }
+}
+
+/// The text of words and a refusal's number or 0.
+fn text(words: &[u64], refusal: u8) -> String {
+    let mut text = vec![0; 20 * words.len() + 40];
+    let length = loop {
+        match sys::text(words, refusal, &mut text) {
+            Some(length) => break length,
+            None => text.resize(2 * text.len(), 0),
+        }
+    };
+    text.truncate(length);
+    String::from_utf8(text).expect("the library writes ASCII")
+}
+
+impl<'a> IntoIterator for &'a Answer {
+    type Item = ResolvedPatch<'a>;
+    type IntoIter = Patches<'a>;
+
+    fn into_iter(self) -> Patches<'a> {
+        self.patches()
     }
 }
 
@@ -65,30 +68,82 @@ impl fmt::Display for Answer {
 
 impl fmt::Debug for Answer {
     fn fmt(&self, f: &mut fmt::Formatter<'_>) -> fmt::Result {
-        f.debug_struct("Answer")
-            .field("patches", &self.patches())
-            .field("refusal", &self.refusal)
-            .finish()
+        self.patches().fmt(f)
+    }
+}
+
+/// A job that was not answered to its end: why, and the patches before the
+/// refused one.
+#[derive(Clone, Debug, PartialEq, Eq, Hash)]
+#[must_use = "the job was not answered to its end"]
+pub struct RefusedJob {
+    refusal: Refusal,
+    before: Answer,
+}
+
+impl RefusedJob {
+    pub(crate) fn new(refusal: Refusal, before: Answer) -> Self {
+        RefusedJob { refusal, before }
+    }
+
+    /// Why it was refused.
+    pub fn refusal(&self) -> Refusal {
+        self.refusal
+    }
+
+    /// The patches before the refused one. They stand; it and those after it
+    /// have no edits, so the function is not complete.
+    pub fn before(&self) -> &Answer {
+        &self.before
+    }
+
+    /// The text of the answer, as the program `resolve` prints it.
+    #[must_use]
+    pub fn text(&self) -> String {
+        text(&self.before.words, self.refusal.number())
+    }
+}
+
+impl From<RefusedJob> for Refusal {
+    fn from(refused: RefusedJob) -> Self {
+        refused.refusal
+    }
+}
+
+/// Prints `refused`, the number, and the cause in words.
+impl fmt::Display for RefusedJob {
+    fn fmt(&self, f: &mut fmt::Formatter<'_>) -> fmt::Result {
+        self.refusal.fmt(f)
+    }
+}
+
+impl Error for RefusedJob {
+    fn source(&self) -> Option<&(dyn Error + 'static)> {
+        Some(&self.refusal)
     }
 }
 
 /// The resolved patches of an [`Answer`], in order.
 #[derive(Clone)]
+#[must_use = "iterators are lazy"]
 pub struct Patches<'a> {
     /// The words from the next patch's head on.
     words: &'a [u64],
 }
 
 impl<'a> Iterator for Patches<'a> {
-    type Item = Patch<'a>;
+    type Item = ResolvedPatch<'a>;
 
-    fn next(&mut self) -> Option<Patch<'a>> {
+    fn next(&mut self) -> Option<ResolvedPatch<'a>> {
         let (&head, rest) = self.words.split_first()?;
         let count = (head / 8 % 65_536) as usize;
         let made = (head / 524_288 % 65_536) as u16;
         let (words, rest) = rest.split_at(count);
         self.words = rest;
-        Some(Patch { words, made })
+        Some(ResolvedPatch {
+            edits: Edits::new(words),
+            made,
+        })
     }
 }
 
@@ -100,69 +155,34 @@ impl fmt::Debug for Patches<'_> {
     }
 }
 
-/// A resolved patch.
-#[derive(Clone, Copy, PartialEq, Eq, Hash)]
-pub struct Patch<'a> {
-    /// The words of its edits.
-    words: &'a [u64],
+/// A resolved patch of a job.
+#[derive(Clone, Copy, Debug, PartialEq, Eq, Hash)]
+#[must_use = "a patch is carried out only if all its edits are done"]
+pub struct ResolvedPatch<'a> {
+    edits: Edits<'a>,
     made: u16,
 }
 
-impl<'a> Patch<'a> {
+impl<'a> ResolvedPatch<'a> {
     /// The edits that carry the patch out, to be done in this order.
     pub fn edits(&self) -> Edits<'a> {
-        Edits {
-            words: self.words.iter(),
-        }
+        self.edits
     }
 
     /// How many emergency slots the function has after this patch. They are
     /// numbered from its ordinary slots on; `docs/JOB.md` says how large each
     /// is.
-    pub fn made(&self) -> u16 {
-        self.made
+    #[must_use]
+    pub fn made(&self) -> usize {
+        self.made.into()
     }
 }
 
-impl fmt::Debug for Patch<'_> {
-    fn fmt(&self, f: &mut fmt::Formatter<'_>) -> fmt::Result {
-        f.debug_struct("Patch")
-            .field("edits", &self.edits())
-            .field("made", &self.made)
-            .finish()
-    }
-}
+impl<'a> IntoIterator for ResolvedPatch<'a> {
+    type Item = crate::Edit;
+    type IntoIter = crate::Iter<'a>;
 
-/// The edits of a [`Patch`], in order.
-#[derive(Clone)]
-pub struct Edits<'a> {
-    words: slice::Iter<'a, u64>,
-}
-
-impl Iterator for Edits<'_> {
-    type Item = Edit;
-
-    fn next(&mut self) -> Option<Edit> {
-        self.words.next().map(|&word| Edit::of_word(word))
-    }
-
-    fn size_hint(&self) -> (usize, Option<usize>) {
-        self.words.size_hint()
-    }
-}
-
-impl DoubleEndedIterator for Edits<'_> {
-    fn next_back(&mut self) -> Option<Edit> {
-        self.words.next_back().map(|&word| Edit::of_word(word))
-    }
-}
-
-impl ExactSizeIterator for Edits<'_> {}
-
-impl FusedIterator for Edits<'_> {}
-
-impl fmt::Debug for Edits<'_> {
-    fn fmt(&self, f: &mut fmt::Formatter<'_>) -> fmt::Result {
-        f.debug_list().entries(self.clone()).finish()
+    fn into_iter(self) -> crate::Iter<'a> {
+        self.edits.iter()
     }
 }

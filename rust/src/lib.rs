@@ -2,44 +2,57 @@
 //!
 //! Where two paths of a program join, a compiler must carry values from the
 //! places that one path left them in to the places that the other expects, all
-//! at once. A [`Resolver`] is given a job, which describes a target, a function
-//! over it and its patches of such moves, and answers each patch with the
-//! [`Edit`]s that carry it out in order, or with a [`Refusal`]. The work is done
-//! by a library in which every function is proved to meet its contract; this
-//! crate lends it memory and takes its words apart. `docs/JOB.md` of the
-//! repository says what a job means and how it is written, and what the edits
-//! promise.
+//! at once. [`ParallelMoves`] is opened for a function over a target and
+//! answers each [`Patch`] of such moves with the [`Edits`] that carry it out in
+//! order, or with a [`Refusal`]. A [`Resolver`] does the same with a whole job,
+//! which is a target, a function and its patches as bytes.
+//!
+//! The work is done by a library in which every function is proved to meet its
+//! contract; this crate lends it memory and takes its words apart.
+//! `docs/JOB.md` of the repository says what a target, a function and a patch
+//! mean and how they are written, and what the edits promise.
 //!
 //! ```
-//! use parallel_moves::Resolver;
+//! use parallel_moves::{Edit, ParallelMoves, Patch, PhysReg, Refusal, Value};
 //!
-//! // Registers 0 and 1 are to change their contents, and register 2 must keep
-//! // its own.
-//! let job = [
-//!     3, 1, 3, 0, 1, 3, 0, 0, 1, 0, 0, 0, 1, 1, 0, 0, 1, 2, 2, // units, bank, registers
-//!     0, 1, 3, 0, 1, 2, 3, 0, 1, 2, 0, 0, 3, 0, 1, 2, 3, 0, 1, 2, // classes
-//!     2, 0, 1, 0, 0, 0, 0, // values and slots
-//!     1, 0, 2, 0, 1, 3, 0, 0, 3, 1, 1, // one patch of two moves
-//! ];
-//! let mut resolver = Resolver::new();
-//! let answer = resolver.answer(&job);
-//! // Of a refused job the patches are only those before the refused one.
-//! assert_eq!(answer.refusal(), None);
-//! for patch in answer.patches() {
-//!     let edits: Vec<String> = patch.edits().map(|edit| edit.to_string()).collect();
-//!     assert_eq!(edits, ["M s0 r1 1", "M r1 r0 0", "M r0 s0 1"]);
+//! /// The edits that move register 0 to register 1, over a target and a
+//! /// function.
+//! fn copy(target_and_function: &[u8]) -> Result<Vec<Edit>, Refusal> {
+//!     let mut moves = ParallelMoves::open(target_and_function)?;
+//!     let mut patch = Patch::new();
+//!     patch.add_move(PhysReg::new(0).into(), PhysReg::new(1).into(), Value::new(0));
+//!     Ok(moves.resolve(&patch)?.iter().collect())
 //! }
+//!
+//! assert_eq!(copy(&[]), Err(Refusal::NotANumber));
 //! ```
+//!
+//! # Building
+//!
+//! The static library is linked when a program is: from `target/staticlib` of
+//! the repository, where `rt staticlib parallel_moves_c` makes it, or from the
+//! folder that `PARALLEL_MOVES_LIB_DIR` names. `cargo check` and `cargo doc`
+//! do without it. [`BUILD`] tells builds apart.
 
 mod answer;
+mod build;
 mod edit;
+mod entity;
+mod parallel_moves;
+mod patch;
 mod refusal;
 mod resolver;
 mod sys;
+#[cfg(test)]
+mod tests;
 
-pub use answer::{Answer, Edits, Patch, Patches};
-pub use edit::{Edit, Place};
-pub use refusal::Refusal;
+pub use answer::{Answer, Patches, RefusedJob, ResolvedPatch};
+pub use build::BUILD;
+pub use edit::{Edit, Edits, Iter};
+pub use entity::{Allocation, AllocationKind, PhysReg, RegUnit, SpillSlot, Value};
+pub use parallel_moves::{MOST_EDITS, ParallelMoves};
+pub use patch::Patch;
+pub use refusal::{Refusal, Unnamed};
 pub use resolver::Resolver;
 
 /// The snippets of the repository's README are compiled with the tests.

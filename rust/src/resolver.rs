@@ -1,49 +1,67 @@
-//! The resolver and its memory.
+//! Whole jobs.
 
 use std::fmt;
 
-use crate::answer::Answer;
-use crate::sys::{self, Memory};
+use crate::answer::{Answer, RefusedJob};
+use crate::refusal::Refusal;
+use crate::sys::Tables;
 
 /// How many words a resolver has room for at first.
 const FIRST_ROOM: usize = 2048;
+/// As many are enough for every job: a move has at least 4 of its 65,536 bytes
+/// and at most 8 edits, a rebuild 3 and 5, and there are 1,024 patches.
+const MOST_WORDS: usize = 2 * 65_536 + 1024;
 
-/// Resolves parallel moves.
+/// Answers whole jobs.
 ///
 /// It owns the memory that the work is done in, about half a megabyte, and uses
 /// it again from call to call: make one and keep it, or one for each thread. No
 /// call depends on the calls before it.
 pub struct Resolver {
-    memory: Memory,
+    tables: Tables,
     /// Where answers are made, before they are handed out.
     words: Vec<u64>,
 }
 
 impl Resolver {
     /// A resolver with memory of its own, on the heap.
+    #[must_use]
     pub fn new() -> Self {
         Resolver {
-            memory: Memory::new(),
+            tables: Tables::new(),
             words: vec![0; FIRST_ROOM],
         }
     }
 
     /// Answers a whole job: its patches one after the other, each with its
-    /// edits, up to the end or to the first refusal. Any bytes can be given.
+    /// edits.
+    ///
+    /// # Errors
+    ///
+    /// If the job is refused; the patches before the refused one stand, and
+    /// the error has them. Any bytes can be given. 16 never comes.
     ///
     /// ```
-    /// let mut resolver = parallel_moves::Resolver::new();
-    /// let refusal = resolver.answer(&[]).refusal().unwrap();
-    /// assert_eq!(refusal.number(), 1);
-    /// assert_eq!(resolver.answer(&[]).text(), "refused 1\n");
+    /// use parallel_moves::{Refusal, Resolver};
+    ///
+    /// let refused = Resolver::new().answer(&[]).unwrap_err();
+    /// assert_eq!(refused.refusal(), Refusal::NotANumber);
+    /// assert_eq!(refused.text(), "refused 1\n");
     /// ```
-    #[must_use = "the answer has the edits, and says whether the job was refused"]
-    pub fn answer(&mut self, job: &[u8]) -> Answer {
+    pub fn answer(&mut self, job: &[u8]) -> Result<Answer, RefusedJob> {
         loop {
-            match sys::answer(&mut self.memory, job, &mut self.words) {
-                Some((count, refusal)) => return Answer::new(&self.words[..count], refusal),
-                None => self.words.resize(2 * self.words.len(), 0),
+            let (count, number) = self.tables.answer(job, &mut self.words);
+            let refusal = Refusal::of_number(number);
+            let room = self.words.len();
+            if refusal == Some(Refusal::ListTooShort) && room < MOST_WORDS {
+                self.words.resize(MOST_WORDS.min(2 * room), 0);
+                continue;
             }
+            let answer = Answer::new(&self.words[..count]);
+            return match refusal {
+                None => Ok(answer),
+                Some(refusal) => Err(RefusedJob::new(refusal, answer)),
+            };
         }
     }
 }

@@ -1,4 +1,9 @@
-//! The library's functions, and the working memory that they are lent.
+//! The library's functions, and the tables that they are lent.
+//!
+//! The names end in the version of the interface: a library with other
+//! parameters or lengths has other names, and does not link.
+
+use crate::entity::RegUnit;
 
 /// A target, as the library keeps it.
 type RegInfo = [u16; 107_520];
@@ -6,8 +11,6 @@ type RegInfo = [u16; 107_520];
 type Function = [u16; 16_387];
 /// A function's emergency slots.
 type SlotCache = [u16; 65_600];
-/// The edits of one patch.
-type List = [u64; 1024];
 /// A set of register units.
 type RegUnitSet = [bool; 512];
 /// A patch under construction.
@@ -28,6 +31,42 @@ type Carried = [u16; 2049];
 // A slice goes as a pointer and a length; an array, or one number, goes as a
 // pointer, which a reference is here.
 unsafe extern "C" {
+    #[link_name = "parallel_moves_open_1"]
+    fn parallel_moves_open(
+        bytes: *const u8,
+        bytes_length: usize,
+        target: &mut RegInfo,
+        function: &mut Function,
+        cache: &mut SlotCache,
+    ) -> u8;
+
+    #[link_name = "parallel_moves_resolve_1"]
+    fn parallel_moves_resolve(
+        target: &RegInfo,
+        function: &Function,
+        free_units: *const u32,
+        free_units_length: usize,
+        numbers: *const u32,
+        numbers_length: usize,
+        cache: &mut SlotCache,
+        list: *mut u64,
+        list_length: usize,
+        refusal: &mut u8,
+        entries: &mut Entries,
+        writers: &mut SparseMap,
+        available: &mut RegUnitSet,
+        sources: &mut RegUnitSet,
+        edits: &mut EditBuffer,
+        slots: &mut Slots,
+        diverted: &mut Diverted,
+        marks: &mut Marks,
+        carried: &mut Carried,
+    ) -> usize;
+
+    #[link_name = "parallel_moves_made_1"]
+    safe fn parallel_moves_made(cache: &SlotCache) -> u16;
+
+    #[link_name = "parallel_moves_answer_1"]
     fn parallel_moves_answer(
         job: *const u8,
         job_length: usize,
@@ -37,7 +76,6 @@ unsafe extern "C" {
         target: &mut RegInfo,
         function: &mut Function,
         cache: &mut SlotCache,
-        list: &mut List,
         free: &mut RegUnitSet,
         entries: &mut Entries,
         writers: &mut SparseMap,
@@ -50,6 +88,7 @@ unsafe extern "C" {
         carried: &mut Carried,
     ) -> usize;
 
+    #[link_name = "parallel_moves_text_1"]
     fn parallel_moves_text(
         words: *const u64,
         words_length: usize,
@@ -59,13 +98,11 @@ unsafe extern "C" {
     ) -> usize;
 }
 
-/// The working tables of the library. What they hold before a call does not
-/// matter.
-pub(crate) struct Memory {
+/// All tables of the library.
+pub(crate) struct Tables {
     target: Box<RegInfo>,
     function: Box<Function>,
     cache: Box<SlotCache>,
-    list: Box<List>,
     free: Box<RegUnitSet>,
     entries: Box<Entries>,
     writers: Box<SparseMap>,
@@ -78,13 +115,12 @@ pub(crate) struct Memory {
     carried: Box<Carried>,
 }
 
-impl Memory {
+impl Tables {
     pub(crate) fn new() -> Self {
-        Memory {
+        Tables {
             target: table(),
             function: table(),
             cache: table(),
-            list: table(),
             free: table(),
             entries: table(),
             writers: table(),
@@ -97,47 +133,132 @@ impl Memory {
             carried: table(),
         }
     }
+
+    /// Answers a job into `words`: how many of them its resolved patches have,
+    /// and the refusal's number or 0. What the tables hold does not matter.
+    pub(crate) fn answer(&mut self, job: &[u8], words: &mut [u64]) -> (usize, u8) {
+        let mut refusal = 0;
+        // SAFETY: `job` and `words` are as long as the function is told, and
+        // each table has the length that it is declared with. `words` and the
+        // tables are borrowed mutably, so that nothing else reads or writes
+        // them. The function keeps no pointer.
+        let count = unsafe {
+            parallel_moves_answer(
+                job.as_ptr(),
+                job.len(),
+                words.as_mut_ptr(),
+                words.len(),
+                &mut refusal,
+                &mut self.target,
+                &mut self.function,
+                &mut self.cache,
+                &mut self.free,
+                &mut self.entries,
+                &mut self.writers,
+                &mut self.available,
+                &mut self.sources,
+                &mut self.edits,
+                &mut self.slots,
+                &mut self.diverted,
+                &mut self.marks,
+                &mut self.carried,
+            )
+        };
+        (count, refusal)
+    }
+
+    /// Opens a function; if it is refused, the number.
+    pub(crate) fn open(mut self, bytes: &[u8]) -> Result<Opened, u8> {
+        // SAFETY: `bytes` is as long as the function is told, and each table
+        // has the length that it is declared with and is borrowed mutably. The
+        // function keeps no pointer.
+        let refusal = unsafe {
+            parallel_moves_open(
+                bytes.as_ptr(),
+                bytes.len(),
+                &mut self.target,
+                &mut self.function,
+                &mut self.cache,
+            )
+        };
+        if refusal == 0 {
+            Ok(Opened(self))
+        } else {
+            Err(refusal)
+        }
+    }
+}
+
+/// The tables of an opened function. Only the functions of this module reach
+/// them.
+pub(crate) struct Opened(Tables);
+
+impl Opened {
+    /// The tables, for another function.
+    pub(crate) fn close(self) -> Tables {
+        self.0
+    }
+
+    /// Resolves a patch into `list`: how many edits it has, and the refusal's
+    /// number or 0.
+    #[inline]
+    pub(crate) fn resolve(
+        &mut self,
+        free: &[RegUnit],
+        entries: &[[u32; 4]],
+        list: &mut [u64],
+    ) -> (usize, u8) {
+        let Opened(tables) = self;
+        let entries = entries.as_flattened();
+        let mut refusal = 0;
+        // SAFETY: target, function and cache are as `open` left them when it
+        // did not refuse, and the cache as the last call left it: `Tables`
+        // becomes `Opened` only there, and nothing else has them. The lists are
+        // as long as the function is told, a unit is one number, and each table
+        // has the length that it is declared with. What is written is borrowed
+        // mutably. The function keeps no pointer.
+        let count = unsafe {
+            parallel_moves_resolve(
+                &tables.target,
+                &tables.function,
+                free.as_ptr().cast(),
+                free.len(),
+                entries.as_ptr(),
+                entries.len(),
+                &mut tables.cache,
+                list.as_mut_ptr(),
+                list.len(),
+                &mut refusal,
+                &mut tables.entries,
+                &mut tables.writers,
+                &mut tables.available,
+                &mut tables.sources,
+                &mut tables.edits,
+                &mut tables.slots,
+                &mut tables.diverted,
+                &mut tables.marks,
+                &mut tables.carried,
+            )
+        };
+        (count, refusal)
+    }
+
+    /// How many emergency slots were made.
+    pub(crate) fn made(&self) -> u16 {
+        parallel_moves_made(&self.0.cache)
+    }
+
+    /// The bytes of the cache, to see that they stay.
+    #[cfg(test)]
+    pub(crate) fn cache(&self) -> &[u16] {
+        &self.0.cache[..]
+    }
 }
 
 /// A table of zeros, made on the heap.
 fn table<T: Copy + Default, const N: usize>() -> Box<[T; N]> {
     let table = vec![T::default(); N].into_boxed_slice();
     table.try_into().ok().expect("it has N items")
-}
-
-/// Answers a job into `words`: how many they are, and the refusal's number or
-/// 0. `None` if `words` is too short.
-pub(crate) fn answer(memory: &mut Memory, job: &[u8], words: &mut [u64]) -> Option<(usize, u8)> {
-    let mut refusal = 0;
-    // SAFETY: `job` and `words` are as long as the function is told, and each
-    // table has the length that it is declared with. `words` and the tables are
-    // borrowed mutably, so that nothing else reads or writes them. The function
-    // keeps no pointer.
-    let count = unsafe {
-        parallel_moves_answer(
-            job.as_ptr(),
-            job.len(),
-            words.as_mut_ptr(),
-            words.len(),
-            &mut refusal,
-            &mut memory.target,
-            &mut memory.function,
-            &mut memory.cache,
-            &mut memory.list,
-            &mut memory.free,
-            &mut memory.entries,
-            &mut memory.writers,
-            &mut memory.available,
-            &mut memory.sources,
-            &mut memory.edits,
-            &mut memory.slots,
-            &mut memory.diverted,
-            &mut memory.marks,
-            &mut memory.carried,
-        )
-    };
-    // An answered job has at least one word.
-    (count != 0 || refusal != 0).then_some((count, refusal))
 }
 
 /// Writes the text of an answer into `text`: its length. `None` if `text` is

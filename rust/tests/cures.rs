@@ -24,7 +24,7 @@ const INTO_R1: &str = "1 0 1 0 2 2 1 0 1 1 3 0";
 /// The number that a job is refused by, or 0.
 fn refusal(job: &[u8]) -> u8 {
     let answer = Resolver::new().answer(job);
-    answer.refusal().map_or(0, |refusal| refusal.number())
+    answer.map_or_else(|refused| refused.refusal().number(), |_| 0)
 }
 
 /// A job of parts, each in numbers.

@@ -1,6 +1,7 @@
 //! What `src/sys.rs` and the C header declare is what the library has: the same
 //! parameters in the same order, with tables of the same lengths. The compiler
-//! cannot see this across languages.
+//! cannot see this across languages. And it is what `c/interface.txt` has for
+//! the version in which the names end, so that none changes without the other.
 
 mod common;
 
@@ -12,7 +13,13 @@ use common::root;
 /// Names of types and constants, and what they stand for.
 type Names = HashMap<String, String>;
 
-const FUNCTIONS: [&str; 2] = ["parallel_moves_answer", "parallel_moves_text"];
+const FUNCTIONS: [&str; 5] = [
+    "parallel_moves_open",
+    "parallel_moves_resolve",
+    "parallel_moves_made",
+    "parallel_moves_answer",
+    "parallel_moves_text",
+];
 
 fn read(path: &str) -> String {
     fs::read_to_string(root().join(path)).unwrap()
@@ -29,9 +36,19 @@ fn between<'a>(text: &'a str, start: &str, end: &str) -> &'a str {
         .0
 }
 
-/// The parameters of a function, each without spaces around it.
-fn parameters<'a>(text: &'a str, start: &str) -> impl Iterator<Item = &'a str> + use<'a> {
-    let parameters = between(text, start, ")").split(',').map(str::trim);
+/// The version of the interface, as the C header says.
+fn interface() -> String {
+    between(
+        &read("c/parallel_moves.h"),
+        "PARALLEL_MOVES_INTERFACE ",
+        "\n",
+    )
+    .to_owned()
+}
+
+/// Parameters, each without spaces around it.
+fn listed(parameters: &str) -> impl Iterator<Item = &str> {
+    let parameters = parameters.split(',').map(str::trim);
     parameters.filter(|parameter| !parameter.is_empty())
 }
 
@@ -50,17 +67,24 @@ fn types(text: &str, names: &mut Names) {
 /// A parameter's type, with names replaced by what they stand for.
 fn type_of(parameter: &str, names: &Names) -> String {
     let (_, kind) = parameter.split_once(": ").unwrap();
-    let (reference, name) = match kind.strip_prefix("&mut ") {
-        Some(name) => ("&mut ", name),
-        None => ("", kind),
-    };
+    let (reference, name) = ["&mut ", "&", ""]
+        .into_iter()
+        .find_map(|reference| Some((reference, kind.strip_prefix(reference)?)))
+        .unwrap();
     format!(
         "{reference}{}",
         names.get(name).map_or(name, String::as_str)
     )
 }
 
-/// The library's parameters, a slice being a pointer and a length.
+/// The result of a function of Rattle or Rust, from what follows its
+/// parameters.
+fn result(after: &str) -> String {
+    let (result, _) = after.split_once(['\n', ';']).unwrap();
+    result.strip_prefix(" -> ").unwrap().to_owned()
+}
+
+/// What the library lends and gives: a slice is a pointer and a length.
 fn library(function: &str) -> Vec<String> {
     let mut names = Names::new();
     for entry in fs::read_dir(root().join("crates")).unwrap() {
@@ -68,8 +92,13 @@ fn library(function: &str) -> Vec<String> {
         types(&fs::read_to_string(path).unwrap_or_default(), &mut names);
     }
     let text = read("crates/parallel_moves_c/src/lib.rt");
+    let start = format!("fn {function}_{}(", interface());
+    let (_, declared) = text
+        .split_once(&start)
+        .unwrap_or_else(|| panic!("no {start}"));
+    let (parameters, after) = declared.split_once(')').unwrap();
     let mut list = Vec::new();
-    for parameter in parameters(&text, &format!("fn {function}(")) {
+    for parameter in listed(parameters) {
         let kind = type_of(parameter, &names);
         let slice = kind.strip_suffix(']').filter(|kind| !kind.contains(';'));
         match slice.and_then(|slice| slice.split_once('[')) {
@@ -78,19 +107,27 @@ fn library(function: &str) -> Vec<String> {
             _ => list.push(kind),
         }
     }
+    list.push(result(after));
     list
 }
 
-/// The parameters that `src/sys.rs` declares.
+/// What `src/sys.rs` declares.
 fn rust(function: &str) -> Vec<String> {
     let text = read("rust/src/sys.rs");
     let mut names = Names::new();
     types(&text, &mut names);
-    let parameters = parameters(&text, &format!("fn {function}("));
-    parameters.map(|p| type_of(p, &names)).collect()
+    let name = format!("#[link_name = \"{function}_{}\"]", interface());
+    let (_, declared) = text
+        .split_once(&name)
+        .unwrap_or_else(|| panic!("no {name}"));
+    let (_, declared) = declared.split_once(&format!("fn {function}(")).unwrap();
+    let (parameters, after) = declared.split_once(')').unwrap();
+    let mut list: Vec<String> = listed(parameters).map(|p| type_of(p, &names)).collect();
+    list.push(result(after));
+    list
 }
 
-/// The parameters that the C header declares, in the words of Rust.
+/// What the C header declares, in the words of Rust.
 fn c(function: &str) -> Vec<String> {
     let text = read("c/parallel_moves.h");
     let mut lengths = Names::new();
@@ -102,35 +139,64 @@ fn c(function: &str) -> Vec<String> {
             lengths.insert(name.to_owned(), length.to_owned());
         }
     }
-    let item = |name: &str| name.trim_end_matches("_t").replace("uint", "u");
+    let item = |name: &str| {
+        let name = name.trim_end_matches("_t").replace("uint", "u");
+        name.replace("size", "usize")
+    };
     let one = |parameter: &str| {
         let (kind, name) = parameter.rsplit_once(' ').unwrap();
-        if let Some((_, length)) = name.trim_end_matches(']').split_once('[') {
-            return format!("&mut [{}; {}]", item(kind), lengths[length]);
-        }
-        match (kind.strip_prefix("const "), name) {
-            (Some(kind), _) => format!("*const {}", item(kind)),
-            (None, "*refusal") => format!("&mut {}", item(kind)),
-            (None, name) if name.starts_with('*') => format!("*mut {}", item(kind)),
-            (None, _) => item(kind).replace("size", "usize"),
+        let (mutable, kind) = match kind.strip_prefix("const ") {
+            Some(kind) => (false, item(kind)),
+            None => (true, item(kind)),
+        };
+        let length = name.strip_suffix(']').and_then(|n| n.split_once('['));
+        match (length, mutable, name) {
+            (Some((_, length)), true, _) => format!("&mut [{kind}; {}]", lengths[length]),
+            (Some((_, length)), false, _) => format!("&[{kind}; {}]", lengths[length]),
+            (None, true, "*refusal") => format!("&mut {kind}"),
+            (None, true, name) if name.starts_with('*') => format!("*mut {kind}"),
+            (None, false, _) => format!("*const {kind}"),
+            (None, true, _) => kind,
         }
     };
-    parameters(&text, &format!("size_t {function}("))
-        .map(one)
-        .collect()
+    let symbol = format!("PARALLEL_MOVES_SYMBOL(\"{function}\")");
+    let (before, _) = text
+        .split_once(&symbol)
+        .unwrap_or_else(|| panic!("no {symbol}"));
+    let (_, declared) = before.rsplit_once("*/").unwrap();
+    let (name, parameters) = declared.trim().split_once('(').unwrap();
+    let words: Vec<&str> = name.split(' ').collect();
+    let mut list: Vec<String> = listed(parameters.trim_end_matches(')')).map(one).collect();
+    list.push(item(words[words.len() - 2]));
+    list
 }
 
 #[test]
 fn parameters_agree() {
+    let mut declared = String::new();
     for function in FUNCTIONS {
         let library = library(function);
-        assert!(library.len() >= 5);
         assert_eq!(rust(function), library, "rust/src/sys.rs, {function}");
         assert_eq!(c(function), library, "c/parallel_moves.h, {function}");
+        declared += &format!("{function}: {}\n", library.join(", "));
     }
+    let interfaces = read("c/interface.txt");
+    let recorded = between(&interfaces, &format!("version {}\n", interface()), "end\n");
+    assert_eq!(
+        recorded, declared,
+        "a changed interface has a new version: count up PARALLEL_MOVES_INTERFACE and the names' \
+         endings, and put it into c/interface.txt"
+    );
 }
 
-/// The struct's tables are those of the function.
+/// The tables of a function's parameters.
+fn tables<'a>(header: &'a str, function: &str) -> Vec<&'a str> {
+    let tables = listed(between(header, &format!(" {function}("), ")"));
+    let tables = tables.filter(|parameter| parameter.ends_with(']'));
+    tables.map(|t| t.trim_start_matches("const ")).collect()
+}
+
+/// The struct's tables are those of the functions.
 #[test]
 fn memory_agrees() {
     let text = read("c/parallel_moves.h");
@@ -140,10 +206,29 @@ fn memory_agrees() {
         .map(str::trim)
         .filter(|f| !f.is_empty())
         .collect();
-    let mut tables: Vec<&str> = parameters(&text, "size_t parallel_moves_answer(")
-        .filter(|parameter| parameter.ends_with(']'))
-        .collect();
+    let mut all = tables(&text, "parallel_moves_answer");
     fields.sort();
-    tables.sort();
-    assert_eq!(fields, tables);
+    all.sort();
+    assert_eq!(fields, all);
+    for function in ["parallel_moves_open", "parallel_moves_resolve"] {
+        for table in tables(&text, function) {
+            assert!(all.contains(&table), "{table}");
+        }
+    }
+}
+
+/// The stamp's version is the crate's.
+#[test]
+fn build_is_stamped() {
+    let start = format!(
+        "parallel_moves {} interface {} library ",
+        env!("CARGO_PKG_VERSION"),
+        interface()
+    );
+    assert!(parallel_moves::BUILD.starts_with(&start));
+    let stamp = root().join("target/staticlib/parallel_moves_build.h");
+    if let Ok(stamp) = fs::read_to_string(stamp) {
+        let stamped = between(&stamp, "#define PARALLEL_MOVES_BUILD \"", "\"");
+        assert_eq!(parallel_moves::BUILD, stamped);
+    }
 }

@@ -4,8 +4,10 @@ mod common;
 
 use std::thread;
 
-use common::{deep_chain, jobs, many_swaps, printed, text};
-use parallel_moves::{Answer, Edit, Place, Refusal, Resolver};
+use common::{deep_chain, jobs, many_swaps, printed, text, text_of};
+use parallel_moves::{
+    Answer, Edit, ParallelMoves, Patch, PhysReg, Refusal, RefusedJob, Resolver, Value,
+};
 
 /// The list of words is enlarged, and the answer is whole.
 #[test]
@@ -13,8 +15,7 @@ fn long_answer() {
     let job = many_swaps();
     let mut resolver = Resolver::new();
     for _ in 0..2 {
-        let answer = resolver.answer(&job);
-        assert_eq!(answer.refusal(), None);
+        let answer = resolver.answer(&job).unwrap();
         assert_eq!(answer.patches().count(), 1024);
         for patch in answer.patches() {
             assert_eq!(patch.edits().len(), 3);
@@ -34,14 +35,14 @@ fn small_stack() {
         .unwrap()
         .join()
         .unwrap();
-    assert_eq!(answer.refusal(), None);
+    let answer = answer.unwrap();
     let patch = answer.patches().next().unwrap();
     let edits = (0..128).rev().map(|n| Edit::Move {
-        to: Place::Register(n + 1),
-        from: Place::Register(n),
-        value: n,
+        to: PhysReg::new(n + 1).into(),
+        from: PhysReg::new(n).into(),
+        value: Value::new(n),
     });
-    assert!(patch.edits().eq(edits));
+    assert!(patch.edits().iter().eq(edits));
 }
 
 /// After a long answer a short one is short.
@@ -59,7 +60,10 @@ fn short_after_long() {
 fn goes_between_threads() {
     fn is_send_and_sync<T: Send + Sync>() {}
     is_send_and_sync::<Resolver>();
+    is_send_and_sync::<ParallelMoves>();
+    is_send_and_sync::<Patch>();
     is_send_and_sync::<Answer>();
+    is_send_and_sync::<RefusedJob>();
     is_send_and_sync::<Edit>();
     is_send_and_sync::<Refusal>();
 }
@@ -74,7 +78,7 @@ fn one_for_each_thread() {
                 let mut resolver = Resolver::new();
                 for _ in 0..100 {
                     for (name, job) in &jobs {
-                        assert_eq!(resolver.answer(job).text(), printed(name), "{name}");
+                        assert_eq!(text_of(&resolver.answer(job)), printed(name), "{name}");
                     }
                 }
             });

@@ -6,9 +6,9 @@ mod common;
 use std::collections::HashMap;
 use std::fs;
 
-use common::machine::{Machine, Register};
+use common::machine::{Machine, Place, Register};
 use common::{encoded, numbers, root, text};
-use parallel_moves::{Place, Resolver};
+use parallel_moves::Resolver;
 
 fn paper() -> String {
     fs::read_to_string(root().join("docs/JOB.md")).unwrap()
@@ -62,7 +62,7 @@ fn answers_are_as_shown() {
 fn swap_full_stop_by_stop() {
     let paper = paper();
     let (job, _) = &shown(&paper)[0];
-    let answer = Resolver::new().answer(job);
+    let answer = Resolver::new().answer(job).unwrap();
     let patch = answer.patches().next().unwrap();
     let mut machine = three(&[(0, '?'.into())]);
     let after = paper.split("| edits done |").nth(1).unwrap();
@@ -83,7 +83,7 @@ fn swap_full_stop_by_stop() {
         }
     };
     check(&machine, "0".into());
-    for (edit, done) in patch.edits().zip(1..) {
+    for (edit, done) in patch.edits().iter().zip(1..) {
         machine.step(edit, &|_| unreachable!());
         check(&machine, format!("{done}: `{edit}`"));
     }
@@ -98,8 +98,8 @@ fn wrong_splits_lose_a_value() {
     let shown = shown(rest);
     let end = |job: &[u8], slots: &[(u16, u32)]| -> (Vec<u32>, HashMap<u16, Vec<u32>>) {
         let mut machine = three(slots);
-        for patch in Resolver::new().answer(job).patches() {
-            machine.run(patch, &|_| unreachable!());
+        for patch in Resolver::new().answer(job).unwrap().patches() {
+            machine.run(patch.edits(), &|_| unreachable!());
         }
         (machine.units, machine.slots)
     };

@@ -10,7 +10,7 @@ use std::fs::{self, File};
 use std::path::{Path, PathBuf};
 use std::process::{Command, Output};
 
-use common::{deep_chain, many_swaps, root};
+use common::{deep_chain, many_swaps, root, text_of};
 use parallel_moves::Resolver;
 
 fn program() -> PathBuf {
@@ -107,7 +107,7 @@ impl Faulty {
 
 /// The whole answer on standard output, and nothing on standard error.
 fn answers(output: &Output, job: &[u8]) {
-    let text = Resolver::new().answer(job).text();
+    let text = text_of(&Resolver::new().answer(job));
     assert!(output.stdout == text.as_bytes(), "it answers otherwise");
     assert!(output.stderr.is_empty(), "it says something");
 }
@@ -168,7 +168,6 @@ fn few_bytes_at_a_time() {
 }
 
 #[test]
-#[ignore = "the program does not see it yet"]
 fn full_device() {
     let path = file("full.job", &many_swaps());
     says_so(&in_shell("", "< \"$JOB\" > /dev/full", &path));
@@ -176,7 +175,6 @@ fn full_device() {
 
 /// A file that may not grow has the answer's beginning, and nothing else.
 #[test]
-#[ignore = "the program does not see it yet"]
 fn file_limit() {
     let job = many_swaps();
     let path = file("limit.job", &job);
@@ -185,13 +183,12 @@ fn file_limit() {
     says_so(&in_shell(&before, "< \"$JOB\"", &path));
     let printed = fs::read(out).unwrap();
     assert!(printed.len() <= 8192);
-    let text = Resolver::new().answer(&job).text();
+    let text = text_of(&Resolver::new().answer(&job));
     assert!(text.as_bytes().starts_with(&printed));
 }
 
 /// A reader that goes away.
 #[test]
-#[ignore = "the program does not see it yet"]
 fn closed_pipe() {
     let path = file("pipe.job", &many_swaps());
     let before = "trap '' PIPE; exec 3> >(:); wait $!";
@@ -199,12 +196,11 @@ fn closed_pipe() {
 }
 
 #[test]
-#[ignore = "the program does not see it yet"]
 fn nothing_after_a_failed_write() {
     let faulty = Faulty::new("writes");
     let job = many_swaps();
     let path = file("writes.job", &job);
-    let text = Resolver::new().answer(&job).text();
+    let text = text_of(&Resolver::new().answer(&job));
     for few in [64, 5000, 1 << 20] {
         for failing in [1, 2, 3, 10] {
             let (output, notes) = faulty.run(&path, &[("FEW", few), ("FAIL_WRITE", failing)]);
@@ -223,7 +219,6 @@ fn nothing_after_a_failed_write() {
 
 /// A call that a signal interrupts is made again.
 #[test]
-#[ignore = "the program does not see it yet"]
 fn interrupted_calls() {
     let faulty = Faulty::new("interrupted");
     let job = many_swaps();
@@ -237,7 +232,6 @@ fn interrupted_calls() {
 
 /// What cannot be read is no job, and not refused as one.
 #[test]
-#[ignore = "the program does not see it yet"]
 fn failed_reads() {
     let path = file("reads.job", &many_swaps());
     says_so(&in_shell("", "< /", &path));

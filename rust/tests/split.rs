@@ -6,8 +6,8 @@ mod common;
 use std::collections::HashMap;
 
 use common::encoded;
-use common::machine::{Machine, Register};
-use parallel_moves::{Answer, Edit, Place, Resolver};
+use common::machine::{Machine, Place, Register};
+use parallel_moves::{Answer, Edit, Resolver};
 
 /// Ordinary slots of a random machine.
 const SLOTS: u16 = 4;
@@ -40,13 +40,6 @@ struct Entry {
 struct Part {
     free: Vec<usize>,
     entries: Vec<Entry>,
-}
-
-fn code(place: Place) -> u32 {
-    match place {
-        Place::Register(r) => 2 * u32::from(r) + 1,
-        Place::Slot(s) => 2 * u32::from(s),
-    }
 }
 
 /// Units below 100, and 100 + s for slot s.
@@ -126,10 +119,10 @@ fn job(
         numbers.push(part.entries.len() as u32);
         for entry in &part.entries {
             match entry.source {
-                Some(source) => numbers.extend([0, code(source)]),
+                Some(source) => numbers.extend([0, source.code()]),
                 None => numbers.push(1),
             }
-            numbers.extend([code(entry.dest), entry.value.into()]);
+            numbers.extend([entry.dest.code(), entry.value.into()]);
         }
     }
     encoded(numbers)
@@ -182,15 +175,17 @@ fn check_slots(registers: &[Register], banks: &[usize], answer: &Answer) {
     for patch in answer.patches() {
         for edit in patch.edits() {
             let (slots, bank) = match edit {
-                Edit::Move { to, from, value } => (vec![to, from], banks[value as usize]),
-                Edit::Rematerialize { to, value } => (vec![to], banks[value as usize]),
-                Edit::EmergencySpill { slot, register }
-                | Edit::EmergencyReload { register, slot } => {
-                    (vec![Place::Slot(slot)], registers[register as usize].bank)
+                Edit::Move { to, from, value } => (vec![to, from], banks[value.index()]),
+                Edit::Rematerialize { to, value } => (vec![to], banks[value.index()]),
+                Edit::EmergencySpill { to, from } => {
+                    (vec![to.into()], registers[from.index()].bank)
+                }
+                Edit::EmergencyReload { to, from } => {
+                    (vec![from.into()], registers[to.index()].bank)
                 }
             };
             for place in slots {
-                match place {
+                match Place::from(place) {
                     Place::Slot(slot) if slot >= SLOTS => {
                         assert_eq!(*bank_of.entry(slot).or_insert(bank), bank, "{edit}");
                     }
@@ -200,7 +195,7 @@ fn check_slots(registers: &[Register], banks: &[usize], answer: &Answer) {
         }
         let mut made: Vec<u16> = bank_of.keys().copied().collect();
         made.sort();
-        assert!(made.into_iter().eq(SLOTS..SLOTS + patch.made()));
+        assert!(made.into_iter().eq(SLOTS..SLOTS + patch.made() as u16));
     }
 }
 
@@ -266,13 +261,14 @@ fn try_one(random: &mut Random, resolver: &mut Resolver) -> usize {
         entries: entries.clone(),
     }];
     for parts in [&whole[..], &parts] {
-        let answer = resolver.answer(&job(&registers, SLOTS, &banks, &rebuilt, parts));
-        assert_eq!(answer.refusal(), None);
+        let answer = resolver
+            .answer(&job(&registers, SLOTS, &banks, &rebuilt, parts))
+            .unwrap();
         assert_eq!(answer.patches().count(), parts.len());
         check_slots(&registers, &banks, &answer);
         let mut machine = start.clone();
         for patch in answer.patches() {
-            machine.run(patch, &content);
+            machine.run(patch.edits(), &content);
         }
         for entry in &entries {
             assert_eq!(machine.read(entry.dest), content(entry.value));
@@ -329,10 +325,11 @@ fn moved(source: Place, dest: Place, value: u16) -> Entry {
 /// What 200 registers hold when all parts are done.
 fn after(parts: &[Part], slots: u16) -> Vec<u32> {
     let (registers, mut machine) = two_hundred();
-    let answer = Resolver::new().answer(&job(&registers, slots, &[0; 200], &[false; 200], parts));
-    assert_eq!(answer.refusal(), None);
+    let answer = Resolver::new()
+        .answer(&job(&registers, slots, &[0; 200], &[false; 200], parts))
+        .unwrap();
     for patch in answer.patches() {
-        machine.run(patch, &|_| unreachable!());
+        machine.run(patch.edits(), &|_| unreachable!());
     }
     machine.units[..200].to_vec()
 }

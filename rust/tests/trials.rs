@@ -3,7 +3,7 @@
 mod common;
 
 use common::{jobs, printed, text};
-use parallel_moves::{Edit, Place, Resolver};
+use parallel_moves::{Edit, PhysReg, Refusal, Resolver, SpillSlot, Value};
 
 #[test]
 fn trials() {
@@ -34,16 +34,21 @@ fn used_again() {
 fn swap_full() {
     let jobs = jobs("examples");
     let (_, job) = jobs.iter().find(|(name, _)| name == "swap-full").unwrap();
-    let answer = Resolver::new().answer(job);
-    assert_eq!(answer.refusal(), None);
+    let answer = Resolver::new().answer(job).unwrap();
     let patches: Vec<_> = answer.patches().collect();
     assert_eq!(patches.len(), 1);
     assert_eq!(patches[0].made(), 1);
-    let (r0, r1, s0) = (Place::Register(0), Place::Register(1), Place::Slot(0));
-    let edit = |to, from, value| Edit::Move { to, from, value };
+    let (r0, r1) = (PhysReg::new(0).into(), PhysReg::new(1).into());
+    let s0 = SpillSlot::new(0).into();
+    let edit = |to, from, value| Edit::Move {
+        to,
+        from,
+        value: Value::new(value),
+    };
     let edits = [edit(s0, r1, 1), edit(r1, r0, 0), edit(r0, s0, 1)];
-    assert!(patches[0].edits().eq(edits));
-    assert!(patches[0].edits().rev().eq(edits.into_iter().rev()));
+    assert!(patches[0].edits().iter().eq(edits));
+    let backwards = patches[0].edits().iter().rev();
+    assert!(backwards.eq(edits.into_iter().rev()));
 }
 
 /// The patches before a refused one stand.
@@ -51,12 +56,13 @@ fn swap_full() {
 fn refused_17() {
     let jobs = jobs("examples");
     let (_, job) = jobs.iter().find(|(name, _)| name == "refused-17").unwrap();
-    let answer = Resolver::new().answer(job);
-    let refusal = answer.refusal().unwrap();
+    let refused = Resolver::new().answer(job).unwrap_err();
+    let refusal = refused.refusal();
+    assert_eq!(refusal, Refusal::OutOfSlots);
     assert_eq!(refusal.number(), 17);
-    assert_eq!(
-        refusal.to_string(),
-        format!("refused 17: {}", refusal.words())
-    );
-    assert_eq!(answer.patches().count(), 1);
+    let printed = format!("refused 17: {}", refusal.words());
+    assert_eq!(refusal.to_string(), printed);
+    assert_eq!(refused.to_string(), printed);
+    assert_eq!(Refusal::from(refused.clone()), refusal);
+    assert_eq!(refused.before().patches().count(), 1);
 }

@@ -109,15 +109,33 @@ fn little_room(
             return Some(format!("{given} bytes of text, with room for {room}"));
         }
     }
-    if count > 0 {
-        for room in [0, count / 2, count - 1] {
-            let (given, number) = ours.answer(job, Some(room));
-            if (given, number) != (0, 0) {
-                return Some(format!(
-                    "{given} words and refusal {number}, with room for {room} words of {count}"
-                ));
-            }
+    let whole = ours.words(count).map(|words| words.to_vec())?;
+    for room in [0, count / 2, count.saturating_sub(1)] {
+        if room < count
+            && let Some(wrong) = short_list(ours, job, &whole, room)
+        {
+            return Some(format!("with room for {room} words of {count}: {wrong}"));
         }
     }
     None
+}
+
+/// What ours does wrong with a list that is too short, if anything: it gives 16
+/// and some of the first patches, and leaves the rest of the list alone.
+fn short_list(ours: &mut Ours, job: &[u8], whole: &[u64], room: usize) -> Option<String> {
+    const LEFT_ALONE: u64 = u64::MAX / 5;
+    ours.words(whole.len())?.fill(LEFT_ALONE);
+    let (given, number) = ours.answer(job, Some(room));
+    if number != 16 || given > room {
+        return Some(format!("{given} words and refusal {number}"));
+    }
+    let words = ours.words(whole.len())?;
+    if words[given..].iter().any(|&word| word != LEFT_ALONE) {
+        return Some(format!("of {given} words, some past them are written"));
+    }
+    let mut end = 0;
+    while end < given {
+        end += 1 + (whole[end] / 8 % 65_536) as usize;
+    }
+    (words[..given] != whole[..given] || end != given).then(|| "other words".to_owned())
 }

@@ -1,6 +1,7 @@
 //! Ours: the static library, with the memory that it is lent.
 
 use judge::answer::{MOST_BYTES, MOST_PATCHES};
+use judge::calls::MOST_EDITS;
 
 /// The words of the longest answer: a move has four bytes of a job and at most
 /// 8 edits, a rebuild three and 5.
@@ -13,6 +14,42 @@ extern crate stub;
 
 #[cfg_attr(not(stub), link(name = "parallel_moves_c", kind = "static"))]
 unsafe extern "C" {
+    #[link_name = "parallel_moves_open_1"]
+    fn parallel_moves_open(
+        bytes: *const u8,
+        bytes_len: usize,
+        target: *mut u16,
+        function: *mut u16,
+        cache: *mut u16,
+    ) -> u8;
+
+    #[link_name = "parallel_moves_resolve_1"]
+    fn parallel_moves_resolve(
+        target: *const u16,
+        function: *const u16,
+        free_units: *const u32,
+        free_units_len: usize,
+        numbers: *const u32,
+        numbers_len: usize,
+        cache: *mut u16,
+        list: *mut u64,
+        list_len: usize,
+        refusal: *mut u8,
+        entries: *mut u16,
+        writers: *mut u16,
+        available: *mut u8,
+        sources: *mut u8,
+        edits: *mut u64,
+        slots: *mut u16,
+        diverted: *mut u16,
+        marks: *mut u8,
+        carried: *mut u16,
+    ) -> usize;
+
+    #[link_name = "parallel_moves_made_1"]
+    fn parallel_moves_made(cache: *const u16) -> u16;
+
+    #[link_name = "parallel_moves_answer_1"]
     fn parallel_moves_answer(
         job: *const u8,
         job_len: usize,
@@ -22,7 +59,6 @@ unsafe extern "C" {
         target: *mut u16,
         function: *mut u16,
         cache: *mut u16,
-        list: *mut u64,
         free_units: *mut u8,
         entries: *mut u16,
         writers: *mut u16,
@@ -35,6 +71,7 @@ unsafe extern "C" {
         carried: *mut u16,
     ) -> usize;
 
+    #[link_name = "parallel_moves_text_1"]
     fn parallel_moves_text(
         words: *const u64,
         words_len: usize,
@@ -95,6 +132,8 @@ pub struct Ours {
     diverted: Lent<u16>,
     marks: Lent<u8>,
     carried: Lent<u16>,
+    /// What the list was last filled with.
+    filled: u64,
 }
 
 impl Ours {
@@ -108,7 +147,7 @@ impl Ours {
             target: shorts(107_520),
             function: shorts(16_387),
             cache: shorts(65_600),
-            list: longs(1024),
+            list: longs(MOST_EDITS),
             free_units: flags(512),
             entries: shorts(1028),
             writers: shorts(6657),
@@ -119,6 +158,7 @@ impl Ours {
             diverted: shorts(12_288),
             marks: Lent::new(129, [0xa5, 1]),
             carried: shorts(2049),
+            filled: 0,
         }
     }
 
@@ -139,7 +179,6 @@ impl Ours {
                 self.target.pointer(),
                 self.function.pointer(),
                 self.cache.pointer(),
-                self.list.pointer(),
                 self.free_units.pointer(),
                 self.entries.pointer(),
                 self.writers.pointer(),
@@ -153,6 +192,84 @@ impl Ours {
             )
         };
         (count, refusal)
+    }
+
+    /// Opens a function: the refusal, or 0.
+    pub fn open(&mut self, bytes: &[u8]) -> u8 {
+        // SAFETY: each array is as long as the function says, and none lies on
+        // another.
+        unsafe {
+            parallel_moves_open(
+                bytes.as_ptr(),
+                bytes.len(),
+                self.target.pointer(),
+                self.function.pointer(),
+                self.cache.pointer(),
+            )
+        }
+    }
+
+    /// Resolves a patch of the function that was opened last, into a list of
+    /// `room` words: how many edits it has, and the refusal.
+    pub fn resolve(&mut self, free: &[u32], numbers: &[u32], room: usize) -> (usize, u8) {
+        let mut refusal = 0x5a;
+        // SAFETY: each array is as long as the function says, the flags are 0
+        // or 1, and none lies on another. Target, function and cache are as
+        // `open` and the last call left them.
+        let count = unsafe {
+            parallel_moves_resolve(
+                self.target.pointer(),
+                self.function.pointer(),
+                free.as_ptr(),
+                free.len(),
+                numbers.as_ptr(),
+                numbers.len(),
+                self.cache.pointer(),
+                self.list.pointer(),
+                room.min(MOST_EDITS),
+                &mut refusal,
+                self.entries.pointer(),
+                self.writers.pointer(),
+                self.available.pointer(),
+                self.sources.pointer(),
+                self.edits.pointer(),
+                self.slots.pointer(),
+                self.diverted.pointer(),
+                self.marks.pointer(),
+                self.carried.pointer(),
+            )
+        };
+        (count, refusal)
+    }
+
+    /// How many emergency slots the function has.
+    pub fn made(&mut self) -> usize {
+        // SAFETY: the cache is as long as the function says.
+        unsafe { parallel_moves_made(self.cache.pointer()) }.into()
+    }
+
+    /// Fills the list that edits are written to, with words that no call before
+    /// saw there.
+    pub fn fill_list(&mut self) {
+        self.filled = self.filled.wrapping_add(0x9e37_79b9_7f4a_7c15);
+        for (word, index) in self.list.all[..MOST_EDITS].iter_mut().zip(0..) {
+            *word = self.filled ^ index;
+        }
+    }
+
+    /// The list that edits are written to, and what lies past its end.
+    pub fn list(&self) -> &[u64] {
+        &self.list.all
+    }
+
+    /// The function's emergency slots, and what lies past the table's end.
+    pub fn cache(&self) -> &[u16] {
+        &self.cache.all
+    }
+
+    /// The target and the function, which no patch changes.
+    pub fn opened(&self) -> [&[u16]; 2] {
+        [&self.target.all, &self.function.all]
     }
 
     /// The first words of the last answer.

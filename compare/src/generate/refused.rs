@@ -43,6 +43,25 @@ pub fn spoil(random: &mut Random, mut draft: Draft) -> Vec<u8> {
     job
 }
 
+/// Spoils a patch for one of the numbers that an entry or the units of a
+/// destination can be refused by: 9 to 13 and 15.
+pub fn spoil_patch(random: &mut Random, draft: &Draft, patch: Patch, number: u8) -> Patch {
+    let mut draft = Draft {
+        patches: vec![patch],
+        ..draft.clone()
+    };
+    spoil_draft(random, &mut draft, number);
+    draft.patches.swap_remove(0)
+}
+
+/// Changes the target and a value so that a patch is refused by 14: that patch,
+/// unless there is none.
+pub fn patch_that_evicts(random: &mut Random, draft: &mut Draft) -> Option<Patch> {
+    let before = std::mem::take(&mut draft.patches);
+    evict_destination(random, draft);
+    std::mem::replace(&mut draft.patches, before).pop()
+}
+
 fn spoil_draft(random: &mut Random, draft: &mut Draft, number: u8) {
     match number {
         3 => list_twice(random, draft),

@@ -4,7 +4,7 @@ use mathlib.Core.Path.{_≡_, refl}
 use mathlib.Core.Option.{Option, none, some}
 use native.Mathlib.Omega.{arith}
 use Rattle.answer.specs.Words.{numberOf}
-use Rattle.answer.specs.declared.Whole.the-variants.{Answered, Refused, Short}
+use Rattle.answer.specs.declared.Whole.the-variants.{Answered, Refused}
 use Rattle.answer.specs.Whole.{ended}
 
 pub none-refused : (n m : ℕ) (o : Option ℕ) → Answered n ≡ ended o m → (n ≡ m) × (0 ≡ numberOf o)
@@ -14,7 +14,3 @@ none-refused n m (some k) e = absurd (let z : _≡_ {A = ℕ} 0 1 = cc in omega 
 pub one-refused : (k n m : ℕ) (o : Option ℕ) → Refused k n ≡ ended o m → (n ≡ m) × (k ≡ numberOf o)
 one-refused k n m none e = absurd (let z : _≡_ {A = ℕ} 0 1 = cc in omega arith)
 one-refused k n m (some j) e = (cc, cc)
-
-pub no-short : (m : ℕ) (o : Option ℕ) → Short ≡ ended o m → ⊥
-no-short m none e = absurd (let z : _≡_ {A = ℕ} 0 1 = cc in omega arith)
-no-short m (some k) e = absurd (let z : _≡_ {A = ℕ} 0 1 = cc in omega arith)

@@ -1,8 +1,12 @@
-pub mod Placing
+pub mod Called
 pub mod Nexting
+pub mod Placing
 pub mod Going
 pub mod Opening
 pub mod Ending
 pub mod Printed
 pub mod Numbers
 pub mod SomeLine
+pub mod Bytes
+pub mod MostWords
+pub mod Room

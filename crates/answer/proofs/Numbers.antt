@@ -1,29 +1,28 @@
 -- Every condition of a job has one of 01's numbers, so its refusal has.
-use Prim.Native.Nat.{ℕ, zero, suc, _+_, _<_, _≤_}
+use Prim.Native.Nat.{ℕ, zero, suc, _+_, _<_}
 use mathlib.Core.Path.{_≡_, refl, subst}
 use mathlib.Core.Bool.{Bool, true, false}
 use mathlib.Core.List.{List, [], _∷_, _++_}
-use mathlib.Core.Option.{some}
 use native.Mathlib.Omega.{arith}
 use borrow.Author.Tests.{leb-true}
-use lib.Dec.{eqb, ltb, leb}
+use lib.Dec.{eqb, leb}
 use lib.ListN.{length, drop}
-use Rattle.entity.specs.Logic.{pick, and, no, any}
+use Rattle.entity.specs.Logic.{pick, and}
 use Rattle.entity.proofs.Laws.{and-true}
 use Rattle.reginfo.specs.RegInfo.{RegInfo}
 use Rattle.reginfo.specs.Refused.{Condition}
 use Rattle.reginfo.specs.Given.{conditionAt}
-use Rattle.function.specs.Function.{Function, numValues}
+use Rattle.function.specs.Function.{Function}
 use Rattle.rules.specs.Scratch.{Cache, emptyCache}
-use Rattle.rules.specs.Patch.{Entry, move, remat, Patch, Sorted, nothingSorted, Answer, entryConditions, add, sorted, patchConditions, resolve}
+use Rattle.rules.specs.Patch.{Entry, move, remat, Patch, Sorted, nothingSorted, Answer, entryConditions, add, patchConditions, resolve}
 use Rattle.rules.specs.Patch as rules
 use Rattle.number.specs.Read.{Read, got, refused}
 use Rattle.number.specs.Number.{number}
 use Rattle.reading.specs.Reading.{tested, times, distinct}
-use Rattle.job_target.specs.Target.{bank, reg, class, unknownClass, target}
+use Rattle.job_target.specs.Target.{bank, reg, class, target}
 use Rattle.job_function.specs.Reads.{value, function}
 use Rattle.job_patch.specs.Patches.{rising, place, entry, patch}
-use Rattle.job.specs.Job.{opening, job}
+use Rattle.job.specs.Job.{opening}
 use Rattle.job.specs.Conditions.{afterGot, inNumber, afterNumber, inTested, afterTested, inTimes, inDistinct, inBank, inReg, inClass, inClasses, inTarget, ofTarget, inRebuilt, inValue, inFunction, inRising, afterResolved, inPlace, inEntry, inEntries, inPatch, ofCall, inPatches, inOpening, jobConditions}
 use Rattle.job.proofs.Conditions.{refusals}
 use Rattle.answer.specs.Words.{Of01, Numbered}

@@ -14,39 +14,28 @@ use small_set::RegUnitSet;
 use sparse::SparseMap;
 use visits::Marks;
 ghost use mathlib.Core.Path.{_≡_};
-ghost use Prim.Native.Nat.{ℕ, _+_, _<_, _≤_};
-ghost use mathlib.Core.List.{_∷_};
-ghost use lib.ListN.{length, take, drop};
+ghost use Prim.Native.Nat.{_<_, _≤_};
+ghost use lib.ListN.{length, drop};
 ghost use Rattle.entity.specs.Logic.{Anything};
 ghost use Rattle.reginfo.specs.Table.{regInfoOf};
 ghost use Rattle.function.specs.Known.{Checked};
 ghost use Rattle.function.specs.Table.{functionOf};
 ghost use Rattle.slots.specs.Stacks.{cacheOf};
 ghost use Rattle.parallel_moves.specs.Given.{CacheOk};
-ghost use Rattle.print.specs.Put.{Put};
 ghost use Rattle.answer_text.specs.Heads.{headWord};
-ghost use Rattle.job.specs.Job.{job, patches};
-ghost use Rattle.answer.specs.Whole.{Fitted, Next, Wholly};
+ghost use Rattle.answer.specs.Room.{patchesIn, jobIn};
+ghost use Rattle.answer.specs.Whole.{behindHead, Next, Wholly};
 
-// How many words the patches that were resolved have, after a refusal too; or that the lent words are too few for them.
+// How many words the patches that were resolved have, after a refusal too.
 pub enum Whole {
     Answered(usize),
     Refused(u8, usize),
-    Short,
 }
 
 // Where the next patch stands and how many words there are then; or why there is none.
 pub enum Onward {
     At(usize, usize),
     Refused(u8),
-    Short,
-}
-
-// It does nothing: a call tells the length of the list that is passed.
-fn told(list: [u64; 1024]) -> bool
-    ensures { λ _. ⌜ length list ≡ 1024 ⌝ }
-{
-    true
 }
 
 fn long(x: u32) -> usize
@@ -63,47 +52,24 @@ fn head(count: usize, made: usize) -> u64
     (made as u64 * 65536 + count as u64) * 8
 }
 
-// The first `count` words of a list, from the n-th lent word on.
-fn put_words(words: &mut [u64], n: usize, list: &[u64], count: usize) -> usize
-    requires { ⌜ (n + count ≤ length (now words)) × (count ≤ length (now list)) ⌝ }
-    ensures { λ r. ⌜ Put (now (words .entry)) (now (words .exit)) n (take count (now (list .entry))) r ⌝ }
+// Where the words behind the head at n begin: where no word is left for it, at the end.
+fn behind(n: usize, len: usize) -> usize
+    requires { ⌜ n ≤ len ⌝ }
+    ensures { λ r. ⌜ r ≡ behindHead n len ⌝ }
 {
-    let mut i = 0;
-    while i < count {
-        words[n + i] = list[i];
-        i += 1;
+    if n < len {
+        return n + 1;
     }
-    n + i
+    n
 }
 
-// A patch's head and its edits' words, if they fit.
-fn put_patch(
-    words: &mut [u64],
-    n: usize,
-    list: &[u64; 1024],
-    count: usize,
-    made: usize,
-    next: usize,
-) -> Onward
-    requires { ⌜ (n ≤ length (now words)) × (count ≤ 1024) × (made < 65536) ⌝ }
-    ensures { λ r. ⌜ Fitted (now (words .entry)) n (headWord count made ∷ take count (now (list .entry))) next r (now (words .exit)) ⌝ }
-{
-    told(*list);
-    if words.len() - n <= count {
-        return Onward::Short;
-    }
-    words[n] = head(count, made);
-    Onward::At(next, put_words(words, n + 1, list, count))
-}
-
-// The patch at an offset: read, resolved, and its words put.
+// The patch at an offset: read, and resolved into the words behind its head; then the head is put. The list lent to its call is what is left there.
 fn answer_next(
     t: &RegInfo,
     f: &Function,
     s: &[u8],
     at: usize,
     cache: &mut SlotCache,
-    list: &mut [u64; 1024],
     free: &mut RegUnitSet,
     e: &mut Entries,
     w: &mut SparseMap,
@@ -119,16 +85,16 @@ fn answer_next(
 ) -> Onward
     requires { ⌜ Checked (now t) (now f) × CacheOk (now f) (now cache) × (n ≤ length (now words)) ⌝ }
     ensures { λ r. ⌜ Next (now (t .entry)) (now (f .entry)) (now (s .entry)) at (now (cache .entry)) (now (cache .exit)) (now (words .entry)) (now (words .exit)) n r ⌝ }
-    ensures { λ _. ⌜ Anything (now (list .exit)) × Anything (now (free .exit)) × Anything (now (e .exit)) × Anything (now (w .exit)) × Anything (now (available .exit)) × Anything (now (sources .exit)) × Anything (now (edits .exit)) × Anything (now (slots .exit)) × Anything (now (d .exit)) × Anything (now (marks .exit)) × Anything (now (c .exit)) ⌝ }
+    ensures { λ _. ⌜ Anything (now (free .exit)) × Anything (now (e .exit)) × Anything (now (w .exit)) × Anything (now (available .exit)) × Anything (now (sources .exit)) × Anything (now (edits .exit)) × Anything (now (slots .exit)) × Anything (now (d .exit)) × Anything (now (marks .exit)) × Anything (now (c .exit)) ⌝ }
 {
-    told(*list);
+    let from = behind(n, words.len());
     match job::answer_patch(
         t,
         f,
         s,
         at,
         cache,
-        list,
+        &mut words[from..],
         free,
         e,
         w,
@@ -142,8 +108,11 @@ fn answer_next(
     ) {
         Step::Refused(k) => Onward::Refused(k),
         Step::Edits(count, next) => {
-            let made = wide(slots::made(cache));
-            put_patch(words, n, list, count, made, next)
+            if from == n {
+                return Onward::Refused(16);
+            }
+            words[n] = head(count, wide(slots::made(cache)));
+            Onward::At(next, from + count)
         }
     }
 }
@@ -156,7 +125,6 @@ fn answer_patches(
     from: usize,
     count: u32,
     cache: &mut SlotCache,
-    list: &mut [u64; 1024],
     free: &mut RegUnitSet,
     e: &mut Entries,
     w: &mut SparseMap,
@@ -170,8 +138,8 @@ fn answer_patches(
     words: &mut [u64],
 ) -> Whole
     requires { ⌜ Checked (now t) (now f) × CacheOk (now f) (now cache) ⌝ }
-    ensures { λ r. ⌜ Wholly (now (words .entry)) (patches (regInfoOf (now (t .entry))) (functionOf (now (f .entry))) count (cacheOf (now (cache .entry))) (drop from (now (s .entry)))) r (now (words .exit)) ⌝ }
-    ensures { λ _. ⌜ Anything (now (cache .exit)) × Anything (now (list .exit)) × Anything (now (free .exit)) × Anything (now (e .exit)) × Anything (now (w .exit)) × Anything (now (available .exit)) × Anything (now (sources .exit)) × Anything (now (edits .exit)) × Anything (now (slots .exit)) × Anything (now (d .exit)) × Anything (now (marks .exit)) × Anything (now (c .exit)) ⌝ }
+    ensures { λ r. ⌜ Wholly (now (words .entry)) (patchesIn (regInfoOf (now (t .entry))) (functionOf (now (f .entry))) count (cacheOf (now (cache .entry))) (length (now (words .entry))) (drop from (now (s .entry)))) r (now (words .exit)) ⌝ }
+    ensures { λ _. ⌜ Anything (now (cache .exit)) × Anything (now (free .exit)) × Anything (now (e .exit)) × Anything (now (w .exit)) × Anything (now (available .exit)) × Anything (now (sources .exit)) × Anything (now (edits .exit)) × Anything (now (slots .exit)) × Anything (now (d .exit)) × Anything (now (marks .exit)) × Anything (now (c .exit)) ⌝ }
 {
     let mut at = from;
     let mut n = 0;
@@ -183,7 +151,6 @@ fn answer_patches(
             s,
             at,
             cache,
-            list,
             free,
             e,
             w,
@@ -199,9 +166,6 @@ fn answer_patches(
         ) {
             Onward::Refused(k) => {
                 return Whole::Refused(k, n);
-            }
-            Onward::Short => {
-                return Whole::Short;
             }
             Onward::At(next, m) => {
                 at = next;
@@ -223,7 +187,6 @@ pub fn answer_job(
     t: &mut RegInfo,
     f: &mut Function,
     cache: &mut SlotCache,
-    list: &mut [u64; 1024],
     free: &mut RegUnitSet,
     e: &mut Entries,
     w: &mut SparseMap,
@@ -235,8 +198,8 @@ pub fn answer_job(
     marks: &mut Marks,
     c: &mut Carried,
 ) -> Whole
-    ensures { λ r. ⌜ Wholly (now (words .entry)) (job (now (s .entry))) r (now (words .exit)) ⌝ }
-    ensures { λ _. ⌜ Anything (now (t .exit)) × Anything (now (f .exit)) × Anything (now (cache .exit)) × Anything (now (list .exit)) × Anything (now (free .exit)) × Anything (now (e .exit)) × Anything (now (w .exit)) × Anything (now (available .exit)) × Anything (now (sources .exit)) × Anything (now (edits .exit)) × Anything (now (slots .exit)) × Anything (now (d .exit)) × Anything (now (marks .exit)) × Anything (now (c .exit)) ⌝ }
+    ensures { λ r. ⌜ Wholly (now (words .entry)) (jobIn (length (now (words .entry))) (now (s .entry))) r (now (words .exit)) ⌝ }
+    ensures { λ _. ⌜ Anything (now (t .exit)) × Anything (now (f .exit)) × Anything (now (cache .exit)) × Anything (now (free .exit)) × Anything (now (e .exit)) × Anything (now (w .exit)) × Anything (now (available .exit)) × Anything (now (sources .exit)) × Anything (now (edits .exit)) × Anything (now (slots .exit)) × Anything (now (d .exit)) × Anything (now (marks .exit)) × Anything (now (c .exit)) ⌝ }
 {
     match job::read_opening(s, t, f) {
         Number::Refused(k) => Whole::Refused(k, 0),
@@ -249,7 +212,6 @@ pub fn answer_job(
                 at,
                 count,
                 cache,
-                list,
                 free,
                 e,
                 w,

@@ -9,12 +9,12 @@ use borrow.Author.Tests.{eq-eqb, ne-eqb}
 use lib.Dec.{eqb}
 use lib.ListN.{length, take}
 use lib.Seq.{take-append-le, take-append-add}
-use Rattle.entity.specs.Logic.{pick, no, and, all}
+use Rattle.entity.specs.Logic.{pick, no, all}
 use Rattle.entity.specs.Place.{Place, reg, slot}
 use Rattle.entity.proofs.Laws.{and-true}
 use Rattle.rules.specs.Edit.{Edit, Move, Rematerialize, EmergencySpill, EmergencyReload}
 use Rattle.edit.specs.Word.{editOf}
-use Rattle.print.specs.Text.{digitsOf, decimal, placeText, newline, patchWord, editsWord, madeWord, refusedWord, editLine, patchLine, refusedLine}
+use Rattle.print.specs.Text.{digitsOf, decimal, placeText, patchWord, editsWord, madeWord, refusedWord, editLine, patchLine, refusedLine}
 use Rattle.print.specs.Words.{lineOf}
 use Rattle.answer_text.specs.Heads.{isHead, countIn, madeIn}
 use Rattle.answer_text.specs.Lines.{answerLine, refusalText, unlessCut, wholeLines, linesWithin}

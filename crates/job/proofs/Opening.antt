@@ -1,19 +1,26 @@
--- The opening of a job: target, function and patch count.
+-- The opening of a job: target and function, and the patch count.
 use Prim.Native.Nat.{ℕ, _<_, _≤_}
-use mathlib.Core.Path.{_≡_, refl, sym}
+use mathlib.Core.Path.{_≡_, refl, sym, ap, _∙_}
+use mathlib.Core.Bool.{Bool, true, false}
 use mathlib.Core.List.{List}
-use mathlib.Core.Option.{none, some}
+use mathlib.Core.Option.{Option, none, some}
+use native.Mathlib.Omega.{arith}
+use lib.Dec.{ltb}
 use lib.ListN.{length, drop}
 use borrow.Author.Tests.{lt-ltb, le-ltb}
+use Rattle.entity.specs.Logic.{pick}
+use Rattle.reginfo.specs.RegInfo.{RegInfo}
 use Rattle.reginfo.specs.Refused.{Accepted, targetRefusal}
 use Rattle.reginfo.specs.Table.{regInfoOf, Indexed}
+use Rattle.function.specs.Function.{Function}
 use Rattle.function.specs.Known.{Checked}
 use Rattle.function.specs.Table.{functionOf}
-use Rattle.number.specs.Read.{refused}
+use Rattle.number.specs.Read.{Read, got, refused, then}
 use Rattle.number.specs.declared.Number.{Number}
 use Rattle.number.specs.declared.Number.the-variants as N
 use Rattle.reading.specs.Reading.{between}
 use Rattle.reading.specs.Answer.{ReadAt}
+use Rattle.reading.specs.declared.Next.{Next}
 use Rattle.reading.specs.declared.Next.the-variants as X
 use Rattle.job_target.specs.Target.{target}
 use Rattle.job_target.specs.Answer.{TargetAt}
@@ -21,38 +28,75 @@ use Rattle.job_function.specs.Reads.{function}
 use Rattle.job_function.specs.Answer.{FunctionRead}
 use Rattle.job_function.proofs.Accepted.{read-accepted}
 use Rattle.job_patch.specs.Patches.{unlessGiven}
-use Rattle.job.specs.Job.{afterTarget, header, opening}
-use Rattle.job.specs.Steps.{HeaderAt}
+use Rattle.job.specs.Job.{Opened, Header, afterTarget, header, withFunction, beginning, opening}
+use Rattle.job.specs.Steps.{BegunAt, HeaderAt}
 
-module _ (s t f : List ℕ) (at : ℕ) where
-  pub function-refused : (k : ℕ) → FunctionRead t s at f (X.Refused k) → HeaderAt s (afterTarget (regInfoOf t) (drop at s)) (N.Refused k) t f
-  unfolding afterTarget
-  function-refused k h = rw (← h .reads) (refl, tt, tt)
-
-  pub function-read : (next : ℕ) (r : Number) → Accepted (regInfoOf t) → Indexed t → FunctionRead t s at f (X.At next) → ReadAt (between 1 1024) s next r → HeaderAt s (afterTarget (regInfoOf t) (drop at s)) r t f
-  unfolding afterTarget
-  function-read next (N.Refused k) at-ok index h g = rw (← h .reads, ← g .reads) (refl, tt, tt)
-  function-read next (N.Is n q) at-ok index h g =
-      let known : Checked t f = record { target = at-ok; indexed = index; function = read-accepted (regInfoOf t) (drop at s) (functionOf f) (drop next s) (sym (h .reads)) } in
-      rw (← h .reads, ← g .reads) (q, refl, refl, g .onward .1, refl, refl, known)
+-- the function of an accepted target
+function-read : (s t f : List ℕ) (at : ℕ) (r : Next) → Accepted (regInfoOf t) → Indexed t → FunctionRead t s at f r → BegunAt s (withFunction (regInfoOf t) (drop at s)) r t f
+unfolding withFunction
+function-read s t f at (X.Refused k) ok index h = rw (← h .reads) (refl, tt, tt)
+function-read s t f at (X.At next) ok index h =
+    let known : Checked t f = record { target = ok; indexed = index; function = read-accepted (regInfoOf t) (drop at s) (functionOf f) (drop next s) (sym (h .reads)) } in
+    rw (← h .reads) (next, refl, refl, h .onward .1, refl, refl, known)
 
 -- a target that is refused, and one that is not
-pub target-refused : (s t t′ f : List ℕ) (at k : ℕ) → some k ≡ targetRefusal (regInfoOf t) → HeaderAt s (unlessGiven (targetRefusal (regInfoOf t)) (afterTarget (regInfoOf t) (drop at s))) (N.Refused k) t′ f
-target-refused s t t′ f at k h = rw (← h) (refl, tt, tt)
+module _ (s t t′ f : List ℕ) (at : ℕ) where
+  pub target-refused : (k : ℕ) → some k ≡ targetRefusal (regInfoOf t) → BegunAt s (unlessGiven (targetRefusal (regInfoOf t)) (withFunction (regInfoOf t) (drop at s))) (X.Refused k) t′ f
+  target-refused k h = rw (← h) (refl, tt, tt)
 
-pub target-taken : (s t t′ f : List ℕ) (at : ℕ) (r : Number) → none ≡ targetRefusal (regInfoOf t) → regInfoOf t′ ≡ regInfoOf t → HeaderAt s (afterTarget (regInfoOf t′) (drop at s)) r t′ f
-    → HeaderAt s (unlessGiven (targetRefusal (regInfoOf t)) (afterTarget (regInfoOf t) (drop at s))) r t′ f
-target-taken s t t′ f at r h e g = let h′ = rw e at g in rw (← h) h′
+  pub target-taken : (r : Next) → none ≡ targetRefusal (regInfoOf t) → regInfoOf t′ ≡ regInfoOf t → Indexed t′ → FunctionRead t′ s at f r
+      → BegunAt s (unlessGiven (targetRefusal (regInfoOf t)) (withFunction (regInfoOf t) (drop at s))) r t′ f
+  target-taken r h e index g =
+      let ok : Accepted (regInfoOf t′) = rw e (sym h) in
+      let h′ = rw e at (function-read s t′ f at r ok index g) in
+      rw (← h) h′
 
 module _ (s t f : List ℕ) where
-  pub too-long : 65536 < length s → HeaderAt s (opening s) (N.Refused 2) t f
-  unfolding opening
+  pub too-long : 65536 < length s → BegunAt s (beginning s) (X.Refused 2) t f
+  unfolding beginning
   too-long h = rw (lt-ltb 65536 (length s) h) (refl, tt, tt)
 
-  pub opening-refused : (k : ℕ) → length s ≤ 65536 → TargetAt s 0 t (X.Refused k) → HeaderAt s (opening s) (N.Refused k) t f
-  unfolding opening header
-  opening-refused k l h = rw (le-ltb 65536 (length s) l, ← h .reads) (refl, tt, tt)
+  pub beginning-refused : (k : ℕ) → length s ≤ 65536 → TargetAt s 0 t (X.Refused k) → BegunAt s (beginning s) (X.Refused k) t f
+  unfolding beginning
+  beginning-refused k l h = rw (le-ltb 65536 (length s) l, ← h .reads) (refl, tt, tt)
 
-  pub opening-read : (t′ : List ℕ) (next : ℕ) (r : Number) → length s ≤ 65536 → TargetAt s 0 t (X.At next) → HeaderAt s (unlessGiven (targetRefusal (regInfoOf t)) (afterTarget (regInfoOf t) (drop next s))) r t′ f → HeaderAt s (opening s) r t′ f
-  unfolding opening header
-  opening-read t′ next r l h g = rw (le-ltb 65536 (length s) l, ← h .reads) g
+  pub beginning-read : (t′ : List ℕ) (next : ℕ) (r : Next) → length s ≤ 65536 → TargetAt s 0 t (X.At next) → BegunAt s (unlessGiven (targetRefusal (regInfoOf t)) (withFunction (regInfoOf t) (drop next s))) r t′ f → BegunAt s (beginning s) r t′ f
+  unfolding beginning
+  beginning-read t′ next r l h g = rw (le-ltb 65536 (length s) l, ← h .reads) g
+
+-- the patch count behind them
+abbrev counted : Opened → List ℕ → Read Header
+counted x q = then (between 1 1024 q) (λ n p. got (record { target = x .target; function = x .function; patches = n }) p)
+
+opening-is : (l : List ℕ) → opening l ≡ then (beginning l) (λ x q. counted x q)
+unfolding opening header afterTarget beginning withFunction
+opening-is l = go (ltb 65536 (length l)) (target l)
+  where
+    of-function : (t : RegInfo) (o : Option ℕ) (y : Read Function)
+        → unlessGiven o (then y (λ f q. counted (record { target = t; function = f }) q)) ≡ then (unlessGiven o (then y (λ f q. got (record { target = t; function = f }) q))) (λ x q. counted x q)
+    of-function t (some k) y = refl
+    of-function t none (refused k) = refl
+    of-function t none (got f q) = refl
+
+    go : (b : Bool) (x : Read RegInfo)
+        → pick b (refused 2) (then x (λ t r. unlessGiven (targetRefusal t) (then (function t r) (λ f q. counted (record { target = t; function = f }) q))))
+        ≡ then (pick b (refused 2) (then x (λ t r. unlessGiven (targetRefusal t) (then (function t r) (λ f q. got (record { target = t; function = f }) q))))) (λ x q. counted x q)
+    go true x = refl
+    go false (refused k) = refl
+    go false (got t r) = of-function t (targetRefusal t) (function t r)
+
+module _ (s t f : List ℕ) where
+  pub opening-refused : (k : ℕ) → BegunAt s (beginning s) (X.Refused k) t f → HeaderAt s (opening s) (N.Refused k) t f
+  opening-refused k h = rw (opening-is s) (go (beginning s) h)
+    where
+      go : (x : Read Opened) → BegunAt s x (X.Refused k) t f → HeaderAt s (then x (λ x q. counted x q)) (N.Refused k) t f
+      go (refused j) h = let z : k ≡ j = cc in (ap N.Refused z, tt, tt)
+      go (got x rest) h = absurd (let z : _≡_ {A = ℕ} 0 1 = cc in omega arith)
+
+  pub opening-read : (next : ℕ) (r : Number) → BegunAt s (beginning s) (X.At next) t f → ReadAt (between 1 1024) s next r → HeaderAt s (opening s) r t f
+  opening-read next r h g = rw (opening-is s) (go (beginning s) r h g)
+    where
+      go : (x : Read Opened) (r : Number) → BegunAt s x (X.At next) t f → ReadAt (between 1 1024) s next r → HeaderAt s (then x (λ x q. counted x q)) r t f
+      go (refused j) r h g = absurd (let z : _≡_ {A = ℕ} 0 1 = cc in omega arith)
+      go (got x rest) (N.Refused j) h g = let same : next ≡ h .0 = cc in rw (h .2, ← same, ← g .reads) (refl, tt, tt)
+      go (got x rest) (N.Is n q) h g = let same : next ≡ h .0 = cc in rw (h .2, ← same, ← g .reads) (q, refl, refl, g .onward .1, h .4, h .5, h .6)

@@ -32,6 +32,17 @@ afterTarget t l = then (function t l) (λ f q. then (between 1 1024 q) (λ n p. 
 unfoldable pub header : List ℕ → Read Header
 header l = then (target l) (λ t r. unlessGiven (targetRefusal t) (afterTarget t r))
 
+-- the same up to the patch count: an accepted target and a function over it
+pub record Opened : Type 0 where
+  pub target : RegInfo
+  pub function : Function
+
+unfoldable pub withFunction : RegInfo → List ℕ → Read Opened
+withFunction t l = then (function t l) (λ f q. got (record { target = t; function = f }) q)
+
+unfoldable pub beginning : List ℕ → Read Opened
+beginning l = pick (ltb 65536 (length l)) (refused 2) (then (target l) (λ t r. unlessGiven (targetRefusal t) (withFunction t r)))
+
 -- of a patch that was resolved: its edits, and how many slots the function then has
 pub record Done : Type 0 where
   pub edits : List Edit

@@ -16,11 +16,19 @@ use Rattle.slots.specs.Stacks.{cacheOf}
 use Rattle.number.specs.Read.{Read, got, refused}
 use Rattle.number.specs.declared.Number.{Number}
 use Rattle.number.specs.declared.Number.the-variants as N
+use Rattle.reading.specs.declared.Next.{Next}
+use Rattle.reading.specs.declared.Next.the-variants as X
 use Rattle.parallel_moves.specs.Given.{CacheOk}
 use Rattle.job_patch.specs.Patches.{patch}
 use Rattle.job.specs.declared.Step.{Step}
 use Rattle.job.specs.declared.Step.the-variants.{Edits, Refused}
-use Rattle.job.specs.Job.{Header, header}
+use Rattle.job.specs.Job.{Opened, Header}
+
+-- target and function read: the tables hold them, and the answer is the next offset; where one is refused, the tables hold anything
+abbrev pub BegunAt : (s : List ℕ) → Read Opened → Next → (t f : List ℕ) → Type 0
+BegunAt s (refused k) r t f = (r ≡ X.Refused k) × Anything t × Anything f
+BegunAt s (got x rest) r t f =
+    (next : ℕ) × (r ≡ X.At next) × (rest ≡ drop next s) × (next ≤ length s) × (regInfoOf t ≡ x .target) × (functionOf f ≡ x .function) × Checked t f
 
 -- the header read: the tables hold the target and the function, and the answer has the patch count and the next offset; where it is refused,
 -- the tables hold anything

@@ -18,8 +18,8 @@ ghost use mathlib.Core.Path.{_≡_};
 ghost use Prim.Native.Nat.{ℕ, _≤_};
 ghost use lib.ListN.{length, drop};
 ghost use Rattle.entity.specs.Logic.{has, Anything};
-ghost use Rattle.reginfo.specs.Refused.{Accepted, targetRefusal};
-ghost use Rattle.reginfo.specs.Table.{regInfoOf, Indexed};
+ghost use Rattle.reginfo.specs.Refused.{targetRefusal};
+ghost use Rattle.reginfo.specs.Table.{regInfoOf};
 ghost use Rattle.function.specs.Known.{Checked};
 ghost use Rattle.function.specs.Table.{functionOf};
 ghost use Rattle.small_set.specs.Set.{setOf};
@@ -29,8 +29,8 @@ ghost use Rattle.entries.specs.Table.{sortedOf};
 ghost use Rattle.entries.specs.Known.{EntriesOk};
 ghost use Rattle.job_patch.specs.Patches.{unlessGiven, patch};
 ghost use Rattle.parallel_moves.specs.Given.{CacheOk};
-ghost use Rattle.job.specs.Job.{opening, header, afterTarget};
-ghost use Rattle.job.specs.Steps.{HeaderAt, CallAt, StepAt};
+ghost use Rattle.job.specs.Job.{withFunction, beginning, opening};
+ghost use Rattle.job.specs.Steps.{BegunAt, HeaderAt, CallAt, StepAt};
 
 // How many edits a patch has and where the next one stands, or 01's number.
 pub enum Step {
@@ -38,29 +38,31 @@ pub enum Step {
     Refused(u8),
 }
 
-// The function and the patch count, once the target is accepted.
-fn read_after_target(s: &[u8], at: usize, t: &RegInfo, f: &mut Function) -> Number
-    requires { ⌜ Accepted (regInfoOf (now t)) × Indexed (now t) ⌝ }
-    ensures { λ r. ⌜ HeaderAt (now (s .entry)) (afterTarget (regInfoOf (now (t .entry))) (drop at (now (s .entry)))) r (now (t .entry)) (now (f .exit)) ⌝ }
+// 4 to 7, then the function.
+fn read_after_target(s: &[u8], at: usize, t: &mut RegInfo, f: &mut Function) -> Next
+    ensures { λ r. ⌜ BegunAt (now (s .entry)) (unlessGiven (targetRefusal (regInfoOf (now (t .entry)))) (withFunction (regInfoOf (now (t .entry))) (drop at (now (s .entry))))) r (now (t .exit)) (now (f .exit)) ⌝ }
 {
-    match job_function::read_function(t, s, at, f) {
-        Next::Refused(k) => Number::Refused(k),
-        Next::At(next) => reading::between(s, next, 1, 1024),
+    match target_check::check(t) {
+        TargetCheck::Accepted => job_function::read_function(t, s, at, f),
+        TargetCheck::OutsideLimits => Next::Refused(2),
+        TargetCheck::ListedTwice => Next::Refused(3),
+        TargetCheck::UnequalWidths => Next::Refused(4),
+        TargetCheck::ForeignMember => Next::Refused(5),
+        TargetCheck::SharedMemory => Next::Refused(6),
+        TargetCheck::UnfitClass => Next::Refused(7),
     }
 }
 
-// 4 to 7, then the function and the patch count.
-fn read_after_test(s: &[u8], at: usize, t: &mut RegInfo, f: &mut Function) -> Number
-    ensures { λ r. ⌜ HeaderAt (now (s .entry)) (unlessGiven (targetRefusal (regInfoOf (now (t .entry)))) (afterTarget (regInfoOf (now (t .entry))) (drop at (now (s .entry))))) r (now (t .exit)) (now (f .exit)) ⌝ }
+// The target and the function that the bytes begin with. What the tables held does not matter.
+pub fn read_beginning(s: &[u8], t: &mut RegInfo, f: &mut Function) -> Next
+    ensures { λ r. ⌜ BegunAt (now (s .entry)) (beginning (now (s .entry))) r (now (t .exit)) (now (f .exit)) ⌝ }
 {
-    match target_check::check(t) {
-        TargetCheck::Accepted => read_after_target(s, at, t, f),
-        TargetCheck::OutsideLimits => Number::Refused(2),
-        TargetCheck::ListedTwice => Number::Refused(3),
-        TargetCheck::UnequalWidths => Number::Refused(4),
-        TargetCheck::ForeignMember => Number::Refused(5),
-        TargetCheck::SharedMemory => Number::Refused(6),
-        TargetCheck::UnfitClass => Number::Refused(7),
+    if 65536 < s.len() {
+        return Next::Refused(2);
+    }
+    match job_target::read_target(s, 0, t) {
+        Next::Refused(k) => Next::Refused(k),
+        Next::At(next) => read_after_target(s, next, t, f),
     }
 }
 
@@ -68,12 +70,9 @@ fn read_after_test(s: &[u8], at: usize, t: &mut RegInfo, f: &mut Function) -> Nu
 pub fn read_opening(s: &[u8], t: &mut RegInfo, f: &mut Function) -> Number
     ensures { λ r. ⌜ HeaderAt (now (s .entry)) (opening (now (s .entry))) r (now (t .exit)) (now (f .exit)) ⌝ }
 {
-    if 65536 < s.len() {
-        return Number::Refused(2);
-    }
-    match job_target::read_target(s, 0, t) {
+    match read_beginning(s, t, f) {
         Next::Refused(k) => Number::Refused(k),
-        Next::At(next) => read_after_test(s, next, t, f),
+        Next::At(next) => reading::between(s, next, 1, 1024),
     }
 }
 

@@ -20,12 +20,12 @@ use Rattle.reading.specs.declared.Next.the-variants.{At, Refused}
 use Rattle.job_patch.specs.Patches.{rising}
 use Rattle.job_patch.specs.Steps.{Freed}
 
-or-none : (a : Bool) → or a false ≡ a
+pub or-none : (a : Bool) → or a false ≡ a
 or-none true = refl
 or-none false = refl
 
 -- a unit in the set, or in front of those listed
-shifted : (a b c : Bool) → or a (or b c) ≡ or (pick b true a) c
+pub shifted : (a b c : Bool) → or a (or b c) ≡ or (pick b true a) c
 shifted true true c = refl
 shifted false true c = refl
 shifted a false c = refl

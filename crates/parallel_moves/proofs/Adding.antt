@@ -20,11 +20,10 @@ use Rattle.entries.specs.Answers.{AddedAs}
 use Rattle.slots.specs.Stacks.{cacheOf}
 use Rattle.parallel_moves.specs.declared.Resolved as R
 use Rattle.parallel_moves.specs.declared.Resolved.{Resolved}
-use Rattle.parallel_moves.specs.Given.{nothingNamed, entryOf, entriesOf, patchOf, Built}
+use Rattle.parallel_moves.specs.Given.{nothingNamed, entryOf, entriesOf, Numbered, Built}
 use Rattle.parallel_moves.specs.Answers.{Gives, Resolves}
 use Rattle.parallel_moves.specs.Steps.{AllAdded}
 use Rattle.parallel_moves.proofs.First.{first-append, resolve-first, resolve-built}
-use Rattle.parallel_moves.proofs.Running.{free-is}
 
 -- an entry by its first number
 module _ (t f e w e′ w′ : List ℕ) (kind x y z : ℕ) (r : Option ℕ) where
@@ -135,19 +134,16 @@ module _ (t f e : List ℕ) (numbers : List ℕ) where
     adding-short e″ w″ (some n) a b one = stopped n e″ w″ nothingNamed [] (left-over a b) one
 
 -- all entries of a patch
-module _ (t f e e′ w′ : List ℕ) (free : List Bool) (numbers list cache : List ℕ) (empty : sortedOf e ≡ nothingSorted) where
-  abbrev patch : Patch
-  patch = patchOf free numbers
-
+module _ (t f e e′ w′ : List ℕ) (free : List Bool) (numbers list cache : List ℕ) (empty : sortedOf e ≡ nothingSorted) (p : Patch) (given : Numbered free numbers p) where
   pub patch-refused : (n : ℕ) → AllAdded t f e e′ w′ (entriesOf numbers) (some n)
-      → Gives f (resolve (T t) (functionOf f) patch (length list) (cacheOf cache)) (R.the-variants.Refused n) list list cache cache
+      → Gives f (resolve (T t) (functionOf f) p (length list) (cacheOf cache)) (R.the-variants.Refused n) list list cache cache
   patch-refused n h =
-      let first : firstOf (entriesConditions (T t) (functionOf f) (entriesOf numbers) nothingSorted) ≡ some n = rw empty at (sym (h .is)) in
-      rw (resolve-first (T t) (functionOf f) patch (length list) (cacheOf cache), first) (refl, refl, refl)
+      let first : firstOf (entriesConditions (T t) (functionOf f) (p .entries) nothingSorted) ≡ some n = rw (given .are) (rw empty at (sym (h .is))) in
+      rw (resolve-first (T t) (functionOf f) p (length list) (cacheOf cache), first) (refl, refl, refl)
 
-  patch-built : AllAdded t f e e′ w′ (entriesOf numbers) none → Built t f free e′ patch
-  patch-built h = record { free-is = free-is free; taken = rw empty at (sym (h .is)); is = rw empty at (h .yes refl) }
+  patch-built : AllAdded t f e e′ w′ (entriesOf numbers) none → Built t f free e′ p
+  patch-built h = record { free-is = given .free-is; taken = rw (given .are) (rw empty at (sym (h .is))); is = rw (given .are) (rw empty at (h .yes refl)) }
 
   pub patch-resolved : (r : Resolved) (list′ cache′ : List ℕ) → AllAdded t f e e′ w′ (entriesOf numbers) none → Resolves t f free e′ r list list′ cache cache′
-      → Gives f (resolve (T t) (functionOf f) patch (length list) (cacheOf cache)) r list list′ cache cache′
-  patch-resolved r list′ cache′ h g = rw (resolve-built t f free e′ patch (patch-built h) (length list) (cacheOf cache)) (g patch (free-is free))
+      → Gives f (resolve (T t) (functionOf f) p (length list) (cacheOf cache)) r list list′ cache cache′
+  patch-resolved r list′ cache′ h g = rw (resolve-built t f free e′ p (patch-built h) (length list) (cacheOf cache)) (g p (given .free-is))

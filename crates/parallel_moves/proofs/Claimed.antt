@@ -16,25 +16,25 @@ use Rattle.parallel_moves.specs.Claim.{Made, ruled, Did, by-numbers, by-
 use Rattle.parallel_moves.proofs.First.{resolve-built}
 use Rattle.parallel_moves.proofs.Resolving.{fresh}
 
-abbrev call : Made → Call
+abbrev pub call : Made → Call
 call x = record { patch = x .patch; room = length (x .list) }
 
 module _ (t f : List ℕ) where
   -- what the call of a patch gave
-  abbrev Gave : Made → List ℕ → Answer → Type 0
+  abbrev pub Gave : Made → List ℕ → Answer → Type 0
   Gave x cache r = Gives f r (x .answer) (x .list) (x .after) cache (x .cache)
 
   -- by either contract it is what the rules answer
   as-ruled : (x : Made) (cache : List ℕ) → Did t f x cache → Gave x cache (ruled t f x (cacheOf cache))
-  as-ruled x cache (by-numbers free numbers is g) = g
+  as-ruled x cache (by-numbers free numbers is g) = g (x .patch) is
   as-ruled x cache (by-entries free e b g) = rw (resolve-built t f free e (x .patch) b (length (x .list)) (cacheOf cache)) (g (x .patch) (b .free-is))
 
-  outcome : (x : Made) (cache : List ℕ) (c : Cache) (r : Answer) → ruled t f x c ≡ r → Gave x cache r → rules.Answered (regInfoOf t) (functionOf f) (x .patch) r → Outcome t f x cache c
+  pub outcome : (x : Made) (cache : List ℕ) (c : Cache) (r : Answer) → ruled t f x c ≡ r → Gave x cache r → rules.Answered (regInfoOf t) (functionOf f) (x .patch) r → Outcome t f x cache c
   outcome x cache c (refused n) e g a = turned n e (g .0) (g .1) (g .2)
   outcome x cache c (resolved es c′) e g a = taken es c′ e (g .0) (g .1) (g .2) (g .3) (g .4) (g .5) a
 
   -- the cache that the next call gets
-  next : (x : Made) (cache : List ℕ) (c : Cache) (r : Answer) → cacheOf cache ≡ c → CacheOk f cache → Gave x cache r → (cacheOf (x .cache) ≡ cacheAfter c r) × CacheOk f (x .cache)
+  pub next : (x : Made) (cache : List ℕ) (c : Cache) (r : Answer) → cacheOf cache ≡ c → CacheOk f cache → Gave x cache r → (cacheOf (x .cache) ≡ cacheAfter c r) × CacheOk f (x .cache)
   next x cache c (refused n) e ok g = (ap cacheOf (g .2) ∙ e, subst (CacheOk f) (sym (g .2)) ok)
   next x cache c (resolved es c′) e ok g = (g .4, g .5)
 

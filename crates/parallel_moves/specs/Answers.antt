@@ -8,14 +8,14 @@ use lib.ListN.{length, drop}
 use Rattle.entity.specs.Logic.{has}
 use Rattle.function.specs.Table.{functionOf}
 use Rattle.small_set.specs.Set.{setOf}
-use Rattle.rules.specs.Patch.{Patch, Answer, refused, resolved, resolveSorted}
+use Rattle.rules.specs.Patch.{Patch, Answer, refused, resolved, resolveSorted, resolve}
 use Rattle.edit.specs.Word.{wordOf, AllInRange}
 use Rattle.slots.specs.Stacks.{cacheOf}
 use Rattle.scratch.specs.State.{T}
 use Rattle.entries.specs.Table.{sortedOf}
 use Rattle.parallel_moves.specs.declared.Resolved as R
 use Rattle.parallel_moves.specs.declared.Resolved.{Resolved}
-use Rattle.parallel_moves.specs.Given.{CacheOk}
+use Rattle.parallel_moves.specs.Given.{Numbered, CacheOk}
 
 -- 01's number, if refused
 abbrev pub numberOf : Resolved → Option ℕ
@@ -39,3 +39,8 @@ Gives f (resolved es c) r list list′ cache cache′ =
 abbrev pub Resolves : (t f : List ℕ) → List Bool → List ℕ → Resolved → (list list′ cache cache′ : List ℕ) → Type 0
 Resolves t f free e r list list′ cache cache′ =
     (p : Patch) → ((u : ℕ) → has u (p .free) ≡ setOf free u) → Gives f (resolveSorted (T t) (functionOf f) p (length list) (cacheOf cache) (sortedOf e)) r list list′ cache cache′
+
+-- of free units and of numbers: the rules' answer to every patch that is given so
+abbrev pub ResolvesPatch : (t f : List ℕ) → List Bool → (numbers : List ℕ) → Resolved → (list list′ cache cache′ : List ℕ) → Type 0
+ResolvesPatch t f free numbers r list list′ cache cache′ =
+    (p : Patch) → Numbered free numbers p → Gives f (resolve (T t) (functionOf f) p (length list) (cacheOf cache)) r list list′ cache cache′

@@ -16,8 +16,8 @@ use Rattle.edit.specs.Word.{wordOf, AllInRange}
 use Rattle.slots.specs.Stacks.{cacheOf}
 use Rattle.slots.specs.Steps.{Cleared}
 use Rattle.parallel_moves.specs.declared.Resolved.{Resolved}
-use Rattle.parallel_moves.specs.Given.{patchOf, Built, CacheOk}
-use Rattle.parallel_moves.specs.Answers.{numberOf, editsIn, Gives, Resolves}
+use Rattle.parallel_moves.specs.Given.{Numbered, Built, CacheOk}
+use Rattle.parallel_moves.specs.Answers.{numberOf, editsIn, Resolves, ResolvesPatch}
 
 -- a call that was made: the patch and the list that it was given beside the cache, and what it answered and left
 pub record Made : Type 0 where
@@ -34,7 +34,7 @@ module _ (t f : List ℕ) where
 
   -- the call did as a contract says: that of `resolve_patch`, its patch given as numbers; that of `resolve`, its patch built of entries
   pub data Did (x : Made) (cache : List ℕ) : Type 0 where
-    by-numbers : (free : List Bool) (numbers : List ℕ) → x .patch ≡ patchOf free numbers → Gives f (ruled x (cacheOf cache)) (x .answer) (x .list) (x .after) cache (x .cache) → Did x cache
+    by-numbers : (free : List Bool) (numbers : List ℕ) → Numbered free numbers (x .patch) → ResolvesPatch t f free numbers (x .answer) (x .list) (x .after) cache (x .cache) → Did x cache
     by-entries : (free : List Bool) (e : List ℕ) → Built t f free e (x .patch) → Resolves t f free e (x .answer) (x .list) (x .after) cache (x .cache) → Did x cache
 
   -- "Each call gets a patch, a lent list and the cache that the last one returned or left [..] nothing else writes the cache between calls":

@@ -44,8 +44,10 @@ entriesOf (kind ∷ x ∷ []) = nothingNamed ∷ []
 entriesOf (kind ∷ x ∷ y ∷ []) = nothingNamed ∷ []
 entriesOf (kind ∷ x ∷ y ∷ z ∷ l) = entryOf kind x y z ∷ entriesOf l
 
-abbrev pub patchOf : List Bool → List ℕ → Patch
-patchOf free numbers = record { free = freeOf free; entries = entriesOf numbers }
+-- a patch given as numbers: the set has its free units, and the numbers are its entries
+pub record Numbered (free : List Bool) (numbers : List ℕ) (p : Patch) : Type 0 where
+  pub free-is : (u : ℕ) → has u (p .free) ≡ setOf free u
+  pub are : p .entries ≡ entriesOf numbers
 
 -- a patch built of entries: the set has its free units, none of its entries is refused, and the table holds what they became
 pub record Built (t f : List ℕ) (free : List Bool) (e : List ℕ) (p : Patch) : Type 0 where

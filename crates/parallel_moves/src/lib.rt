@@ -25,8 +25,8 @@ ghost use Rattle.entries.specs.Answers.{addedOf, AddedAs};
 ghost use Rattle.slots.specs.Stacks.{cacheOf};
 ghost use Rattle.scratch.specs.State.{T};
 ghost use Rattle.scratch.specs.Contracts.{tables};
-ghost use Rattle.parallel_moves.specs.Given.{entryOf, entriesOf, patchOf, CacheOk};
-ghost use Rattle.parallel_moves.specs.Answers.{Gives, Resolves};
+ghost use Rattle.parallel_moves.specs.Given.{entryOf, entriesOf, CacheOk};
+ghost use Rattle.parallel_moves.specs.Answers.{Resolves, ResolvesPatch};
 ghost use Rattle.parallel_moves.specs.Steps.{Ran, CanHandOver, HandedOver, AllAdded};
 
 // How many edits were handed out, or 01's number.
@@ -35,14 +35,13 @@ pub enum Resolved {
     Refused(u8),
 }
 
-// The edits of a patch, whatever the limit on slots.
+// The edits of a patch, whatever the limit on slots. The units that are available at first are the patch's free ones.
 fn run(
     t: &RegInfo,
     f: &Function,
     cache: &SlotCache,
     e: &Entries,
     w: &SparseMap,
-    free: &RegUnitSet,
     available: &mut RegUnitSet,
     sources: &mut RegUnitSet,
     edits: &mut Edits,
@@ -52,12 +51,11 @@ fn run(
     c: &mut Carried,
 ) -> ScratchAllocator
     requires { ⌜ Checked (now t) (now f) × EntriesOk (now t) (now f) (now e) (now w) × CacheOk (now f) (now cache) ⌝ }
-    ensures { λ r. ⌜ Ran (now (t .entry)) (now (f .entry)) (now (cache .entry)) (now (e .entry)) (now (free .entry)) r (tables (now (edits .exit)) (now (available .exit)) (now (slots .exit))) ⌝ }
+    ensures { λ r. ⌜ Ran (now (t .entry)) (now (f .entry)) (now (cache .entry)) (now (e .entry)) (now (available .entry)) r (tables (now (edits .exit)) (now (available .exit)) (now (slots .exit))) ⌝ }
     ensures { λ _. ⌜ Anything (now (sources .exit)) × Anything (now (d .exit)) × Anything (now (marks .exit)) × Anything (now (c .exit)) ⌝ }
 {
     edit::clear(edits);
     slots::begin(slots, cache);
-    small_set::copy_from(available, free);
     let k = ScratchAllocator {
         evicted: Evicted::Nothing,
         made: slots::made(cache),
@@ -91,8 +89,48 @@ fn run(
     )
 }
 
-// Resolves a patch that was built of entries: its edits go to the front of the lent list. On a refusal the list and the cache are left as
-// they were. What the working tables hold does not matter.
+// Resolves a patch that was built of entries and whose free units are the set `available`: its edits go to the front of the lent list. On a
+// refusal the list and the cache are left as they were. What the other working tables hold does not matter.
+pub fn resolve_available(
+    t: &RegInfo,
+    f: &Function,
+    e: &Entries,
+    w: &SparseMap,
+    cache: &mut SlotCache,
+    list: &mut [u64],
+    available: &mut RegUnitSet,
+    sources: &mut RegUnitSet,
+    edits: &mut Edits,
+    slots: &mut Slots,
+    d: &mut Diverted,
+    marks: &mut Marks,
+    c: &mut Carried,
+) -> Resolved
+    requires { ⌜ Checked (now t) (now f) × EntriesOk (now t) (now f) (now e) (now w) × CacheOk (now f) (now cache) ⌝ }
+    ensures { λ r. ⌜ Resolves (now (t .entry)) (now (f .entry)) (now (available .entry)) (now (e .entry)) r (now (list .entry)) (now (list .exit)) (now (cache .entry)) (now (cache .exit)) ⌝ }
+    ensures { λ _. ⌜ Anything (now (available .exit)) × Anything (now (sources .exit)) × Anything (now (edits .exit)) × Anything (now (slots .exit)) × Anything (now (d .exit)) × Anything (now (marks .exit)) × Anything (now (c .exit)) ⌝ }
+{
+    if let Added::Refused(n) = entries::refusal(t, f, e, w, available, list.len()) {
+        return Resolved::Refused(n);
+    }
+    let k = run(
+        t,
+        f,
+        cache,
+        e,
+        w,
+        available,
+        sources,
+        edits,
+        slots,
+        d,
+        marks,
+        c,
+    );
+    hand_over(k, f, cache, list, edits, slots)
+}
+
+// The same with the free units in a set of their own, which is only read. What the working tables hold does not matter.
 pub fn resolve(
     t: &RegInfo,
     f: &Function,
@@ -113,16 +151,14 @@ pub fn resolve(
     ensures { λ r. ⌜ Resolves (now (t .entry)) (now (f .entry)) (now (free .entry)) (now (e .entry)) r (now (list .entry)) (now (list .exit)) (now (cache .entry)) (now (cache .exit)) ⌝ }
     ensures { λ _. ⌜ Anything (now (available .exit)) × Anything (now (sources .exit)) × Anything (now (edits .exit)) × Anything (now (slots .exit)) × Anything (now (d .exit)) × Anything (now (marks .exit)) × Anything (now (c .exit)) ⌝ }
 {
-    if let Added::Refused(n) = entries::refusal(t, f, e, w, free, list.len()) {
-        return Resolved::Refused(n);
-    }
-    let k = run(
+    small_set::copy_from(available, free);
+    resolve_available(
         t,
         f,
-        cache,
         e,
         w,
-        free,
+        cache,
+        list,
         available,
         sources,
         edits,
@@ -130,8 +166,7 @@ pub fn resolve(
         d,
         marks,
         c,
-    );
-    hand_over(k, f, cache, list, edits, slots)
+    )
 }
 
 // 17 where more slots were made than the function may have; else the edits go out and the cache becomes what the patch left.
@@ -208,12 +243,11 @@ pub fn add_entries(
     Added::Yes
 }
 
-// Resolves a patch whose entries are given as numbers, four to an entry: 0 source destination value, or 1 destination value and a number
-// that is not read.
+// Resolves a patch whose free units are the set `available` and whose entries are given as numbers, four to an entry: 0 source destination
+// value, or 1 destination value and a number that is not read.
 pub fn resolve_patch(
     t: &RegInfo,
     f: &Function,
-    free: &RegUnitSet,
     numbers: &[u32],
     cache: &mut SlotCache,
     list: &mut [u64],
@@ -228,19 +262,18 @@ pub fn resolve_patch(
     c: &mut Carried,
 ) -> Resolved
     requires { ⌜ Checked (now t) (now f) × CacheOk (now f) (now cache) ⌝ }
-    ensures { λ r. ⌜ Gives (now (f .entry)) (rules.resolve (T (now (t .entry))) (functionOf (now (f .entry))) (patchOf (now (free .entry)) (now (numbers .entry))) (length (now (list .entry))) (cacheOf (now (cache .entry)))) r (now (list .entry)) (now (list .exit)) (now (cache .entry)) (now (cache .exit)) ⌝ }
+    ensures { λ r. ⌜ ResolvesPatch (now (t .entry)) (now (f .entry)) (now (available .entry)) (now (numbers .entry)) r (now (list .entry)) (now (list .exit)) (now (cache .entry)) (now (cache .exit)) ⌝ }
     ensures { λ _. ⌜ Anything (now (e .exit)) × Anything (now (w .exit)) × Anything (now (available .exit)) × Anything (now (sources .exit)) × Anything (now (edits .exit)) × Anything (now (slots .exit)) × Anything (now (d .exit)) × Anything (now (marks .exit)) × Anything (now (c .exit)) ⌝ }
 {
     entries::new_parallel_move(e, w);
     if let Added::Refused(n) = add_entries(t, f, e, w, numbers) {
         return Resolved::Refused(n);
     }
-    resolve(
+    resolve_available(
         t,
         f,
         e,
         w,
-        free,
         cache,
         list,
         available,

@@ -1,4 +1,4 @@
--- A text that was told: it stands at the front of the lent bytes.
+-- A text that was printed: it stands at the front of the lent bytes.
 use Prim.Native.Nat.{ℕ, _≤_}
 use mathlib.Core.Path.{_≡_, refl, subst}
 use mathlib.Core.Bool.{Bool, true, false}
@@ -11,10 +11,10 @@ use lib.Seq.{take-at}
 use Rattle.answer_text.specs.Lines.{Printed}
 use Rattle.records.specs.declared.Record.{Record}
 use Rattle.records.specs.declared.Record.the-variants.{Is}
-use Rattle.records.specs.Told.{Within, jobWords, textOf, Told}
+use Rattle.records.specs.Told.{Within}
 
-printed : (out out′ text : List ℕ) (n : ℕ) → Printed out out′ text n → (n ≡ 0 → ⊥) → (n ≤ length out) × (take n out′ ≡ text)
-printed out out′ text n p there = go (ltb (length out) (length text)) refl
+pub shown : (out out′ text : List ℕ) (n : ℕ) → Printed out out′ text n → (n ≡ 0 → ⊥) → (n ≤ length out) × (take n out′ ≡ text)
+shown out out′ text n p there = go (ltb (length out) (length text)) refl
   where
     go : (b : Bool) → ltb (length out) (length text) ≡ b → (n ≤ length out) × (take n out′ ≡ text)
     go true h = absurd (there (p .short (ltb-true _ _ h) .0))
@@ -22,14 +22,6 @@ printed out out′ text n p there = go (ltb (length out) (length text)) refl
         let few : length text ≤ length out = ltb-false _ _ h in
         let f = p .fits few in
         (omega (arith, few, f .0), rw (f .1, f .0) (take-at text (drop (length text) out) (length text) refl))
-
-module _ (s out out′ : List ℕ) (n : ℕ) (t : Told s out out′ n) where
-  pub shown : (n ≡ 0 → ⊥) → (n ≤ length out) × (take n out′ ≡ textOf s)
-  shown there = go (ltb 16384 (length (jobWords s))) refl
-    where
-      go : (b : Bool) → ltb 16384 (length (jobWords s)) ≡ b → (n ≤ length out) × (take n out′ ≡ textOf s)
-      go true h = absurd (there (t .short (ltb-true _ _ h) .0))
-      go false h = printed out out′ (textOf s) n (t .fits (ltb-false _ _ h)) there
 
 -- a record that was read lies within the lent bytes
 pub within : (job text : List ℕ) (r : Record) (n m : ℕ) → Within job text r → r ≡ Is n m → (n ≤ length job) × (m ≤ length text)

@@ -5,8 +5,9 @@ ghost use mathlib.Core.Path.{_≡_};
 ghost use Prim.Native.Nat.{_+_, _<_, _≤_};
 ghost use mathlib.Core.Bool.{true};
 ghost use lib.ListN.{length};
+ghost use Rattle.answer_text.specs.Lines.{Printed};
 ghost use Rattle.records.specs.Bytes.{lengthAt, sameList};
-ghost use Rattle.records.specs.Told.{Told, Within};
+ghost use Rattle.records.specs.Told.{Within, textOf};
 
 // The lengths of a record's job and text; or that the stream ends before the record, or in the middle of it. A length past the lent bytes is
 // counted as the latter.
@@ -80,16 +81,15 @@ pub fn read_record(job: &mut [u8], text: &mut [u8]) -> Record
     Record::Cut
 }
 
-// The text of a job's answer, put at the front of the lent bytes. Answers its length; or 0 where it does not fit, with the lines that do, and where
-// it has more than 16,384 words, with no byte written.
+// The text of a job's answer, put at the front of the lent bytes. Answers its length; or 0 where it does not fit, with the lines that do. There are
+// words enough for every job.
 pub fn put_text(job: &[u8], out: &mut [u8]) -> usize
-    ensures { λ r. ⌜ Told (now (job .entry)) (now (out .entry)) (now (out .exit)) r ⌝ }
+    ensures { λ r. ⌜ Printed (now (out .entry)) (now (out .exit)) (textOf (now (job .entry))) r ⌝ }
 {
-    let mut words = [0u64; 16384];
+    let mut words = [0u64; 132096];
     let mut t = [0u16; 107520];
     let mut f = [0u16; 16387];
     let mut cache = [0u16; 65600];
-    let mut list = [0u64; 1024];
     let mut free = [false; 512];
     let mut e = [0u16; 1028];
     let mut w = [0u16; 6657];
@@ -106,7 +106,6 @@ pub fn put_text(job: &[u8], out: &mut [u8]) -> usize
         &mut t,
         &mut f,
         &mut cache,
-        &mut list,
         &mut free,
         &mut e,
         &mut w,
@@ -120,7 +119,6 @@ pub fn put_text(job: &[u8], out: &mut [u8]) -> usize
     ) {
         Whole::Answered(n) => answer_text::put_answer(out, &words[..n], 0),
         Whole::Refused(k, n) => answer_text::put_answer(out, &words[..n], k),
-        Whole::Short => 0,
     }
 }
 

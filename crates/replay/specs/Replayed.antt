@@ -6,8 +6,8 @@ use lib.Dec.{leb}
 use lib.ListN.{length}
 use Rattle.entity.specs.Logic.{and}
 use Rattle.records.specs.Bytes.{sameList}
-use Rattle.records.specs.Told.{jobWords, textOf}
+use Rattle.records.specs.Told.{textOf}
 
--- the recorded text is that of the job's answer, which has room, as have its words
+-- the recorded text is that of the job's answer, which has room
 abbrev pub isReplayed : List ℕ → List ℕ → Bool
-isReplayed s text = and (leb (length (jobWords s)) 16384) (and (leb (length (textOf s)) 65536) (sameList text (textOf s)))
+isReplayed s text = and (leb (length (textOf s)) 65536) (sameList text (textOf s))

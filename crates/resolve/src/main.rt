@@ -1,64 +1,263 @@
-// Reads a job on standard input and prints the edits of its patches, or the number by which it is refused.
-use entity::wide;
+// Reads a job on standard input and prints the edits of its patches, or the number by which it is refused. What could not be read or written is
+// said on standard error.
+use carried::Carried;
+use edit::Edits;
+use entries::Entries;
 use function::Function;
-use job::Step;
-use number::Number;
+use job_text::Progress;
 use reginfo::RegInfo;
+use scratch::Diverted;
 use slots::SlotCache;
+use slots::Slots;
+use small_set::RegUnitSet;
+use sparse::SparseMap;
+use visits::Marks;
 ghost use mathlib.Core.Path.{_≡_};
-ghost use Prim.Native.Nat.{ℕ, _<_, _≤_};
+ghost use Prim.Native.Nat.{ℕ};
 ghost use lib.ListN.{length};
-ghost use Rattle.function.specs.Known.{Checked};
-ghost use Rattle.parallel_moves.specs.Given.{CacheOk};
+ghost use Rattle.entity.specs.Logic.{Anything};
+ghost use Rattle.job_text.specs.Standing.{Stands, Piece};
+ghost use Rattle.resolve.specs.Moving.{MovedIn, GotIn, WroteOn, AllWritten};
 
-// It does nothing: a call tells the length of the list that is passed.
-fn told(list: [u64; 1024]) -> bool
-    ensures { λ _. ⌜ length list ≡ 1024 ⌝ }
+// What a call of the system moved: some bytes; nothing, since the input ends; nothing, since a signal interrupted it; or it failed.
+enum Moved {
+    Bytes(usize),
+    End,
+    Interrupted,
+    Failed,
+}
+
+// How many bytes were read, or that a read failed.
+enum Got {
+    Bytes(usize),
+    Failed,
+}
+
+// How a job's text stands after a write, or that it failed.
+enum Write {
+    On(Progress),
+    Failed,
+}
+
+// How many bytes of a job's text were written, nothing being left, or that a write failed.
+enum Written {
+    All(usize),
+    Failed,
+}
+
+// Why a call moved nothing.
+fn why(got: isize) -> Moved
+    ensures { λ r. ⌜ ((n : ℕ) → MovedIn n r) ⌝ }
 {
+    if got == 0 {
+        return Moved::End;
+    }
+    if os::errno() == libc::EINTR {
+        return Moved::Interrupted;
+    }
+    Moved::Failed
+}
+
+// One read of standard input.
+fn read_some(buf: &mut [u8]) -> Moved
+    ensures { λ r. ⌜ MovedIn (length (now (buf .entry))) r ⌝ }
+{
+    let got = libc::read(0, buf);
+    let n = io::count(got, buf);
+    if 0 < n {
+        return Moved::Bytes(n);
+    }
+    why(got)
+}
+
+// One write to standard output.
+fn write_some(buf: &[u8]) -> Moved
+    ensures { λ r. ⌜ MovedIn (length (now (buf .entry))) r ⌝ }
+{
+    let got = libc::write(1, buf);
+    let n = io::count(got, buf);
+    if 0 < n {
+        return Moved::Bytes(n);
+    }
+    why(got)
+}
+
+// Standard input to its end, or as much as fits. A read that is interrupted is made again, 1,000 times in all.
+fn read_all(buf: &mut [u8]) -> Got
+    ensures { λ r. ⌜ GotIn (now (buf .exit)) r ⌝ }
+{
+    let mut done = 0;
+    let mut again: usize = 1000;
+    while done < buf.len() {
+        match read_some(&mut buf[done..]) {
+            Moved::Bytes(n) => {
+                done += n;
+            }
+            Moved::End => {
+                return Got::Bytes(done);
+            }
+            Moved::Interrupted => {
+                if again == 0 {
+                    return Got::Failed;
+                }
+                again -= 1;
+            }
+            Moved::Failed => {
+                return Got::Failed;
+            }
+        }
+    }
+    Got::Bytes(done)
+}
+
+// Writes all bytes to standard output, and answers whether it could. A write that takes a part is followed by one of the rest, and one that is
+// interrupted is made again, 1,000 times in all.
+fn write_all(buf: &[u8]) -> bool {
+    let mut done = 0;
+    let mut again: usize = 1000;
+    while done < buf.len() {
+        match write_some(&buf[done..]) {
+            Moved::Bytes(n) => {
+                done += n;
+            }
+            Moved::End => {
+                return false;
+            }
+            Moved::Interrupted => {
+                if again == 0 {
+                    return false;
+                }
+                again -= 1;
+            }
+            Moved::Failed => {
+                return false;
+            }
+        }
+    }
     true
 }
 
-fn byte(x: u8) -> usize
-    ensures { λ r. ⌜ (r ≡ x) × (r < 256) ⌝ }
+// Writes what the buffer holds, which is what follows in the text of the job s.
+fn write_piece(s: &[u8], out: &[u8], p: Progress) -> Write
+    requires { ⌜ Piece (now s) (now out) p ⌝ }
+    ensures { λ r. ⌜ WroteOn p r ⌝ }
 {
-    x as usize
+    let n = p.held;
+    if write_all(&out[..n]) {
+        return Write::On(job_text::emptied(p));
+    }
+    Write::Failed
 }
 
-fn long(x: u32) -> usize
-    ensures { λ r. ⌜ (r ≡ x) × (r < 4294967296) ⌝ }
-{
-    x as usize
-}
-
-// The last line of a refused job.
-fn refuse(number: u8) {
-    let x = byte(number);
-    let mut out = [0u8; 64];
-    let n = print::put_refused(&mut out, 0, x);
-    io::write_all(1, &out[..n]);
-}
-
-// The lines of a patch.
-fn show(k: usize, list: &[u64; 1024], count: usize, made: usize)
-    requires { ⌜ (k < 4294967296) × (count ≤ 1024) × (made < 65536) ⌝ }
-{
-    told(*list);
-    let mut out = [0u8; 20480];
-    let n = print::put_patch(&mut out, 0, k, list, count, made);
-    io::write_all(1, &out[..n]);
-}
-
-// The patches of a job, from an offset on.
-fn answer_patches(
-    s: &[u8],
-    from: usize,
-    count: u32,
+// Writes what is left of the text of the job s: whenever the next patch may not fit behind what the buffer holds, and at the end.
+fn write_text(
     t: &RegInfo,
     f: &Function,
+    s: &[u8],
+    from: Progress,
     cache: &mut SlotCache,
-)
-    requires { ⌜ Checked (now t) (now f) × CacheOk (now f) (now cache) ⌝ }
+    list: &mut [u64; 1024],
+    free: &mut RegUnitSet,
+    e: &mut Entries,
+    w: &mut SparseMap,
+    available: &mut RegUnitSet,
+    sources: &mut RegUnitSet,
+    edits: &mut Edits,
+    slots: &mut Slots,
+    d: &mut Diverted,
+    marks: &mut Marks,
+    c: &mut Carried,
+    out: &mut [u8],
+) -> Written
+    requires { ⌜ Stands (now t) (now f) (now s) (now cache) (now out) from × (length (now out) ≡ 65536) ⌝ }
+    ensures { λ r. ⌜ AllWritten (now (s .entry)) r ⌝ }
+    ensures { λ _. ⌜ Anything (now (cache .exit)) × Anything (now (list .exit)) × Anything (now (free .exit)) × Anything (now (e .exit)) × Anything (now (w .exit)) × Anything (now (available .exit)) × Anything (now (sources .exit)) × Anything (now (edits .exit)) × Anything (now (slots .exit)) × Anything (now (d .exit)) × Anything (now (marks .exit)) × Anything (now (c .exit)) × Anything (now (out .exit)) ⌝ }
 {
+    let mut p = from;
+    while !p.ended {
+        if p.held <= 45056 {
+            p = job_text::next(
+                t,
+                f,
+                s,
+                p,
+                cache,
+                list,
+                free,
+                e,
+                w,
+                available,
+                sources,
+                edits,
+                slots,
+                d,
+                marks,
+                c,
+                out,
+            );
+            continue;
+        }
+        let Write::On(q) = write_piece(s, out, p) else {
+            return Written::Failed;
+        };
+        p = q;
+    }
+    match write_piece(s, out, p) {
+        Write::On(q) => Written::All(q.written),
+        Write::Failed => Written::Failed,
+    }
+}
+
+// Answers the job s: all its text is written, or a write failed.
+fn answer(
+    s: &[u8],
+    t: &mut RegInfo,
+    f: &mut Function,
+    cache: &mut SlotCache,
+    list: &mut [u64; 1024],
+    free: &mut RegUnitSet,
+    e: &mut Entries,
+    w: &mut SparseMap,
+    available: &mut RegUnitSet,
+    sources: &mut RegUnitSet,
+    edits: &mut Edits,
+    slots: &mut Slots,
+    d: &mut Diverted,
+    marks: &mut Marks,
+    c: &mut Carried,
+    out: &mut [u8],
+) -> Written
+    requires { ⌜ length (now out) ≡ 65536 ⌝ }
+    ensures { λ r. ⌜ AllWritten (now (s .entry)) r ⌝ }
+    ensures { λ _. ⌜ Anything (now (t .exit)) × Anything (now (f .exit)) × Anything (now (cache .exit)) × Anything (now (list .exit)) × Anything (now (free .exit)) × Anything (now (e .exit)) × Anything (now (w .exit)) × Anything (now (available .exit)) × Anything (now (sources .exit)) × Anything (now (edits .exit)) × Anything (now (slots .exit)) × Anything (now (d .exit)) × Anything (now (marks .exit)) × Anything (now (c .exit)) × Anything (now (out .exit)) ⌝ }
+{
+    let p = job_text::start(s, t, f, cache, out);
+    write_text(
+        t,
+        f,
+        s,
+        p,
+        cache,
+        list,
+        free,
+        e,
+        w,
+        available,
+        sources,
+        edits,
+        slots,
+        d,
+        marks,
+        c,
+        out,
+    )
+}
+
+fn main() {
+    let mut job = [0u8; 65537];
+    let mut t = [0u16; 107520];
+    let mut f = [0u16; 16387];
+    let mut cache = [0u16; 65600];
     let mut list = [0u64; 1024];
     let mut free = [false; 512];
     let mut e = [0u16; 1028];
@@ -70,61 +269,30 @@ fn answer_patches(
     let mut d = [0u16; 12288];
     let mut marks = [0u8; 129];
     let mut c = [0u16; 2049];
-    let mut at = from;
-    let mut left = long(count);
-    let mut k: usize = 1;
-    while 0 < left {
-        match job::answer_patch(
-            t,
-            f,
-            s,
-            at,
-            cache,
-            &mut list,
-            &mut free,
-            &mut e,
-            &mut w,
-            &mut available,
-            &mut sources,
-            &mut edits,
-            &mut slots,
-            &mut d,
-            &mut marks,
-            &mut c,
-        ) {
-            Step::Refused(x) => {
-                refuse(x);
-                return;
-            }
-            Step::Edits(n, next) => {
-                let made = wide(slots::made(cache));
-                show(k, &list, n, made);
-                at = next;
-            }
-        }
-        left -= 1;
-        k += 1;
+    let mut out = [0u8; 65536];
+    let Got::Bytes(n) = read_all(&mut job) else {
+        os::fail(b"resolve: standard input cannot be read");
+        return;
+    };
+    match answer(
+        &job[..n],
+        &mut t,
+        &mut f,
+        &mut cache,
+        &mut list,
+        &mut free,
+        &mut e,
+        &mut w,
+        &mut available,
+        &mut sources,
+        &mut edits,
+        &mut slots,
+        &mut d,
+        &mut marks,
+        &mut c,
+        &mut out,
+    ) {
+        Written::All(_) => {}
+        Written::Failed => os::fail(b"resolve: standard output cannot be written"),
     }
-    if at < s.len() {
-        refuse(8);
-    }
-}
-
-fn answer(s: &[u8], t: &mut RegInfo, f: &mut Function, cache: &mut SlotCache) {
-    match job::read_opening(s, t, f) {
-        Number::Refused(x) => refuse(x),
-        Number::Is(count, at) => {
-            slots::clear(cache);
-            answer_patches(s, at, count, t, f, cache);
-        }
-    }
-}
-
-fn main() {
-    let mut t = [0u16; 107520];
-    let mut f = [0u16; 16387];
-    let mut cache = [0u16; 65600];
-    let mut job = [0u8; 65537];
-    let n = io::read_full(0, &mut job);
-    answer(&job[..n], &mut t, &mut f, &mut cache);
 }

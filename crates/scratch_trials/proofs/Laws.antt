@@ -1,10 +1,12 @@
 -- The trials' steps put together.
 use Prim.Native.Nat.{ℕ, _≤_}
-use mathlib.Core.Path.{_≡_, sym, ap, _∙_}
+use mathlib.Core.Path.{_≡_, refl, sym, ap, _∙_}
 use mathlib.Core.Bool.{Bool, true, false}
 use mathlib.Core.List.{List, [], _∷_}
 use mathlib.Core.Option.{Option, none, some}
 use native.Mathlib.Omega.{arith}
+use types.Run.{OneOf, miss}
+use denote.Enum.Declared.{tagOf}
 use borrow.Author.Tests.{eq-eqb}
 use Rattle.entity.specs.Logic.{has}
 use Rattle.entity.specs.Place.{Place, codeOf, placeAt}
@@ -26,6 +28,11 @@ use Rattle.scratch.specs.Contracts.{Tables, tables, stateOf, FitsIn, Brought, F
 use Rattle.scratch.specs.Diversions.{Diversion, Diverting, countAt, allocAt, scratchAt, diversionAt, divertBy, Diverts, Undiverts}
 use Rattle.scratch.proofs.Bounds.{fewer}
 use Rattle.scratch.proofs.Unlimited.{same-bank}
+use Rattle.target_check.specs.declared.TargetCheck.the-variants as check
+use Rattle.target_check.specs.declared.TargetCheck.{TargetCheck}
+use Rattle.target_check.specs.Checked.{numberOf}
+use Rattle.target_check.proofs.TargetCheck.{the-type}
+use Rattle.scratch_trials.specs.Cells.{afterTrials}
 use Rattle.scratch_trials.specs.Steps.{Started, Ends, slotToSlot, slotsSwapped, rebuilt}
 
 pub never : {A : Type 0} → false ≡ true → A
@@ -106,3 +113,13 @@ module _ (t f cache : List ℕ) where
       let done : stateOf t f cache k₅ w₅ ≡ rules.unevictAll (T t) (F f) (rules.makeAvailable (T t) (F f) to (rules.releasePlace (T t) (F f) (spillslotSize (T t) b) (placeAt (r .place .0)) (rules.push (Rematerialize (placeAt (r .place .0)) v) (stateOf t f cache k₂ w₃)))) =
       all .is ∙ ap (rules.unevictAll (T t) (F f)) (marked ∙ ap (rules.makeAvailable (T t) (F f) to) (released .is ∙ ap (rules.releasePlace (T t) (F f) (spillslotSize (T t) b) (placeAt (r .place .0))) made)) in
       record { is = rw (same-bank f v, ← eb, ← before .is, found .is, moved .is) (ap some (sym done)); few = few }
+
+-- after a target that is refused the function's table is as it was
+pub refused-stays : (r : TargetCheck) (f : List ℕ) → OneOf (1 ∷ 2 ∷ 3 ∷ 4 ∷ 5 ∷ 6 ∷ []) (tagOf the-type r) → f ≡ afterTrials (numberOf r) f
+refused-stays check.Accepted f h = absurd (miss (1 ∷ 2 ∷ 3 ∷ 4 ∷ 5 ∷ 6 ∷ []) 0 tt h)
+refused-stays check.OutsideLimits f h = refl
+refused-stays check.ListedTwice f h = refl
+refused-stays check.UnequalWidths f h = refl
+refused-stays check.ForeignMember f h = refl
+refused-stays check.SharedMemory f h = refl
+refused-stays check.UnfitClass f h = refl

@@ -19,6 +19,7 @@ use target_check::TargetCheck;
 ghost use mathlib.Core.Path.{_≡_};
 ghost use mathlib.Core.Bool.{true, false};
 ghost use Prim.Native.Nat.{_<_, _≤_};
+ghost use Rattle.entity.specs.Logic.{Anything};
 ghost use Rattle.entity.specs.Place.{placeAt};
 ghost use Rattle.reginfo.specs.RegInfo.{numClasses};
 ghost use Rattle.reginfo.specs.Table.{regInfoOf, Indexed};
@@ -33,6 +34,7 @@ ghost use Rattle.scratch.specs.Contracts.{tables};
 ghost use Rattle.scratch.specs.Diversions.{countAt, diversionAt};
 ghost use Rattle.search.specs.Search.{barredBy};
 ghost use Rattle.scratch_trials.specs.Steps.{Started, slotToSlot, slotsSwapped, rebuilt, Ends};
+ghost use Rattle.scratch_trials.specs.Cells.{withCells, threeRegisters, movedValues, rebuiltValue, afterTrials, handedOut, differFrom};
 
 // Nothing made, nothing available, an empty cache.
 fn start(
@@ -105,6 +107,7 @@ fn slots_swapped(
 ) -> ScratchAllocator
     requires { ⌜ Checked (now t) (now f) × PlaceFits (now t) (p .0) × PlaceFits (now t) (q .0) × (v .0 < numValues (functionOf (now f))) × (w .0 < numValues (functionOf (now f))) × (countAt (now d) (w .0) ≡ 0) × Fits 0 2 14 (now t) k (now edits) (now slots) (now cache) ⌝ }
     ensures { λ r. ⌜ Ends (now (t .entry)) (now (f .entry)) (now (cache .entry)) (slotsSwapped (T (now (t .entry))) (F (now (f .entry))) (barredBy true (now (sources .entry))) (placeAt (p .0)) (placeAt (q .0)) (v .0) (w .0) (diversionAt (now (d .entry)) (w .0))) k (tables (now (edits .entry)) (now (available .entry)) (now (slots .entry))) r (tables (now (edits .exit)) (now (available .exit)) (now (slots .exit))) ⌝ }
+    ensures { λ _. ⌜ Anything (now (d .exit)) ⌝ }
 {
     let b = function::value_bank(f, w);
     let c = function::value_bank(f, v);
@@ -147,7 +150,9 @@ fn rebuild(
 }
 
 // The target of the trials: three registers of one unit, one bank, and two classes of all three, of which the first includes slots.
-fn three(t: &mut RegInfo) {
+fn three(t: &mut RegInfo)
+    ensures { λ _. ⌜ now (t .exit) ≡ withCells threeRegisters (now (t .entry)) ⌝ }
+{
     t[2] = 1;
     t[18] = 1;
     t[24] = 1;
@@ -174,18 +179,21 @@ fn three(t: &mut RegInfo) {
     t[42498] = 2;
 }
 
-// Whether the edits differ from these, which end in zeros.
-fn differ(e: &Edits, want: [u64; 8]) -> bool
+// Whether the edits differ from these, which end in a zero.
+fn differ(e: &Edits, want: [u64; 9]) -> bool
     requires { ⌜ countOf (now e) ≤ 1024 ⌝ }
+    ensures { λ r. ⌜ r ≡ differFrom 9 0 (handedOut (now (e .entry))) want ⌝ }
 {
     let mut list = [0u64; 1024];
     edit::hand_out(e, &mut list);
-    let low = (list[0] ^ want[0]) | (list[1] ^ want[1]) | (list[2] ^ want[2]) | (list[3] ^ want[3]);
-    let high = (list[4] ^ want[4])
-        | (list[5] ^ want[5])
-        | (list[6] ^ want[6])
-        | (list[7] ^ want[7]);
-    low | high | list[8] != 0
+    let mut i = 0;
+    while i < 9 {
+        if list[i] != want[i] {
+            return true;
+        }
+        i += 1;
+    }
+    false
 }
 
 fn report(name: &[u8], other: bool) {
@@ -228,6 +236,7 @@ fn report_slot_to_slot(t: &RegInfo, f: &Function)
         0,
         0,
         0,
+        0,
     ];
     report(b"slot 0 to slot 1", differ(&edits, want));
 }
@@ -266,6 +275,7 @@ fn report_slots_swapped(t: &RegInfo, f: &Function)
         edit::move_word(Allocation(5), Allocation(4), Value(1)),
         edit::move_word(Allocation(0), Allocation(5), Value(1)),
         edit::reload_word(PhysReg(2), SpillSlot(3)),
+        0,
     ];
     report(b"slots swapped", differ(&edits, want));
 }
@@ -304,6 +314,7 @@ fn report_rebuild(t: &RegInfo, f: &Function)
         0,
         0,
         0,
+        0,
     ];
     report(b"rebuild into slot 0", differ(&edits, want));
 }
@@ -325,6 +336,7 @@ fn ready(t: &RegInfo, f: &Function) -> bool
 // The trials with values that are not rebuilt; N and L are 2.
 fn move_trials(t: &RegInfo, f: &mut Function)
     requires { ⌜ reginfo.Accepted (regInfoOf (now t)) × Indexed (now t) ⌝ }
+    ensures { λ _. ⌜ now (f .exit) ≡ withCells movedValues (now (f .entry)) ⌝ }
 {
     f[16384] = 2;
     f[16385] = 2;
@@ -338,6 +350,7 @@ fn move_trials(t: &RegInfo, f: &mut Function)
 // The trial with a value that class 1 rebuilds; N is 1.
 fn rebuild_trial(t: &RegInfo, f: &mut Function)
     requires { ⌜ reginfo.Accepted (regInfoOf (now t)) × Indexed (now t) ⌝ }
+    ensures { λ _. ⌜ now (f .exit) ≡ withCells rebuiltValue (now (f .entry)) ⌝ }
 {
     f[1] = 2;
     f[2] = 1;
@@ -348,7 +361,10 @@ fn rebuild_trial(t: &RegInfo, f: &mut Function)
     }
 }
 
-fn trials(t: &mut RegInfo, f: &mut Function) {
+// All of them, if the target is accepted.
+fn trials(t: &mut RegInfo, f: &mut Function)
+    ensures { λ _. ⌜ (regInfoOf (now (t .exit)) ≡ regInfoOf (now (t .entry))) × (now (f .exit) ≡ afterTrials (reginfo.targetRefusal (regInfoOf (now (t .entry)))) (now (f .entry))) ⌝ }
+{
     let TargetCheck::Accepted = target_check::check(t) else {
         return;
     };

@@ -1,8 +1,55 @@
 //! The machine of `docs/JOB.md`: what units and slots hold while edits are done.
 
 use std::collections::HashMap;
+use std::fmt;
 
-use parallel_moves::{Edit, Patch, Place};
+use parallel_moves::{Allocation, AllocationKind, Edit, Edits, PhysReg, SpillSlot};
+
+/// A place, by its number.
+#[derive(Clone, Copy, Debug, PartialEq, Eq)]
+pub enum Place {
+    Register(u16),
+    Slot(u16),
+}
+
+impl Place {
+    pub fn code(self) -> u32 {
+        match self {
+            Place::Register(r) => 2 * u32::from(r) + 1,
+            Place::Slot(s) => 2 * u32::from(s),
+        }
+    }
+}
+
+impl From<PhysReg> for Place {
+    fn from(reg: PhysReg) -> Self {
+        Place::Register(reg.index() as u16)
+    }
+}
+
+impl From<SpillSlot> for Place {
+    fn from(slot: SpillSlot) -> Self {
+        Place::Slot(slot.index() as u16)
+    }
+}
+
+impl From<Allocation> for Place {
+    fn from(place: Allocation) -> Self {
+        match place.kind() {
+            AllocationKind::PhysReg(reg) => reg.into(),
+            AllocationKind::SpillSlot(slot) => slot.into(),
+        }
+    }
+}
+
+impl fmt::Display for Place {
+    fn fmt(&self, f: &mut fmt::Formatter<'_>) -> fmt::Result {
+        match self {
+            Place::Register(r) => write!(f, "r{r}"),
+            Place::Slot(s) => write!(f, "s{s}"),
+        }
+    }
+}
 
 /// A register of a target: whether it is memory, its bank and its units.
 #[derive(Clone)]
@@ -57,22 +104,21 @@ impl Machine {
     pub fn step(&mut self, edit: Edit, content: &impl Fn(u16) -> Vec<u32>) {
         match edit {
             Edit::Move { to, from, .. } => {
+                let (to, from) = (to.into(), from.into());
                 assert!(!(self.is_memory(to) && self.is_memory(from)), "{edit}");
                 self.write(to, self.read(from));
             }
-            Edit::Rematerialize { to, value } => self.write(to, content(value)),
-            Edit::EmergencySpill { slot, register } => {
-                self.write(Place::Slot(slot), self.read(Place::Register(register)));
+            Edit::Rematerialize { to, value } => {
+                self.write(to.into(), content(value.index() as u16));
             }
-            Edit::EmergencyReload { register, slot } => {
-                self.write(Place::Register(register), self.read(Place::Slot(slot)));
-            }
+            Edit::EmergencySpill { to, from } => self.write(to.into(), self.read(from.into())),
+            Edit::EmergencyReload { to, from } => self.write(to.into(), self.read(from.into())),
         }
     }
 
     /// Does all edits of a patch.
-    pub fn run(&mut self, patch: Patch<'_>, content: &impl Fn(u16) -> Vec<u32>) {
-        for edit in patch.edits() {
+    pub fn run(&mut self, edits: Edits<'_>, content: &impl Fn(u16) -> Vec<u32>) {
+        for edit in edits {
             self.step(edit, content);
         }
     }

@@ -8,7 +8,7 @@ use std::io::{self, Write};
 use std::path::{Path, PathBuf};
 use std::process::Command;
 
-use parallel_moves::{Answer, Resolver};
+use parallel_moves::{Answer, RefusedJob, Resolver};
 
 pub mod machine;
 
@@ -97,18 +97,38 @@ pub fn printed(name: &str) -> String {
     fs::read_to_string(path.with_extension("out")).expect("each trial has a .out")
 }
 
+/// An answer, or a refused one.
+pub type Answered = Result<Answer, RefusedJob>;
+
+/// The patches that were resolved, whether or not the job was refused.
+pub fn resolved(answer: &Answered) -> &Answer {
+    match answer {
+        Ok(answer) => answer,
+        Err(refused) => refused.before(),
+    }
+}
+
+/// The text of an answer, by the library.
+pub fn text_of(answer: &Answered) -> String {
+    match answer {
+        Ok(answer) => answer.text(),
+        Err(refused) => refused.text(),
+    }
+}
+
 /// The text of an answer, made of its patches, edits and refusal rather than by
 /// the library.
-pub fn text_of_parts(answer: &Answer) -> String {
+pub fn text_of_parts(answer: &Answered) -> String {
     let mut text = String::new();
-    for (index, patch) in answer.patches().enumerate() {
-        let (number, count, made) = (index + 1, patch.edits().len(), patch.made());
+    for (patch, number) in resolved(answer).into_iter().zip(1..) {
+        let (count, made) = (patch.edits().len(), patch.made());
         text += &format!("patch {number} edits {count} made {made}\n");
-        for edit in patch.edits() {
+        for edit in patch {
             text += &format!("{edit}\n");
         }
     }
-    if let Some(refusal) = answer.refusal() {
+    if let Err(refused) = answer {
+        let refusal = refused.refusal();
         assert!((1..=17).contains(&refusal.number()));
         assert!(!refusal.words().is_empty());
         text += &format!("refused {}\n", refusal.number());
@@ -120,9 +140,11 @@ pub fn text_of_parts(answer: &Answer) -> String {
 /// taken apart.
 pub fn text(resolver: &mut Resolver, job: &[u8]) -> String {
     let answer = resolver.answer(job);
-    let text = answer.text();
+    let text = text_of(&answer);
     assert_eq!(text, text_of_parts(&answer));
-    assert_eq!(text, answer.to_string());
+    if let Ok(answer) = answer {
+        assert_eq!(text, answer.to_string());
+    }
     text
 }
 

@@ -1,19 +1,42 @@
 use native.Mathlib.Omega.{arith}
 use mathlib.Core.Path.{_∙_}
-use Rattle.answer.proofs.Nexting.{next-refused, resolved, next-put}
 use borrow.Author.Needs.{needs}
+use lib.ListN.{drop}
+use Rattle.reginfo.specs.Table.{regInfoOf}
+use Rattle.function.specs.Table.{functionOf}
+use Rattle.job_patch.specs.Patches.{patch}
+use Rattle.answer.proofs.Called.{called, few}
+use Rattle.answer.proofs.Placing.{from-within, one-left, edits-fit, back-length, next-refused, no-head, next-put}
 use Rattle.answer.proofs.answer_next.Statement.{statement}
 use Rattle.answer.proofs.answer_next.Tie as tie
 use Rattle.answer.proofs.answer_next.Reads as reads
 use Rattle.answer.proofs.answer_next.Lts as lts
-use Rattle.answer.proofs.put_patch.Reads as put-patch-reads
-use Rattle.answer.proofs.told.Reads as told-reads
+use Rattle.answer.proofs.behind.Reads as behind-reads
+use Rattle.answer.proofs.head.Reads as head-reads
 use Rattle.entity.proofs.wide.Reads as wide-reads
 use Rattle.job.proofs.answer_patch.Reads as answer-patch-reads
 use Rattle.slots.proofs.made.Reads as made-reads
 
-told-requires : tie.Need-told-requires
-told-requires c κs = search needs
+behind-requires : tie.Need-behind-requires
+behind-requires c κs = search needs
+
+mul-answer-patch : tie.Need-mul-answer-patch
+mul-answer-patch c =
+    let s = c .before .before .before .before in
+    omega (arith, from-within (s .args .words .now) (s .args .n) (c .before .behind .result) (s .pre .2) (c .before .behind .ensures), s .good .1 .1 .1 .1 .1 .1 .1 .1 .1 .1 .1 .1 .1 .1 .1 .0)
+
+sub-answer-patch : tie.Need-sub-answer-patch
+sub-answer-patch c =
+    let s = c .before .before .before .before in
+    omega (arith, from-within (s .args .words .now) (s .args .n) (c .before .behind .result) (s .pre .2) (c .before .behind .ensures))
+
+part-answer-patch-start : tie.Need-part-answer-patch-start
+part-answer-patch-start c =
+    let s = c .before .before .before .before in
+    from-within (s .args .words .now) (s .args .n) (c .before .behind .result) (s .pre .2) (c .before .behind .ensures)
+
+part-answer-patch-end : tie.Need-part-answer-patch-end
+part-answer-patch-end c = search needs
 
 answer-patch-requires : tie.Need-answer-patch-requires
 answer-patch-requires c κs = search needs
@@ -24,46 +47,98 @@ enum-known-k c = search needs
 enum-known-count : tie.Need-enum-known-count
 enum-known-count c = search needs
 
+same-length : tie.Need-same-length
+same-length c = search needs
+
+returns : tie.Need-returns
+returns c =
+    let s = c .before .before .before .before .before .before .before .before .before .before .before .before .before .before .before .before .before .before .before .before .before .before in
+    let b = c .before .before .before .before .before .before .before .before .before .before .before .before .before .before .before .before .before .before .before .behind in
+    let p = c .before .before .before .before .before .before .answer-patch in
+    let g = called (s .args .t .now) (s .args .f .now) (s .args .s .now) _ (s .args .cache .now) (p .last .1 .1 .1 .1 .1 .0) (p .last .1 .1 .1 .1 .0) _ _ _ (rw (c .before .before .count .given .1) at (p .ensures .0)) in
+    (no-head (s .args .t .now) (s .args .f .now) (s .args .s .now) (s .args .at) (s .args .words .now) (s .args .n) (b .result) (s .pre .2) (b .ensures) (s .args .cache .now) (p .last .1 .1 .1 .1 .1 .0) (p .last .1 .1 .1 .1 .0) _ _ g (p .kept .1 .1 .1 .1 .1 .0) (c .if1 .taken), (tt, tt, tt, tt, tt, tt, tt, tt, tt, tt))
+
 made-requires : tie.Need-made-requires
 made-requires c κs = search needs
 
 wide-requires : tie.Need-wide-requires
 wide-requires c κs = search needs
 
-put-patch-requires : tie.Need-put-patch-requires
-put-patch-requires c κs =
+head-requires : tie.Need-head-requires
+head-requires c κs =
     let s = c .before .before .before .before .before .before .before .before .before .before .before .before .before .before .before .before .before .before .before .before .before .before .before .before .before in
-    let p = c .before .before .before .before .before .before .before .before .answer-patch in
-    let g = resolved (s .args .t .now) (s .args .f .now) (s .args .s .now) (s .args .at) (s .args .list .now) (c .before .before .before .before .before .before .before .before .before .before .before .before .before .before .before .before .before .before .before .before .before .told .ensures) (s .args .cache .now) (p .last .1 .1 .1 .1 .1 .0) (p .last .1 .1 .1 .1 .0) _ _ (rw (c .before .before .before .before .before .before .count .given .1) at (p .ensures .0)) in
-    (omega (arith, s .pre .2), omega (arith, g .within, p .kept .1 .1 .1 .1 .1 .0, c .before .before .before .before .before .before .before .before .before .before .before .before .before .before .before .before .before .before .before .before .before .told .ensures), c .before .before .wide .ensures .1)
+    let b = c .before .before .before .before .before .before .before .before .before .before .before .before .before .before .before .before .before .before .before .before .before .before .behind in
+    let p = c .before .before .before .before .before .before .before .before .before .answer-patch in
+    let g = called (s .args .t .now) (s .args .f .now) (s .args .s .now) _ (s .args .cache .now) (p .last .1 .1 .1 .1 .1 .0) (p .last .1 .1 .1 .1 .0) _ _ _ (rw (c .before .before .before .before .before .count .given .1) at (p .ensures .0)) in
+    (few (s .args .t .now) (s .args .f .now) (s .args .s .now) _ (s .args .cache .now) (p .last .1 .1 .1 .1 .1 .0) (p .last .1 .1 .1 .1 .0) (s .args .at) _ _ (s .pre .0) g, c .wide .ensures .1)
 
-returns : tie.Need-returns
-returns c =
-    let s = c .before .before .before .before .before .before .before .before .before .before .before .before .before .before .before .before .before .before .before .before in
-    let p = c .before .before .before .answer-patch in
-    (next-refused (s .args .t .now) (s .args .f .now) (s .args .s .now) (s .args .at) (s .args .list .now) (c .before .before .before .before .before .before .before .before .before .before .before .before .before .before .before .before .told .ensures) (s .args .cache .now) (p .last .1 .1 .1 .1 .1 .0) (p .last .1 .1 .1 .1 .0) (s .args .words .now) (s .args .n) _ (rw (c .before .k .given .1) at (p .ensures .0)), (tt, tt, tt, tt, tt, tt, tt, tt, tt, tt, tt))
+mul-words : tie.Need-mul-words
+mul-words c =
+    let s = c .before .before .before .before .before .before .before .before .before .before .before .before .before .before .before .before .before .before .before .before .before .before .before .before .before .before in
+    let b = c .before .before .before .before .before .before .before .before .before .before .before .before .before .before .before .before .before .before .before .before .before .before .before .behind in
+    let p = c .before .before .before .before .before .before .before .before .before .before .answer-patch in
+    let o = one-left (s .args .words .now) (s .args .n) (b .result) (s .pre .2) (b .ensures) (c .before .before .before .before .if1 .left) in
+    omega (arith, o .1, s .good .1 .1 .1 .1 .1 .1 .1 .1 .1 .1 .1 .1 .1 .1 .1 .0)
 
-same-length : tie.Need-same-length
-same-length c = search needs
+slice-write-words : tie.Need-slice-write-words
+slice-write-words c =
+    let s = c .before .before .before .before .before .before .before .before .before .before .before .before .before .before .before .before .before .before .before .before .before .before .before .before .before .before in
+    let b = c .before .before .before .before .before .before .before .before .before .before .before .before .before .before .before .before .before .before .before .before .before .before .before .behind in
+    let p = c .before .before .before .before .before .before .before .before .before .before .answer-patch in
+    let o = one-left (s .args .words .now) (s .args .n) (b .result) (s .pre .2) (b .ensures) (c .before .before .before .before .if1 .left) in
+    omega (arith, o .1, back-length (s .args .words .now) (s .args .n) (b .result) (p .last .1 .1 .1 .1 .1 .0) (from-within (s .args .words .now) (s .args .n) (b .result) (s .pre .2) (b .ensures)) (p .kept .1 .1 .1 .1 .1 .0))
+
+add-t42 : tie.Need-add-t42
+add-t42 c =
+    let s = c .before .before .before .before .before .before .before .before .before .before .before .before .before .before .before .before .before .before .before .before .before .before .before .before .before .before in
+    let b = c .before .before .before .before .before .before .before .before .before .before .before .before .before .before .before .before .before .before .before .before .before .before .before .behind in
+    let p = c .before .before .before .before .before .before .before .before .before .before .answer-patch in
+    let o = one-left (s .args .words .now) (s .args .n) (b .result) (s .pre .2) (b .ensures) (c .before .before .before .before .if1 .left) in
+    let g = called (s .args .t .now) (s .args .f .now) (s .args .s .now) _ (s .args .cache .now) (p .last .1 .1 .1 .1 .1 .0) (p .last .1 .1 .1 .1 .0) (patch (regInfoOf (s .args .t .now)) (functionOf (s .args .f .now)) (drop (s .args .at) (s .args .s .now))) _ _ (rw (c .before .before .before .before .before .before .count .given .1) at (p .ensures .0)) in
+    omega (arith, edits-fit (s .args .words .now) (s .args .n) (b .result) (o .0) (o .1) (g .es) 0 (p .last .1 .1 .1 .1 .1 .0) (g .listed) (p .kept .1 .1 .1 .1 .1 .0), g .counted, s .good .1 .1 .1 .1 .1 .1 .1 .1 .1 .1 .1 .1 .1 .1 .1 .0)
+
+same-length-2 : tie.Need-same-length-2
+same-length-2 c = search needs
 
 returns-2 : tie.Need-returns-2
 returns-2 c =
-    let s = c .before .before .before .before .before .before .before .before .before .before .before .before .before .before .before .before .before .before .before .before .before .before .before .before .before .before .before .before in
-    let p = c .before .before .before .before .before .before .before .before .before .before .before .answer-patch in
-    let w = c .before .before .put-patch in
-    (next-put (s .args .t .now) (s .args .f .now) (s .args .s .now) (s .args .at) (s .args .list .now) (c .before .before .before .before .before .before .before .before .before .before .before .before .before .before .before .before .before .before .before .before .before .before .before .before .told .ensures) (s .args .cache .now) (p .last .1 .1 .1 .1 .1 .0) (p .last .1 .1 .1 .1 .0) (w .result) _ _ _ (s .args .words .now) (w .last .0) (s .args .n) (p .kept .1 .1 .1 .1 .1 .0 ∙ c .before .before .before .before .before .before .before .before .before .before .before .before .before .before .before .before .before .before .before .before .before .before .before .before .told .ensures) (c .before .before .before .before .before .wide .ensures .1) (rw (c .before .before .before .before .before .before .before .before .before .count .given .1) at (p .ensures .0)) (c .before .before .before .before .before .wide .ensures .0 ∙ c .before .before .before .before .before .before .made .ensures) (w .ensures), (tt, tt, tt, tt, tt, tt, tt, tt, tt, tt, tt))
+    let s = c .before .before .before .before .before .before .before .before .before .before .before .before .before .before .before .before .before .before .before .before .before in
+    let b = c .before .before .before .before .before .before .before .before .before .before .before .before .before .before .before .before .before .before .behind in
+    let p = c .before .before .before .before .before .answer-patch in
+    (next-refused (s .args .t .now) (s .args .f .now) (s .args .s .now) (s .args .at) (s .args .words .now) (s .args .n) (b .result) (s .pre .2) (b .ensures) (s .args .cache .now) (p .last .1 .1 .1 .1 .1 .0) (p .last .1 .1 .1 .1 .0) _ (rw (c .before .k .given .1) at (p .ensures .0)), (tt, tt, tt, tt, tt, tt, tt, tt, tt, tt))
+
+same-length-3 : tie.Need-same-length-3
+same-length-3 c = search needs
+
+returns-3 : tie.Need-returns-3
+returns-3 c =
+    let s = c .before .before .before .before .before .before .before .before .before .before .before .before .before .before .before .before .before .before .before .before .before .before .before .before .before .before in
+    let b = c .before .before .before .before .before .before .before .before .before .before .before .before .before .before .before .before .before .before .before .before .before .before .before .behind in
+    let p = c .before .before .before .before .before .before .before .before .before .before .answer-patch in
+    let g = called (s .args .t .now) (s .args .f .now) (s .args .s .now) _ (s .args .cache .now) (p .last .1 .1 .1 .1 .1 .0) (p .last .1 .1 .1 .1 .0) _ _ _ (rw (c .before .before .before .before .before .before .count .given .1) at (p .ensures .0)) in
+    (next-put (s .args .t .now) (s .args .f .now) (s .args .s .now) (s .args .at) (s .args .words .now) (s .args .n) (b .result) (s .pre .2) (b .ensures) (s .args .cache .now) (p .last .1 .1 .1 .1 .1 .0) (p .last .1 .1 .1 .1 .0) _ _ g (p .kept .1 .1 .1 .1 .1 .0) (c .before .before .before .before .if1 .left) (few (s .args .t .now) (s .args .f .now) (s .args .s .now) _ (s .args .cache .now) (p .last .1 .1 .1 .1 .1 .0) (p .last .1 .1 .1 .1 .0) (s .args .at) _ _ (s .pre .0) g) _ _ (c .before .wide .ensures .1) (c .before .wide .ensures .0 ∙ c .before .before .made .ensures) (c .head .ensures), (tt, tt, tt, tt, tt, tt, tt, tt, tt, tt))
 
 pub answer-next-spec : {M : Type 1} → statement M
 answer-next-spec =
     tie.close
     (tie.spec
-    told-requires
+    behind-requires
+    mul-answer-patch
+    sub-answer-patch
+    part-answer-patch-start
+    part-answer-patch-end
     answer-patch-requires
     enum-known-k
     enum-known-count
+    same-length
+    returns
     made-requires
     wide-requires
-    put-patch-requires
-    returns
-    same-length
-    returns-2)
+    head-requires
+    mul-words
+    slice-write-words
+    add-t42
+    same-length-2
+    returns-2
+    same-length-3
+    returns-3)

@@ -1,17 +1,14 @@
-use Rattle.job.proofs.Opening.{too-long, opening-refused, opening-read}
+use Rattle.job.proofs.Opening.{opening-refused, opening-read}
 use borrow.Author.Needs.{needs}
 use Rattle.job.proofs.read_opening.Statement.{statement}
 use Rattle.job.proofs.read_opening.Tie as tie
 use Rattle.job.proofs.read_opening.Reads as reads
 use Rattle.job.proofs.read_opening.Lts as lts
-use Rattle.job.proofs.read_after_test.Reads as read-after-test-reads
-use Rattle.job_target.proofs.read_target.Reads as read-target-reads
+use Rattle.job.proofs.read_beginning.Reads as read-beginning-reads
+use Rattle.reading.proofs.between.Reads as between-reads
 
-returns : tie.Need-returns
-returns c = too-long _ _ _ (c .if1 .taken)
-
-read-target-requires : tie.Need-read-target-requires
-read-target-requires c κs = search needs
+read-beginning-requires : tie.Need-read-beginning-requires
+read-beginning-requires c κs = search needs
 
 enum-known-k : tie.Need-enum-known-k
 enum-known-k c = search needs
@@ -19,23 +16,22 @@ enum-known-k c = search needs
 enum-known-next : tie.Need-enum-known-next
 enum-known-next c = search needs
 
-read-after-test-requires : tie.Need-read-after-test-requires
-read-after-test-requires c κs = search needs
+between-requires : tie.Need-between-requires
+between-requires c κs = search needs
+
+returns : tie.Need-returns
+returns c = opening-refused _ _ _ _ (rw (c .before .k .given .1) at (c .before .before .before .read-beginning .ensures))
 
 returns-2 : tie.Need-returns-2
-returns-2 c = opening-refused _ _ _ _ (c .before .before .before .before .before .if1 .left) (rw (c .before .k .given .1) at (c .before .before .before .read-target .ensures))
-
-returns-3 : tie.Need-returns-3
-returns-3 c = opening-read _ (c .before .before .before .before .before .before .read-target .last .1 .1 .0) _ _ _ _ (c .before .before .before .before .before .before .before .before .if1 .left) (rw (c .before .before .before .before .next .given .1) at (c .before .before .before .before .before .before .read-target .ensures)) (c .read-after-test .ensures)
+returns-2 c = opening-read _ _ _ _ (c .between .result) (rw (c .before .before .next .given .1) at (c .before .before .before .before .read-beginning .ensures)) (c .between .ensures)
 
 pub read-opening-spec : {M : Type 1} → statement M
 read-opening-spec =
     tie.close
     (tie.spec
-    returns
-    read-target-requires
+    read-beginning-requires
     enum-known-k
     enum-known-next
-    read-after-test-requires
-    returns-2
-    returns-3)
+    between-requires
+    returns
+    returns-2)

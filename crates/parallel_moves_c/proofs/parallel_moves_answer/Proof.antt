@@ -1,5 +1,6 @@
-use Rattle.job.specs.Job.{job}
-use Rattle.parallel_moves_c.proofs.Answering.{answered, refused, too-short}
+use lib.ListN.{length}
+use Rattle.answer.specs.Room.{jobIn}
+use Rattle.parallel_moves_c.proofs.Answering.{answered, refused}
 use borrow.Author.Needs.{needs}
 use Rattle.parallel_moves_c.proofs.parallel_moves_answer.Statement.{statement}
 use Rattle.parallel_moves_c.proofs.parallel_moves_answer.Tie as tie
@@ -16,26 +17,17 @@ enum-known-n c = search needs
 enum-known-k : tie.Need-enum-known-k
 enum-known-k c = search needs
 
-enum-told : tie.Need-enum-told
-enum-told c = search needs
-
 same-length : tie.Need-same-length
 same-length c = search needs
 
 returns : tie.Need-returns
-returns c = let p = c .before .before .before .before .before .answer-job in (answered (c .before .before .before .before .before .before .before .before .before .before .before .before .before .before .before .before .before .before .before .before .before .before .before .args .words .now) (job (c .before .before .before .before .before .before .before .before .before .before .before .before .before .before .before .before .before .before .before .before .before .before .before .args .bytes .now)) (p .last .1 .0) _ (rw (c .before .n .given .1) at (p .ensures .0)), (tt, tt, tt, tt, tt, tt, tt, tt, tt, tt, tt, tt, tt, tt))
+returns c = let p = c .before .before .before .before .before .answer-job in (answered (c .before .before .before .before .before .before .before .before .before .before .before .before .before .before .before .before .before .before .before .before .before .before .args .words .now) (jobIn (length (c .before .before .before .before .before .before .before .before .before .before .before .before .before .before .before .before .before .before .before .before .before .before .args .words .now)) (c .before .before .before .before .before .before .before .before .before .before .before .before .before .before .before .before .before .before .before .before .before .before .args .bytes .now)) (p .last .1 .0) _ (rw (c .before .n .given .1) at (p .ensures .0)), (tt, tt, tt, tt, tt, tt, tt, tt, tt, tt, tt, tt, tt))
 
 same-length-2 : tie.Need-same-length-2
 same-length-2 c = search needs
 
 returns-2 : tie.Need-returns-2
-returns-2 c = let p = c .before .before .before .before .before .answer-job in (refused (c .before .before .before .before .before .before .before .before .before .before .before .before .before .before .before .before .before .before .before .before .before .before .before .args .words .now) (job (c .before .before .before .before .before .before .before .before .before .before .before .before .before .before .before .before .before .before .before .before .before .before .before .args .bytes .now)) (p .last .1 .0) _ _ (rw (c .before .k .given .1) at (p .ensures .0)), (tt, tt, tt, tt, tt, tt, tt, tt, tt, tt, tt, tt, tt, tt))
-
-same-length-3 : tie.Need-same-length-3
-same-length-3 c = search needs
-
-returns-3 : tie.Need-returns-3
-returns-3 c = let p = c .before .before .before .before .answer-job in (too-short (c .before .before .before .before .before .before .before .before .before .before .before .before .before .before .before .before .before .before .before .before .before .before .args .words .now) (job (c .before .before .before .before .before .before .before .before .before .before .before .before .before .before .before .before .before .before .before .before .before .before .args .bytes .now)) (p .last .1 .0) (rw (c .enum-told .given .1) at (p .ensures .0)), (tt, tt, tt, tt, tt, tt, tt, tt, tt, tt, tt, tt, tt, tt))
+returns-2 c = let p = c .before .before .before .before .before .answer-job in (refused (c .before .before .before .before .before .before .before .before .before .before .before .before .before .before .before .before .before .before .before .before .before .before .args .words .now) (jobIn (length (c .before .before .before .before .before .before .before .before .before .before .before .before .before .before .before .before .before .before .before .before .before .before .args .words .now)) (c .before .before .before .before .before .before .before .before .before .before .before .before .before .before .before .before .before .before .before .before .before .before .args .bytes .now)) (p .last .1 .0) _ _ (rw (c .before .k .given .1) at (p .ensures .0)), (tt, tt, tt, tt, tt, tt, tt, tt, tt, tt, tt, tt, tt))
 
 pub parallel-moves-answer-spec : {M : Type 1} → statement M
 parallel-moves-answer-spec =
@@ -44,10 +36,7 @@ parallel-moves-answer-spec =
     answer-job-requires
     enum-known-n
     enum-known-k
-    enum-told
     same-length
     returns
     same-length-2
-    returns-2
-    same-length-3
-    returns-3)
+    returns-2)

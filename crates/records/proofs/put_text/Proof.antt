@@ -1,9 +1,8 @@
 use Prim.Native.Nat.{ℕ}
-use native.Mathlib.Omega.{arith}
 use lib.ListN.{length-replicate}
 use mathlib.Core.Path.{sym}
 use lib.Seq.{length-take-le}
-use Rattle.records.proofs.Telling.{answered, refused, too-many, within, told}
+use Rattle.records.proofs.Telling.{answered, refused, within, told}
 use borrow.Author.Needs.{needs}
 use Rattle.records.proofs.put_text.Statement.{statement}
 use Rattle.records.proofs.put_text.Tie as tie
@@ -23,17 +22,17 @@ enum-known-n c = search needs
 
 array-share-prefix-words : tie.Need-array-share-prefix-words
 array-share-prefix-words c =
-    let a = c .before .before .before .before .before .before .before .before .before .before .before .before .before .before .before .before .before .before .before .before .before .before .before .args in
+    let a = c .before .before .before .before .before .before .before .before .before .before .before .before .before .before .before .before .before .before .before .before .before .before .args in
     let p = c .before .before .before .before .before .answer-job in
-    let q = answered (a .job .now) _ (p .last .1 .0) _ (rw (c .before .before .n .given .1) at (p .ensures .0)) in
-    omega (arith, q .few, q .count, length-replicate {A = ℕ} 16384 0)
+    let q = answered (a .job .now) _ (p .last .1 .0) (length-replicate {A = ℕ} 132096 0) _ (rw (c .before .before .n .given .1) at (p .ensures .0)) in
+    within (a .job .now) _ (p .last .1 .0) (length-replicate {A = ℕ} 132096 0) _ _ q
 
 slice-aggregate-put-answer : tie.Need-slice-aggregate-put-answer
 slice-aggregate-put-answer c =
-    let a = c .before .before .before .before .before .before .before .before .before .before .before .before .before .before .before .before .before .before .before .before .before .before .before .before .args in
+    let a = c .before .before .before .before .before .before .before .before .before .before .before .before .before .before .before .before .before .before .before .before .before .before .before .args in
     let p = c .before .before .before .before .before .before .answer-job in
-    let q = answered (a .job .now) _ (p .last .1 .0) _ (rw (c .before .before .before .n .given .1) at (p .ensures .0)) in
-    sym (length-take-le _ (p .last .1 .0) (within (a .job .now) _ (p .last .1 .0) _ _ q))
+    let q = answered (a .job .now) _ (p .last .1 .0) (length-replicate {A = ℕ} 132096 0) _ (rw (c .before .before .before .n .given .1) at (p .ensures .0)) in
+    sym (length-take-le _ (p .last .1 .0) (within (a .job .now) _ (p .last .1 .0) (length-replicate {A = ℕ} 132096 0) _ _ q))
 
 put-answer-requires : tie.Need-put-answer-requires
 put-answer-requires c κs = search needs
@@ -43,51 +42,42 @@ enum-known-k c = search needs
 
 array-share-prefix-words-2 : tie.Need-array-share-prefix-words-2
 array-share-prefix-words-2 c =
-    let a = c .before .before .before .before .before .before .before .before .before .before .before .before .before .before .before .before .before .before .before .before .before .before .before .args in
+    let a = c .before .before .before .before .before .before .before .before .before .before .before .before .before .before .before .before .before .before .before .before .before .before .args in
     let p = c .before .before .before .before .before .answer-job in
-    let q = refused (a .job .now) _ (p .last .1 .0) _ _ (rw (c .before .before .k .given .1) at (p .ensures .0)) in
-    omega (arith, q .few, q .count, length-replicate {A = ℕ} 16384 0)
+    let q = refused (a .job .now) _ (p .last .1 .0) (length-replicate {A = ℕ} 132096 0) _ _ (rw (c .before .before .k .given .1) at (p .ensures .0)) in
+    within (a .job .now) _ (p .last .1 .0) (length-replicate {A = ℕ} 132096 0) _ _ q
 
 slice-aggregate-put-answer-2 : tie.Need-slice-aggregate-put-answer-2
 slice-aggregate-put-answer-2 c =
-    let a = c .before .before .before .before .before .before .before .before .before .before .before .before .before .before .before .before .before .before .before .before .before .before .before .before .args in
+    let a = c .before .before .before .before .before .before .before .before .before .before .before .before .before .before .before .before .before .before .before .before .before .before .before .args in
     let p = c .before .before .before .before .before .before .answer-job in
-    let q = refused (a .job .now) _ (p .last .1 .0) _ _ (rw (c .before .before .before .k .given .1) at (p .ensures .0)) in
-    sym (length-take-le _ (p .last .1 .0) (within (a .job .now) _ (p .last .1 .0) _ _ q))
+    let q = refused (a .job .now) _ (p .last .1 .0) (length-replicate {A = ℕ} 132096 0) _ _ (rw (c .before .before .before .k .given .1) at (p .ensures .0)) in
+    sym (length-take-le _ (p .last .1 .0) (within (a .job .now) _ (p .last .1 .0) (length-replicate {A = ℕ} 132096 0) _ _ q))
 
 put-answer-requires-2 : tie.Need-put-answer-requires-2
 put-answer-requires-2 c κs = search needs
-
-enum-told : tie.Need-enum-told
-enum-told c = search needs
 
 same-length : tie.Need-same-length
 same-length c = search needs
 
 returns : tie.Need-returns
 returns c =
-    let a = c .before .before .before .before .before .before .before .before .before .before .before .before .before .before .before .before .before .before .before .before .before .before .before .before .before .before .before .args in
+    let a = c .before .before .before .before .before .before .before .before .before .before .before .before .before .before .before .before .before .before .before .before .before .before .before .before .before .before .args in
     let p = c .before .before .before .before .before .before .before .before .before .answer-job in
-    let q = answered (a .job .now) _ (p .last .1 .0) _ (rw (c .before .before .before .before .before .before .n .given .1) at (p .ensures .0)) in
+    let q = answered (a .job .now) _ (p .last .1 .0) (length-replicate {A = ℕ} 132096 0) _ (rw (c .before .before .before .before .before .before .n .given .1) at (p .ensures .0)) in
     let t = c .before .before .put-answer in
-    told (a .job .now) _ (p .last .1 .0) _ _ q (length-replicate {A = ℕ} 16384 0) (a .out .now) (t .last .0) (t .result) (t .ensures)
+    told (a .job .now) _ (p .last .1 .0) (length-replicate {A = ℕ} 132096 0) _ _ q (a .out .now) (t .last .0) (t .result) (t .ensures)
 
 same-length-2 : tie.Need-same-length-2
 same-length-2 c = search needs
 
 returns-2 : tie.Need-returns-2
 returns-2 c =
-    let a = c .before .before .before .before .before .before .before .before .before .before .before .before .before .before .before .before .before .before .before .before .before .before .before .before .before .before .before .args in
+    let a = c .before .before .before .before .before .before .before .before .before .before .before .before .before .before .before .before .before .before .before .before .before .before .before .before .before .before .args in
     let p = c .before .before .before .before .before .before .before .before .before .answer-job in
-    let q = refused (a .job .now) _ (p .last .1 .0) _ _ (rw (c .before .before .before .before .before .before .k .given .1) at (p .ensures .0)) in
+    let q = refused (a .job .now) _ (p .last .1 .0) (length-replicate {A = ℕ} 132096 0) _ _ (rw (c .before .before .before .before .before .before .k .given .1) at (p .ensures .0)) in
     let t = c .before .before .put-answer2 in
-    told (a .job .now) _ (p .last .1 .0) _ _ q (length-replicate {A = ℕ} 16384 0) (a .out .now) (t .last .0) (t .result) (t .ensures)
-
-returns-3 : tie.Need-returns-3
-returns-3 c =
-    let a = c .before .before .before .before .before .before .before .before .before .before .before .before .before .before .before .before .before .before .before .before .before .args in
-    let p = c .before .before .before .answer-job in
-    too-many (a .job .now) _ (p .last .1 .0) (rw (c .enum-told .given .1) at (p .ensures .0)) (length-replicate {A = ℕ} 16384 0) (a .out .now)
+    told (a .job .now) _ (p .last .1 .0) (length-replicate {A = ℕ} 132096 0) _ _ q (a .out .now) (t .last .0) (t .result) (t .ensures)
 
 pub put-text-spec : {M : Type 1} → statement M
 put-text-spec =
@@ -103,9 +93,7 @@ put-text-spec =
     array-share-prefix-words-2
     slice-aggregate-put-answer-2
     put-answer-requires-2
-    enum-told
     same-length
     returns
     same-length-2
-    returns-2
-    returns-3)
+    returns-2)

@@ -76,9 +76,11 @@ returns c =
     let w₃ = tables (then .last .1 .1 .1 .1 .1 .1 .0) (then .last .1 .1 .1 .1 .0) (then .last .1 .1 .1 .1 .1 .1 .1 .0) in
     let w₄ = tables (last .last .1 .1 .1 .1 .1 .1 .0) l (last .last .1 .1 .1 .1 .1 .1 .1 .0) in
     let diverts : Diverts (a .t .now) (a .f .now) (a .cache .now) (bank .result .0) (barredBy true (a .sources .now)) 1 (a .q .0) (a .w .0) (a .d .now) (a .k) old (got .last .1 .1 .1 .1 .1 .1 .1 .1 .0) (got .result) w₁ = rw (bank .ensures) (got .ensures) in
-    let undiverts : Undiverts (a .t .now) (a .f .now) (a .cache .now) (bank .result .0) (a .w .0) (got .last .1 .1 .1 .1 .1 .1 .1 .1 .0) (then .result) w₃ (last .last .1 .1 .1 .1 .1 .1 .1 .1 .0) (last .result) w₄ = rw (bank .ensures) (last .ensures) in
-    swapped _ _ _ (bank .result .0) (a .v .0) (a .w .0) _ (a .p .0) (a .q .0) (a .d .now) (got .last .1 .1 .1 .1 .1 .1 .1 .1 .0) (a .k) old (got .result) w₁ (pre .5) diverts _ (last .last .1 .1 .1 .1 .1 .1 .1 .1 .0) (first .result) (then .result) (last .result) _ w₂ w₃ w₄ _
-    (bank .ensures) (c .before .before .before .before .before .before .before .before .before .before .before .before .before .before .before .before .before .before .before .before .before .before .before .value-bank2 .ensures) (first .ensures) (then .ensures) undiverts (c .unevict-all .ensures l) (omega (arith, c .unevict-all .ensures l .fits 0 0 0 (fewer (omega arith) (omega arith) (omega arith) left) .few))
+    let undiverts : Undiverts (a .t .now) (a .f .now) (a .cache .now) (bank .result .0) (a .w .0) (got .last .1 .1 .1 .1 .1 .1 .1 .1 .0) (then .result) w₃ (last .last .1 .1 .1 .1 .1 .1 .1 .1 .0) (last .result) w₄ = rw (bank .ensures) (last .ensures) in (
+      swapped _ _ _ (bank .result .0) (a .v .0) (a .w .0) _ (a .p .0) (a .q .0) (a .d .now) (got .last .1 .1 .1 .1 .1 .1 .1 .1 .0) (a .k) old (got .result) w₁ (pre .5) diverts _ (last .last .1 .1 .1 .1 .1 .1 .1 .1 .0) (first .result) (then .result) (last .result) _ w₂ w₃ w₄ _
+          (bank .ensures) (c .before .before .before .before .before .before .before .before .before .before .before .before .before .before .before .before .before .before .before .before .before .before .before .value-bank2 .ensures) (first .ensures) (then .ensures) undiverts (c .unevict-all .ensures l) (omega (arith, c .unevict-all .ensures l .fits 0 0 0 (fewer (omega arith) (omega arith) (omega arith) left) .few)),
+      tt,
+    )
 
 pub slots-swapped-spec : {M : Type 1} → statement M
 slots-swapped-spec =

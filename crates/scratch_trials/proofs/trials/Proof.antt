@@ -1,7 +1,11 @@
 -- `scratch_trials::trials` meets its contract.
+use Prim.Native.Nat.{ℕ}
 use mathlib.Core.Path.{sym, ap, _∙_}
+use mathlib.Core.Option.{Option}
 use Rattle.reginfo.specs.Refused.{targetRefusal}
 use Rattle.target_check.specs.Checked.{numberOf}
+use Rattle.scratch_trials.specs.Cells.{withCells, rebuiltValue, afterTrials}
+use Rattle.scratch_trials.proofs.Laws.{refused-stays}
 use borrow.Author.Needs.{needs}
 use Rattle.scratch_trials.proofs.trials.Statement.{statement}
 use Rattle.scratch_trials.proofs.trials.Tie as tie
@@ -18,7 +22,9 @@ enum-told : tie.Need-enum-told
 enum-told c = search needs
 
 returns : tie.Need-returns
-returns c = search needs
+returns c =
+    let said = c .before .check .ensures in
+    (said .1 .1 .0, refused-stays (c .before .check .result) _ (c .match .keys2) ∙ ap (λ (o : Option ℕ). afterTrials o (c .before .before .before .args .f .now)) (said .0))
 
 move-trials-requires : tie.Need-move-trials-requires
 move-trials-requires c κs = let said = c .before .before .before .before .check .ensures in let told = c .before .before .enum-told .given .1 in (ap targetRefusal (said .1 .1 .0) ∙ sym (said .0) ∙ ap numberOf told, said .1 .1 .1 told)
@@ -27,7 +33,11 @@ rebuild-trial-requires : tie.Need-rebuild-trial-requires
 rebuild-trial-requires c κs = let said = c .before .before .before .before .before .before .before .check .ensures in let told = c .before .before .before .before .before .enum-told .given .1 in (ap targetRefusal (said .1 .1 .0) ∙ sym (said .0) ∙ ap numberOf told, said .1 .1 .1 told)
 
 returns-2 : tie.Need-returns-2
-returns-2 c = search needs
+returns-2 c =
+    let k = c .before .before .before .before .before .before .before .before in
+    let said = k .check .ensures in
+    let told = c .before .before .before .before .before .before .enum-told .given .1 in
+    (said .1 .1 .0, c .rebuild-trial .ensures ∙ ap (withCells rebuiltValue) (c .before .before .before .move-trials .ensures) ∙ ap (λ (o : Option ℕ). afterTrials o (k .before .before .args .f .now)) (sym (ap numberOf told) ∙ said .0))
 
 pub trials-spec : {M : Type 1} → statement M
 trials-spec =

@@ -1,0 +1,229 @@
+//! Functions opened and patches given, call by call, to the original and to
+//! ours.
+
+use std::fmt::Write;
+use std::panic::{self, AssertUnwindSafe};
+
+use judge::calls::{self, Call, Function, Room};
+use judge::generate::calls::Session;
+
+use crate::ours::Ours;
+
+/// What a session's calls came to.
+#[derive(Default)]
+pub struct Outcome {
+    /// The refusals of functions and of patches, 0 for none.
+    pub opened: Vec<u8>,
+    pub resolved: Vec<u8>,
+    pub edits: u64,
+}
+
+/// What is not the same.
+pub struct Difference {
+    /// Of which call, or of opening the function if it is past them.
+    pub at: usize,
+    pub what: String,
+}
+
+/// Makes a session's calls on both sides. After each refused one the list and
+/// the cache must be as before it, byte for byte; after each other one the edits
+/// and the slots made must be the original's, and the list as before past them.
+pub fn compare(ours: &mut Ours, session: &Session) -> Result<Outcome, Difference> {
+    let caught = panic::catch_unwind(AssertUnwindSafe(|| both(ours, session)));
+    caught.unwrap_or_else(|_| {
+        Err(Difference {
+            at: session.calls.len().saturating_sub(1),
+            what: "the original panics".to_owned(),
+        })
+    })
+}
+
+fn both(ours: &mut Ours, session: &Session) -> Result<Outcome, Difference> {
+    let mut outcome = Outcome::default();
+    let function = open_all(ours, session, &mut outcome).map_err(|what| Difference {
+        at: session.calls.len(),
+        what,
+    })?;
+    let Some(function) = function else {
+        return Ok(outcome);
+    };
+    let opened = ours.opened().map(<[u16]>::to_vec);
+    let mut original = calls::Session::new(&function);
+    for (at, call) in session.calls.iter().enumerate() {
+        let (refusal, edits) =
+            one(ours, &mut original, call).map_err(|what| Difference { at, what })?;
+        outcome.resolved.push(refusal);
+        outcome.edits += edits as u64;
+    }
+    if ours.opened() != [&opened[0][..], &opened[1][..]] {
+        return Err(Difference {
+            at: session.calls.len().saturating_sub(1),
+            what: "the target or the function was changed by some call".to_owned(),
+        });
+    }
+    Ok(outcome)
+}
+
+/// Opens the functions of a session: the last one, unless it is refused.
+fn open_all(
+    ours: &mut Ours,
+    session: &Session,
+    outcome: &mut Outcome,
+) -> Result<Option<Function>, String> {
+    let mut last = None;
+    for bytes in session.before.iter().chain([&session.bytes]) {
+        let before = ours.cache().to_vec();
+        let opened = Function::open(bytes);
+        let expected = opened.as_ref().map_or_else(|refused| refused.0, |_| 0);
+        let refusal = ours.open(bytes);
+        if refusal != expected {
+            return Err(format!("open gives {refusal}, the original {expected}"));
+        }
+        if refusal == 0 {
+            let made = ours.made();
+            if made != 0 {
+                return Err(format!("an opened function has {made} slots"));
+            }
+        } else if ours.cache() != before {
+            return Err(format!("open, refused by {refusal}, changed the cache"));
+        }
+        outcome.opened.push(refusal);
+        last = opened.ok();
+    }
+    Ok(last)
+}
+
+/// Makes one call: the refusal, and how many edits there are.
+fn one(
+    ours: &mut Ours,
+    original: &mut calls::Session<'_>,
+    call: &Call,
+) -> Result<(u8, usize), String> {
+    let expected = original.call(call);
+    ours.fill_list();
+    let list = ours.list().to_vec();
+    let (words, number) = match &expected.outcome {
+        Ok(words) => (&words[..], 0),
+        Err(refused) => (&[][..], refused.0),
+    };
+    // If ours refuses what the original takes, that is the difference.
+    let cache = if number == 0 {
+        Vec::new()
+    } else {
+        ours.cache().to_vec()
+    };
+
+    let (count, refusal) = ours.resolve(&call.free, &call.numbers, expected.room);
+    if refusal != number {
+        return Err(format!("refusal {refusal}, of the original {number}"));
+    }
+    if count != words.len() {
+        return Err(format!("{count} edits, of the original {}", words.len()));
+    }
+    if ours.list()[..count] != *words {
+        return Err(format!(
+            "the edits {:?}, of the original {words:?}",
+            &ours.list()[..count]
+        ));
+    }
+    if ours.list()[count..] != list[count..] {
+        return Err(format!(
+            "the list past {count} words was changed, with refusal {refusal}"
+        ));
+    }
+    if refusal != 0 && ours.cache() != cache {
+        return Err(format!("the cache was changed, with refusal {refusal}"));
+    }
+    let made = ours.made();
+    if made != expected.made {
+        return Err(format!(
+            "{made} slots made, by the original {}",
+            expected.made
+        ));
+    }
+    Ok((refusal, count))
+}
+
+/// Drops calls, entries and free units as long as there is a difference.
+pub fn reduce(ours: &mut Ours, mut session: Session) -> Session {
+    let mut differs = |session: &Session| compare(ours, session).err().map(|found| found.at);
+    if let Some(at) = differs(&session) {
+        session.calls.truncate(at + 1);
+    }
+    let mut lists = vec![List::Before, List::Calls];
+    lists.extend((0..session.calls.len()).flat_map(|at| [List::Entries(at), List::Free(at)]));
+    for list in lists {
+        let mut next = list.len(&session);
+        while next > 0 {
+            next -= 1;
+            let mut smaller = session.clone();
+            if list.remove(&mut smaller, next) && differs(&smaller).is_some() {
+                session = smaller;
+            }
+        }
+    }
+    session
+}
+
+/// A list of a session.
+#[derive(Clone, Copy)]
+enum List {
+    Before,
+    Calls,
+    Entries(usize),
+    Free(usize),
+}
+
+impl List {
+    fn len(self, session: &Session) -> usize {
+        match self {
+            List::Before => session.before.len(),
+            List::Calls => session.calls.len(),
+            List::Entries(at) => session.calls.get(at).map_or(0, |c| c.numbers.len() / 4),
+            List::Free(at) => session.calls.get(at).map_or(0, |c| c.free.len()),
+        }
+    }
+
+    /// Removes one of it, unless it has become shorter.
+    fn remove(self, session: &mut Session, index: usize) -> bool {
+        if index >= self.len(session) {
+            return false;
+        }
+        match self {
+            List::Before => drop(session.before.remove(index)),
+            List::Calls => drop(session.calls.remove(index)),
+            List::Entries(at) => drop(session.calls[at].numbers.drain(4 * index..4 * index + 4)),
+            List::Free(at) => drop(session.calls[at].free.remove(index)),
+        }
+        true
+    }
+}
+
+/// A session in words.
+pub fn text(session: &Session) -> String {
+    let mut text = String::new();
+    for bytes in &session.before {
+        put(&mut text, &format!("open {bytes:?}"));
+    }
+    put(&mut text, &format!("open {:?}", session.bytes));
+    for call in &session.calls {
+        let Call {
+            free,
+            numbers,
+            room,
+        } = call;
+        let room = match room {
+            Room::Most => String::new(),
+            room => format!(" room {room:?}"),
+        };
+        put(
+            &mut text,
+            &format!("resolve free {free:?} entries {numbers:?}{room}"),
+        );
+    }
+    text
+}
+
+fn put(text: &mut String, line: &str) {
+    writeln!(text, "{line}").expect("writing to a string does not fail");
+}

@@ -1,0 +1,66 @@
+-- A job answered into a lent list of words: each patch is lent what is left of the words behind its head, and 16 is given where that is shorter
+-- than the bound of demand 3.
+use Prim.Native.Nat.{ℕ, zero, suc, _+_, _-_, _≤_}
+use mathlib.Core.Path.{_≡_}
+use mathlib.Core.List.{List, [], _∷_, _++_}
+use mathlib.Core.Logic.{_↔_}
+use lib.Dec.{ltb}
+use lib.ListN.{length}
+use Rattle.reginfo.specs.RegInfo.{RegInfo}
+use Rattle.reginfo.specs.Refused.{Condition, cond}
+use Rattle.reginfo.specs.Given.{Given, NoneHolds}
+use Rattle.function.specs.Function.{Function}
+use Rattle.rules.specs.Edit.{Edit}
+use Rattle.rules.specs.Scratch.{Cache, emptyCache}
+use Rattle.rules.specs.Patch.{Patch, nothingSorted, Answer, refused, resolved, sorted, bound, freeDestination, lastOverlaps, run, resolve}
+use Rattle.rules.specs.Refusals.{ranOut, entriesConditions}
+use Rattle.job_patch.specs.Patches.{patch}
+use Rattle.job.specs.Job.{Answers, afterRead, afterCall, leftOver, opening, job}
+
+-- no word is left for the head
+abbrev pub headless : Answer → Answer
+headless (refused n) = refused n
+headless (resolved es c) = refused 16
+
+-- a patch's head and its edits are words
+abbrev pub wordsTaken : Answer → ℕ
+wordsTaken (refused n) = 0
+wordsTaken (resolved es c) = 1 + length es
+
+module _ (t : RegInfo) (f : Function) where
+  -- a call with `left` words left, of which the head takes one
+  abbrev pub callIn : Patch → ℕ → Cache → Answer
+  callIn p zero c = headless (resolve t f p 0 c)
+  callIn p (suc left) c = resolve t f p left c
+
+  -- "There is one call for each patch, and what earlier patches gave stands"
+  unfoldable pub patchesIn : ℕ → Cache → (left : ℕ) → List ℕ → Answers
+  patchesIn zero c left l = leftOver l
+  patchesIn (suc n) c left l =
+      afterRead (patch t f l) (λ p r. afterCall (callIn p left c) (λ c′. patchesIn n c′ (left - wordsTaken (callIn p left c)) r))
+
+  -- all conditions of such a call in their order: the entries', "then 13, 14, 16, 17"; 16: "lent list shorter than the bound of demand 3"
+  unfoldable pub conditionsIn : Patch → (left : ℕ) → Cache → List Condition
+  conditionsIn p left c =
+      entriesConditions t f (p .entries) nothingSorted
+      ++ (cond 13 (freeDestination t f p (sorted t f p))
+      ∷ cond 14 (lastOverlaps t f (sorted t f p))
+      ∷ cond 16 (ltb left (1 + bound (sorted t f p)))
+      ∷ cond 17 (ranOut (run t f p (sorted t f p) c))
+      ∷ [])
+
+  -- "Each is given when its condition holds and none earlier does, else not."
+  pub record RefusalsIn (p : Patch) (left : ℕ) (c : Cache) : Type 0 where
+    pub given : (n : ℕ) → (callIn p left c ≡ refused n) ↔ Given (conditionsIn p left c) n
+    pub taken : ((es : List Edit) × (c′ : Cache) × (callIn p left c ≡ resolved es c′)) ↔ NoneHolds (conditionsIn p left c)
+
+-- a whole job, answered into `room` words
+unfoldable pub jobIn : (room : ℕ) → List ℕ → Answers
+jobIn room l = afterRead (opening l) (λ h r. patchesIn (h .target) (h .function) (h .patches) emptyCache room r)
+
+-- so many words are enough for every job: two for each of its 65,536 bytes, and the heads of 1,024 patches
+abbrev pub mostWords : ℕ
+mostWords = 132096
+
+abbrev pub MostWords : Type 0
+MostWords = (room : ℕ) → mostWords ≤ room → (l : List ℕ) → jobIn room l ≡ job l

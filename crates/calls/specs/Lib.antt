@@ -1,0 +1,3 @@
+pub mod Opening
+pub mod Call
+pub mod Claim

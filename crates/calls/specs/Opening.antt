@@ -1,0 +1,29 @@
+-- A target and a function, opened once for all calls.
+use Prim.Native.Nat.{ℕ}
+use mathlib.Core.Path.{_≡_}
+use mathlib.Core.List.{List, [], _∷_}
+use Rattle.entity.specs.Logic.{Anything}
+use Rattle.reginfo.specs.Table.{regInfoOf}
+use Rattle.function.specs.Known.{Checked}
+use Rattle.function.specs.Table.{functionOf}
+use Rattle.slots.specs.Steps.{Cleared}
+use Rattle.number.specs.Read.{Read, got, refused, then}
+use Rattle.parallel_moves.specs.Given.{CacheOk}
+use Rattle.job.specs.Job as job
+use Rattle.job.specs.Job.{beginning}
+use Rattle.calls.specs.declared.Opened.{Opened}
+use Rattle.calls.specs.declared.Opened.the-variants.{Yes, Refused}
+
+-- 8: "bytes left over"
+abbrev pub ended : job.Opened → List ℕ → Read job.Opened
+ended x [] = got x []
+ended x (b ∷ l) = refused 8
+
+-- a target and a function as a job begins with them, and nothing behind them
+unfoldable pub opened : List ℕ → Read job.Opened
+opened l = then (beginning l) (λ x q. ended x q)
+
+-- the tables hold them, and the cache is one with no slot made; where they are refused, the tables hold anything and the cache is as it was
+abbrev pub OpenedAs : Read job.Opened → Opened → (t f cache cache′ : List ℕ) → Type 0
+OpenedAs (refused k) r t f cache cache′ = (r ≡ Refused k) × Anything t × Anything f × (cache′ ≡ cache)
+OpenedAs (got x rest) r t f cache cache′ = (r ≡ Yes) × (regInfoOf t ≡ x .target) × (functionOf f ≡ x .function) × Checked t f × Cleared cache′ × CacheOk f cache′

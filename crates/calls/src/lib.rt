@@ -1,0 +1,119 @@
+// One function's calls: a target and a function are opened once, then one patch after the other is resolved on that function's cache,
+// refused ones among them.
+use carried::Carried;
+use edit::Edits;
+use entity::RegUnit;
+use entries::Added;
+use entries::Entries;
+use function::Function;
+use parallel_moves::Resolved;
+use reading::Next;
+use reginfo::RegInfo;
+use scratch::Diverted;
+use slots::SlotCache;
+use slots::Slots;
+use small_set::RegUnitSet;
+use sparse::SparseMap;
+use visits::Marks;
+ghost use lib.ListN.{length};
+ghost use Rattle.entity.specs.Logic.{Anything};
+ghost use Rattle.reginfo.specs.Refused.{Accepted};
+ghost use Rattle.reginfo.specs.Table.{regInfoOf};
+ghost use Rattle.function.specs.Known.{Checked};
+ghost use Rattle.function.specs.Table.{functionOf};
+ghost use Rattle.slots.specs.Stacks.{cacheOf};
+ghost use Rattle.entries.specs.Answers.{addedOf};
+ghost use Rattle.parallel_moves.specs.Given.{CacheOk};
+ghost use Rattle.parallel_moves.specs.Answers.{Gives};
+ghost use Rattle.calls.specs.Opening.{opened, OpenedAs};
+ghost use Rattle.calls.specs.Call.{callOf, FreeTaken};
+
+// Whether a target and a function are open, or 01's number.
+pub enum Opened {
+    Yes,
+    Refused(u8),
+}
+
+// Opens the target and the function that the bytes are, with a cache that has no slot made. What the tables held does not matter.
+pub fn open(s: &[u8], t: &mut RegInfo, f: &mut Function, cache: &mut SlotCache) -> Opened
+    ensures { λ r. ⌜ OpenedAs (opened (now (s .entry))) r (now (t .exit)) (now (f .exit)) (now (cache .entry)) (now (cache .exit)) ⌝ }
+{
+    match job::read_beginning(s, t, f) {
+        Next::Refused(k) => Opened::Refused(k),
+        Next::At(next) => {
+            if next < s.len() {
+                return Opened::Refused(8);
+            }
+            slots::clear(cache);
+            Opened::Yes
+        }
+    }
+}
+
+// The free units of a patch, rising, as a set. What the set held does not matter.
+fn take_free(t: &RegInfo, free: &[u32], available: &mut RegUnitSet) -> Added
+    requires { ⌜ Accepted (regInfoOf (now t)) ⌝ }
+    ensures { λ r. ⌜ FreeTaken (regInfoOf (now (t .entry)) .units) (now (free .entry)) (addedOf r) (now (available .exit)) ⌝ }
+{
+    small_set::clear(available);
+    let units = reginfo::num_units(t) as u32;
+    let mut least: u32 = 0;
+    let mut at: usize = 0;
+    while at < free.len() {
+        let u = free[at];
+        if units <= u {
+            return Added::Refused(2);
+        }
+        if u < least {
+            return Added::Refused(3);
+        }
+        small_set::insert(available, RegUnit(u as u16));
+        least = u + 1;
+        at += 1;
+    }
+    Added::Yes
+}
+
+// Resolves a patch of free units, rising, and of entries as numbers, four to an entry. Asked is that the target and the function are open,
+// and the cache is as `open` or the last call left it: "nothing else writes the cache between calls".
+pub fn resolve(
+    t: &RegInfo,
+    f: &Function,
+    free: &[u32],
+    numbers: &[u32],
+    cache: &mut SlotCache,
+    list: &mut [u64],
+    e: &mut Entries,
+    w: &mut SparseMap,
+    available: &mut RegUnitSet,
+    sources: &mut RegUnitSet,
+    edits: &mut Edits,
+    slots: &mut Slots,
+    d: &mut Diverted,
+    marks: &mut Marks,
+    c: &mut Carried,
+) -> Resolved
+    requires { ⌜ Checked (now t) (now f) × CacheOk (now f) (now cache) ⌝ }
+    ensures { λ r. ⌜ Gives (now (f .entry)) (callOf (regInfoOf (now (t .entry))) (functionOf (now (f .entry))) (now (free .entry)) (now (numbers .entry)) (length (now (list .entry))) (cacheOf (now (cache .entry)))) r (now (list .entry)) (now (list .exit)) (now (cache .entry)) (now (cache .exit)) ⌝ }
+    ensures { λ _. ⌜ Anything (now (e .exit)) × Anything (now (w .exit)) × Anything (now (available .exit)) × Anything (now (sources .exit)) × Anything (now (edits .exit)) × Anything (now (slots .exit)) × Anything (now (d .exit)) × Anything (now (marks .exit)) × Anything (now (c .exit)) ⌝ }
+{
+    if let Added::Refused(k) = take_free(t, free, available) {
+        return Resolved::Refused(k);
+    }
+    parallel_moves::resolve_patch(
+        t,
+        f,
+        numbers,
+        cache,
+        list,
+        e,
+        w,
+        available,
+        sources,
+        edits,
+        slots,
+        d,
+        marks,
+        c,
+    )
+}

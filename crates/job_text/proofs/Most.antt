@@ -1,0 +1,136 @@
+-- No job's answer is longer than the sizes that are named for it.
+use Prim.Native.Nat.{ℕ, zero, suc, _+_, _-_, _*_, _≤_, _<_}
+use mathlib.Core.Path.{_≡_, refl}
+use mathlib.Core.Bool.{Bool, true, false}
+use mathlib.Core.List.{List, [], _∷_, _++_, map}
+use mathlib.Core.Option.{Option, none, some}
+use native.Mathlib.Omega.{arith}
+use lib.ListN.{length, length-append, length-map}
+use Rattle.entity.specs.Logic.{pick}
+use Rattle.entity.specs.Place.{Place}
+use Rattle.reginfo.specs.RegInfo.{RegInfo}
+use Rattle.function.specs.Function.{Function}
+use Rattle.rules.specs.Edit.{Edit}
+use Rattle.rules.specs.Scratch.{Cache, emptyCache}
+use Rattle.rules.specs.Patch.{Entry, move, remat, Sorted, nothingSorted, bound, becomesRemat, needsScratch, dropped, addRemat, addKept, add, sortedFrom}
+use Rattle.edit.specs.Word.{wordOf, AllInRange}
+use Rattle.number.specs.Read.{Read, got, refused}
+use Rattle.print.specs.Text.{decimal, newline, spaced, editsWord, madeWord, editLine, editLines, patchLine, patchText}
+use Rattle.print.proofs.Decimal.{short}
+use Rattle.print.proofs.Lengths.{edit-short, refused-short}
+use Rattle.answer_text.specs.Lines.{refusalText}
+use Rattle.job.specs.Job.{Header, Done, opening, job}
+use Rattle.job.specs.Claim.{DoneAt, OneByOne, Opened}
+use Rattle.job.proofs.Claimed.{every-job}
+use Rattle.answer.specs.Words.{wordsOf, numberOf, doneText, AllPacked, Packed}
+use Rattle.answer.proofs.Numbers.{numbered}
+use Rattle.job_text.specs.Most.{WordsFit, TextFits}
+use Rattle.job_text.proofs.Taking.{bytes, allBytes, patch-read, opening-read}
+
+-- ---- an entry adds at most twice its bytes to the bound
+longer : {A : Type 0} (l : List A) (x : A) → length (l ++ (x ∷ [])) ≡ length l + 1
+longer l x = length-append l (x ∷ [])
+
+under : (n : ℕ) (b : Bool) (x y : Sorted) → bound x ≤ n → bound y ≤ n → bound (pick b x y) ≤ n
+under n true x y p q = p
+under n false x y p q = q
+
+module _ (t : RegInfo) (f : Function) where
+  rebuilt-under : (a : Sorted) (d : Place) (v : ℕ) → bound (addRemat t f (needsScratch t f d v) d v a) ≤ bound a + 6
+  rebuilt-under a d v =
+      under _ (needsScratch t f d v) _ _
+      (omega (arith, longer (a .rematsWithScratch) (record { dest = d; value = v })))
+      (omega (arith, longer (a .remats) (record { dest = d; value = v })))
+
+  kept-under : (a : Sorted) (s d : Place) (v : ℕ) → bound (addKept t f (dropped t f a s d v) s d v a) ≤ bound a + 8
+  kept-under a s d v = under _ (dropped t f a s d v) _ _ (omega arith) (omega (arith, longer (a .moves) (record { source = s; dest = d; value = v })))
+
+  add-under : (e : Entry) (a : Sorted) → bound (add t f e a) ≤ bound a + 2 * bytes e
+  unfolding add
+  add-under (move s d v) a = under _ (becomesRemat t f s d v) _ _ (omega (arith, rebuilt-under a d v)) (kept-under a s d v)
+  add-under (remat d v) a = rebuilt-under a d v
+
+  all-under : (es : List Entry) (a : Sorted) → bound (sortedFrom t f es a) ≤ bound a + 2 * allBytes es
+  unfolding sortedFrom allBytes
+  all-under [] a = omega arith
+  all-under (e ∷ es) a = omega (arith, all-under es (add t f e a), add-under e a)
+
+-- ---- lines
+refusal-short : (k : ℕ) → k ≤ 17 → length (refusalText k) ≤ 36
+refusal-short zero h = omega arith
+refusal-short (suc k) h = omega (arith, refused-short (suc k) (omega arith))
+
+lines-short : (es : List Edit) → AllInRange es → length (editLines es) ≤ 19 * length es
+unfolding editLines
+lines-short [] r = omega arith
+lines-short (e ∷ es) r = rw (length-append (editLine e) (editLines es)) (omega (arith, edit-short e (r .0), lines-short es (r .1)))
+
+line-short : (k count made : ℕ) → k < 10000 → count < 100000 → made < 100000 → length (patchLine k count made) ≤ 36
+line-short k count made a b c =
+    let rest₂ : List ℕ = spaced madeWord (spaced (decimal made) newline) in
+    let rest₁ : List ℕ = spaced editsWord (spaced (decimal count) rest₂) in
+    rw (length-append (decimal k) rest₁, length-append (decimal count) rest₂, length-append (decimal made) newline)
+    (omega (arith, short k 3 (omega arith), short count 4 (omega arith), short made 4 (omega arith)))
+
+patch-short : (k : ℕ) (d : Done) → k < 10000 → Packed d → length (patchText k (d .edits) (d .made)) ≤ 36 + 19 * length (d .edits)
+patch-short k d h p =
+    rw (length-append (patchLine k (length (d .edits)) (d .made)) (editLines (d .edits)))
+    (omega (arith, line-short k (length (d .edits)) (d .made) h (omega (arith, p .few)) (omega (arith, p .small)), lines-short (d .edits) (p .ranged)))
+
+-- ---- the patches that are done, n at most, of the bytes l
+words-more : (d : Done) (ds : List Done) → length (wordsOf (d ∷ ds)) ≡ 1 + length (d .edits) + length (wordsOf ds)
+unfolding wordsOf
+words-more d ds = omega (arith, length-append (map wordOf (d .edits)) (wordsOf ds), length-map (d .edits) wordOf)
+
+text-more : (k : ℕ) (d : Done) (ds : List Done) → length (doneText k (d ∷ ds)) ≡ length (patchText k (d .edits) (d .made)) + length (doneText (k + 1) ds)
+unfolding doneText
+text-more k d ds = length-append (patchText k (d .edits) (d .made)) (doneText (k + 1) ds)
+
+module _ (t : RegInfo) (f : Function) where
+  -- a patch has at most twice as many edits as it has bytes
+  few-edits : (c : Cache) (l : List ℕ) (d : Done) (x : DoneAt t f c l d) → length (d .edits) + 2 * length (x .rest) ≤ 2 * length l
+  few-edits c l d x = omega (arith, x .accepted .few, all-under t f (x .p .entries) nothingSorted, patch-read t f l (x .p) (x .rest) (x .reads))
+
+  few-words : (ds : List Done) (o : Option ℕ) (n : ℕ) (c : Cache) (l : List ℕ) → OneByOne t f ds o n c l → length (wordsOf ds) ≤ 2 * length l + n
+  unfolding wordsOf
+  few-words [] o n c l h = omega arith
+  few-words (d ∷ ds) o n c l h = let x = h .1 in omega (arith, h .0, words-more d ds, few-edits c l d x, few-words ds o (n - 1) (x .after) (x .rest) (h .2))
+
+  short-text : (ds : List Done) (o : Option ℕ) (n : ℕ) (c : Cache) (l : List ℕ) (k : ℕ) → k + n ≤ 1025 → AllPacked ds → OneByOne t f ds o n c l
+      → length (doneText k ds) ≤ 19 * (2 * length l) + 36 * n
+  unfolding doneText
+  short-text [] o n c l k e p h = omega arith
+  short-text (d ∷ ds) o n c l k e p h =
+      let x = h .1 in
+      omega (arith, h .0, text-more k d ds, patch-short k d (omega (arith, h .0)) (p .0), few-edits c l d x, short-text ds o (n - 1) (x .after) (x .rest) (k + 1) (omega (arith, h .0)) (p .1) (h .2))
+
+-- ---- the whole job
+refusal-fits : (l : List ℕ) (o : Option ℕ) → job l .refusal ≡ o → length (refusalText (numberOf o)) ≤ 36
+refusal-fits l none e = omega arith
+refusal-fits l (some k) e = refusal-short k (numbered l k e .1)
+
+module _ (l : List ℕ) where
+  abbrev done : List Done
+  done = job l .done
+
+  all-words : (x : Read Header) → opening l ≡ x → Opened x (job l) → length (wordsOf done) ≤ 2 * 65536 + 1024
+  unfolding wordsOf
+  all-words (refused k) e h = rw (h .0) (omega arith)
+  all-words (got x r) e h =
+      let j = opening-read l x r e in
+      omega (arith, j .0, j .1, few-words (x .target) (x .function) done (job l .refusal) (x .patches) emptyCache r h)
+
+  all-text : (x : Read Header) → opening l ≡ x → Opened x (job l) → AllPacked done → length (doneText 1 done) ≤ 19 * (2 * 65536) + 36 * 1024
+  unfolding doneText
+  all-text (refused k) e h p = rw (h .0) (omega arith)
+  all-text (got x r) e h p =
+      let j = opening-read l x r e in
+      omega (arith, j .0, j .1, short-text (x .target) (x .function) done (job l .refusal) (x .patches) emptyCache r 1 (omega (arith, j .1)) p h)
+
+pub words-fit : WordsFit
+words-fit l = all-words l (opening l) refl (every-job l)
+
+pub text-fits : TextFits
+text-fits l p =
+    rw (length-append (doneText 1 (job l .done)) (refusalText (numberOf (job l .refusal))))
+    (omega (arith, all-text l (opening l) refl (every-job l) p, refusal-fits l (job l .refusal) refl))

@@ -1,0 +1,32 @@
+-- What `open` and `resolve` answer, as counts and numbers.
+use Prim.Native.Nat.{ℕ}
+use mathlib.Core.Path.{_≡_, refl}
+use mathlib.Core.List.{List}
+use native.Mathlib.Omega.{arith}
+use Rattle.rules.specs.Patch.{Answer, refused, resolved}
+use Rattle.number.specs.Read as read
+use Rattle.number.specs.Read.{Read}
+use Rattle.parallel_moves.specs.declared.Resolved.the-variants as R
+use Rattle.parallel_moves.specs.Answers.{Gives}
+use Rattle.job.specs.Job.{Opened}
+use Rattle.calls.specs.declared.Opened.the-variants.{Yes, Refused}
+use Rattle.calls.specs.Opening.{OpenedAs}
+use Rattle.parallel_moves_c.specs.Called.{OpenedBy, CalledAs}
+
+module _ (t f cache cache′ : List ℕ) where
+  pub opened : (x : Read Opened) → OpenedAs x Yes t f cache cache′ → OpenedBy x 0 t f cache cache′
+  opened (read.refused k) h = absurd (let z : _≡_ {A = ℕ} 0 1 = cc in omega arith)
+  opened (read.got x rest) h = (refl, h .1, h .2, h .3, h .4, h .5)
+
+  pub not-opened : (x : Read Opened) (k : ℕ) → OpenedAs x (Refused k) t f cache cache′ → OpenedBy x k t f cache cache′
+  not-opened (read.refused j) k h = let z : k ≡ j = cc in (z, tt, tt, h .3)
+  not-opened (read.got x rest) k h = absurd (let z : _≡_ {A = ℕ} 0 1 = cc in omega arith)
+
+module _ (f list list′ cache cache′ : List ℕ) where
+  pub gave-edits : (a : Answer) (n : ℕ) → Gives f a (R.Edits n) list list′ cache cache′ → CalledAs f a n 0 list list′ cache cache′
+  gave-edits (refused k) n h = absurd (let z : _≡_ {A = ℕ} 0 1 = cc in omega arith)
+  gave-edits (resolved es c) n h = (h .1, refl, h .2, h .3, h .4, h .5)
+
+  pub gave-number : (a : Answer) (k : ℕ) → Gives f a (R.Refused k) list list′ cache cache′ → CalledAs f a 0 k list list′ cache cache′
+  gave-number (refused n) k h = let e : k ≡ n = cc in (refl, e, h .1, h .2)
+  gave-number (resolved es c) k h = absurd (let z : _≡_ {A = ℕ} 0 1 = cc in omega arith)

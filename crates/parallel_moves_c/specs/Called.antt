@@ -1,0 +1,29 @@
+-- What a caller in another language is answered patch by patch.
+use Prim.Native.Nat.{ℕ}
+use mathlib.Core.Path.{_≡_}
+use mathlib.Core.List.{List, _++_, map}
+use lib.ListN.{length, drop}
+use Rattle.entity.specs.Logic.{Anything}
+use Rattle.reginfo.specs.Table.{regInfoOf}
+use Rattle.function.specs.Known.{Checked}
+use Rattle.function.specs.Table.{functionOf}
+use Rattle.rules.specs.Patch.{Answer, refused, resolved}
+use Rattle.edit.specs.Word.{wordOf, AllInRange}
+use Rattle.slots.specs.Stacks.{cacheOf}
+use Rattle.slots.specs.Steps.{Cleared}
+use Rattle.number.specs.Read as read
+use Rattle.number.specs.Read.{Read}
+use Rattle.parallel_moves.specs.Given.{CacheOk}
+use Rattle.job.specs.Job.{Opened}
+
+-- opened: 0, the tables hold target and function, and the cache has no slot made; refused: 01's number, the tables hold anything, and the cache
+-- is as it was
+abbrev pub OpenedBy : Read Opened → ℕ → (t f cache cache′ : List ℕ) → Type 0
+OpenedBy (read.refused k) r t f cache cache′ = (r ≡ k) × Anything t × Anything f × (cache′ ≡ cache)
+OpenedBy (read.got x rest) r t f cache cache′ = (r ≡ 0) × (regInfoOf t ≡ x .target) × (functionOf f ≡ x .function) × Checked t f × Cleared cache′ × CacheOk f cache′
+
+-- `Gives` of crate parallel_moves, as a count and a number
+abbrev pub CalledAs : (f : List ℕ) → Answer → (r refusal : ℕ) → (list list′ cache cache′ : List ℕ) → Type 0
+CalledAs f (refused n) r refusal list list′ cache cache′ = (r ≡ 0) × (refusal ≡ n) × (list′ ≡ list) × (cache′ ≡ cache)
+CalledAs f (resolved es c) r refusal list list′ cache cache′ =
+    (r ≡ length es) × (refusal ≡ 0) × (list′ ≡ map wordOf es ++ drop (length es) list) × AllInRange es × (cacheOf cache′ ≡ c) × CacheOk f cache′

@@ -1,0 +1,145 @@
+//! One function, and its patches one after the other.
+
+use std::fmt;
+
+use crate::edit::Edits;
+use crate::patch::Patch;
+use crate::refusal::Refusal;
+use crate::sys::{Opened, Tables};
+
+/// As many words are enough for every patch's edits: 8 for each of 128 entries.
+pub const MOST_EDITS: usize = 1024;
+
+/// Resolves the parallel moves of one function over a target, patch by patch.
+///
+/// It owns its memory, about half a megabyte on the heap, and remembers which
+/// emergency slots the function has, so that a later patch takes them again.
+/// Keep one for each function, and [`ParallelMoves::reopen`] it for the next.
+///
+/// ```
+/// use parallel_moves::{Allocation, ParallelMoves, Patch, PhysReg, Refusal, Value};
+///
+/// # fn main() -> Result<(), Refusal> {
+/// // Three registers, two values and no slots, of which one may be made.
+/// let target_and_function = [
+///     3, 1, 3, 0, 1, 3, 0, 0, 1, 0, 0, 0, 1, 1, 0, 0, 1, 2, 2, // units, bank, registers
+///     0, 1, 3, 0, 1, 2, 3, 0, 1, 2, 0, 0, 3, 0, 1, 2, 3, 0, 1, 2, // classes
+///     2, 0, 1, 0, 0, 0, 0, // values and slots
+/// ];
+/// let mut moves = ParallelMoves::open(&target_and_function)?;
+///
+/// // Registers 0 and 1 are to change their contents, and register 2 must keep
+/// // its own.
+/// let [r0, r1] = [0, 1].map(|index| Allocation::reg(PhysReg::new(index)));
+/// let mut patch = Patch::new();
+/// patch.add_move(r0, r1, Value::new(0));
+/// patch.add_move(r1, r0, Value::new(1));
+/// let edits: Vec<String> = moves.resolve(&patch)?.iter().map(|e| e.to_string()).collect();
+/// assert_eq!(edits, ["M s0 r1 1", "M r1 r0 0", "M r0 s0 1"]);
+/// assert_eq!(moves.made(), 1);
+///
+/// // A refused patch has no edits, and the next one is resolved as if it had
+/// // not been given.
+/// patch.add_move(r0, r0, Value::new(0));
+/// assert_eq!(moves.resolve(&patch), Err(Refusal::SelfMove));
+/// # Ok(())
+/// # }
+/// ```
+pub struct ParallelMoves {
+    pub(crate) tables: Opened,
+    /// Where edits are made, before they are handed out.
+    pub(crate) list: Box<[u64; MOST_EDITS]>,
+}
+
+impl ParallelMoves {
+    /// Opens a function: the bytes of a target and a function over it, as
+    /// `docs/JOB.md` of the repository says, with nothing behind them. The
+    /// function has no emergency slots yet.
+    ///
+    /// # Errors
+    ///
+    /// The refusals 1 to 9. Any bytes can be given.
+    pub fn open(target_and_function: &[u8]) -> Result<Self, Refusal> {
+        open(
+            Tables::new(),
+            Box::new([0; MOST_EDITS]),
+            target_and_function,
+        )
+    }
+
+    /// Opens another function in the same memory.
+    ///
+    /// # Errors
+    ///
+    /// As [`ParallelMoves::open`]; the memory is then given up.
+    pub fn reopen(self, target_and_function: &[u8]) -> Result<Self, Refusal> {
+        open(self.tables.close(), self.list, target_and_function)
+    }
+
+    /// The edits that carry a patch out.
+    ///
+    /// # Errors
+    ///
+    /// The refusals 2, 3 and 9 to 15, and 17. Any patch can be given; after a
+    /// refused one the function is as before it.
+    #[inline]
+    pub fn resolve(&mut self, patch: &Patch) -> Result<Edits<'_>, Refusal> {
+        resolve(&mut self.tables, patch, &mut self.list[..])
+    }
+
+    /// As [`ParallelMoves::resolve`], with the edits in a list of the caller's
+    /// own. Only as many words as there are edits are written, at its front;
+    /// none if the patch is refused. [`MOST_EDITS`] are always enough, 0 for a
+    /// patch without entries.
+    ///
+    /// # Errors
+    ///
+    /// As [`ParallelMoves::resolve`], and [`Refusal::ListTooShort`].
+    #[inline]
+    pub fn resolve_into<'a>(
+        &mut self,
+        patch: &Patch,
+        list: &'a mut [u64],
+    ) -> Result<Edits<'a>, Refusal> {
+        resolve(&mut self.tables, patch, list)
+    }
+
+    /// How many emergency slots the function has so far. They are numbered from
+    /// its ordinary slots on; `docs/JOB.md` says how large each is.
+    #[must_use]
+    pub fn made(&self) -> usize {
+        self.tables.made().into()
+    }
+}
+
+fn open(
+    tables: Tables,
+    list: Box<[u64; MOST_EDITS]>,
+    bytes: &[u8],
+) -> Result<ParallelMoves, Refusal> {
+    match tables.open(bytes) {
+        Ok(tables) => Ok(ParallelMoves { tables, list }),
+        Err(number) => Err(Refusal::of_number(number).expect("0 is no refusal")),
+    }
+}
+
+#[inline]
+fn resolve<'a>(
+    tables: &mut Opened,
+    patch: &Patch,
+    list: &'a mut [u64],
+) -> Result<Edits<'a>, Refusal> {
+    let (count, number) = tables.resolve(&patch.free, &patch.entries, list);
+    match Refusal::of_number(number) {
+        None => Ok(Edits::new(&list[..count])),
+        Some(refusal) => Err(refusal),
+    }
+}
+
+impl fmt::Debug for ParallelMoves {
+    fn fmt(&self, f: &mut fmt::Formatter<'_>) -> fmt::Result {
+        f.debug_struct("ParallelMoves")
+            .field("made", &self.made())
+            .finish_non_exhaustive()
+    }
+}

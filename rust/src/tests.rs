@@ -1,0 +1,187 @@
+//! Recorded calls (`tests/calls.txt`, by `compare/calls-data`): what the
+//! original made of each, and that a refused one changes neither the list nor
+//! the cache.
+
+use std::str::SplitWhitespace;
+
+use crate::entity::{Allocation, RegUnit, Value};
+use crate::sys::Tables;
+use crate::{MOST_EDITS, ParallelMoves, Patch, Refusal};
+
+const CALLS: &str = include_str!("../tests/calls.txt");
+
+/// A call, and what it should come to.
+enum Call {
+    Open {
+        refusal: u8,
+        bytes: Vec<u8>,
+    },
+    Resolve {
+        refusal: u8,
+        made: usize,
+        room: usize,
+        free: Vec<u32>,
+        numbers: Vec<u32>,
+        words: Vec<u64>,
+    },
+}
+
+fn calls() -> impl Iterator<Item = Call> {
+    CALLS.lines().map(|line| {
+        let mut words = line.split_whitespace();
+        let kind = words.next().unwrap();
+        let refusal = number(&mut words);
+        let call = match kind {
+            "open" => Call::Open {
+                refusal,
+                bytes: list(&mut words),
+            },
+            "call" => Call::Resolve {
+                refusal,
+                made: number(&mut words),
+                room: number(&mut words),
+                free: list(&mut words),
+                numbers: list(&mut words),
+                words: list(&mut words),
+            },
+            _ => panic!("{line}"),
+        };
+        assert_eq!(words.next(), None);
+        call
+    })
+}
+
+fn number<T: std::str::FromStr<Err: std::fmt::Debug>>(words: &mut SplitWhitespace<'_>) -> T {
+    words.next().unwrap().parse().unwrap()
+}
+
+fn list<T: std::str::FromStr<Err: std::fmt::Debug>>(words: &mut SplitWhitespace<'_>) -> Vec<T> {
+    let count = number(words);
+    (0..count).map(|_| number(words)).collect()
+}
+
+/// The patch of numbers, made with what a caller has; `None` if that cannot
+/// make it.
+fn patch(free: &[u32], numbers: &[u32]) -> Option<Patch> {
+    let mut patch = Patch::new();
+    patch.set_free_units(free.iter().map(|&unit| RegUnit(unit)));
+    let place = |code| Allocation { code };
+    for entry in numbers.chunks(4) {
+        match *entry {
+            [0, source, dest, value] => patch.add_move(place(source), place(dest), Value(value)),
+            [1, dest, value, 0] => patch.add_remat(place(dest), Value(value)),
+            _ => return None,
+        }
+    }
+    Some(patch)
+}
+
+#[test]
+fn recorded_calls() {
+    let mut moves = None;
+    let (mut all, mut refused, mut left_out) = (0, 0, 0);
+    for (number, call) in calls().enumerate() {
+        all += 1;
+        match call {
+            Call::Open { refusal, bytes } => {
+                let opened = match moves.take() {
+                    None => ParallelMoves::open(&bytes),
+                    Some(moves) => ParallelMoves::reopen(moves, &bytes),
+                };
+                match opened {
+                    Ok(opened) => {
+                        assert_eq!(refusal, 0, "call {number}");
+                        assert_eq!(opened.made(), 0);
+                        moves = Some(opened);
+                    }
+                    Err(given) => {
+                        refused += 1;
+                        assert_eq!(given.number(), refusal, "call {number}");
+                    }
+                }
+            }
+            Call::Resolve {
+                refusal,
+                made,
+                room,
+                free,
+                numbers,
+                words,
+            } => {
+                let Some(patch) = patch(&free, &numbers) else {
+                    assert_eq!(refusal, 2);
+                    left_out += 1;
+                    continue;
+                };
+                let moves = moves.as_mut().unwrap();
+                let cache = moves.tables.cache().to_vec();
+                let mut lent: Vec<u64> = (0..room as u64).map(|n| !n ^ number as u64).collect();
+                let before = lent.clone();
+                // A list of the crate's own, where any length is enough.
+                let own = room == MOST_EDITS && number % 2 == 0;
+                if own {
+                    moves.list.copy_from_slice(&lent);
+                }
+                let outcome = if own {
+                    moves.resolve(&patch).map(|edits| edits.iter().collect())
+                } else {
+                    let edits = moves.resolve_into(&patch, &mut lent);
+                    edits.map(|edits| edits.iter().collect::<Vec<_>>())
+                };
+                let list = if own { &moves.list[..] } else { &lent[..] };
+                assert_eq!(list[..words.len()], words, "call {number}");
+                assert_eq!(list[words.len()..], before[words.len()..], "call {number}");
+                match outcome {
+                    Ok(edits) => {
+                        assert_eq!(refusal, 0, "call {number}");
+                        assert_eq!(edits.len(), words.len());
+                    }
+                    Err(given) => {
+                        refused += 1;
+                        assert_eq!(given.number(), refusal, "call {number}");
+                        assert_eq!(moves.tables.cache(), cache, "call {number}");
+                    }
+                }
+                assert_eq!(moves.made(), made, "call {number}");
+            }
+        }
+    }
+    assert_eq!(all, 1000);
+    assert!(
+        left_out < 30 && 10 * refused >= 8 * all / 10,
+        "{left_out} {refused}"
+    );
+}
+
+/// Each refusal of a patch is among the recorded calls.
+#[test]
+fn each_refusal_is_recorded() {
+    let mut refusals = Vec::new();
+    for call in calls() {
+        if let Call::Resolve { refusal, .. } = call {
+            refusals.push(refusal);
+        }
+    }
+    refusals.sort();
+    refusals.dedup();
+    assert_eq!(refusals, [0, 2, 3, 9, 10, 11, 12, 13, 14, 15, 16, 17]);
+}
+
+/// A refused function gives no tables to resolve with, and what the tables held
+/// before does not matter.
+#[test]
+fn opened_after_whole_jobs() {
+    let mut tables = Tables::new();
+    let mut words = vec![0; 4096];
+    let _ = tables.answer(include_bytes!("../../examples/swap-full.job"), &mut words);
+    let Call::Open { bytes, .. } = calls()
+        .find(|c| matches!(c, Call::Open { refusal: 0, .. }))
+        .unwrap()
+    else {
+        unreachable!()
+    };
+    let opened = tables.open(&bytes).ok().unwrap();
+    assert_eq!(opened.made(), 0);
+    assert_eq!(opened.close().open(&[]).err(), Some(1));
+    assert_eq!(ParallelMoves::open(&[]).err(), Some(Refusal::NotANumber));
+}
