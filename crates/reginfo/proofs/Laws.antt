@@ -26,6 +26,10 @@ known-kind t known h e = subst (KnownPlace t) (sym h ∙ ap placeOf e) known
 pub overlap-comm : (t : RegInfo) (p q : Place) → overlap t p q ≡ overlap t q p
 overlap-comm t p q = meets-comm (placeUnits t p) (placeUnits t q)
 
+-- an answer that holds either way round
+pub either : {o : Bool} (t : RegInfo) (p q : Place) → o ≡ overlap t p q → (o ≡ overlap t p q) × (o ≡ overlap t q p)
+either t p q e = (e, e ∙ overlap-comm t p q)
+
 or-end : (a : Bool) → or a false ≡ a
 or-end true = refl
 or-end false = refl

@@ -196,19 +196,19 @@ fn has_unit(t: &RegInfo, r: PhysReg, u: RegUnit) -> bool
     false
 }
 
-// Whether two registers share a unit.
+// Whether two registers share a unit: the second's units are walked.
 pub fn regs_overlap(t: &RegInfo, a: PhysReg, b: PhysReg) -> bool
     requires { ⌜ KnownReg (regInfoOf (now t)) (a .0) × (length (regUnits (regInfoOf (now t)) (a .0)) ≤ 8) × KnownReg (regInfoOf (now t)) (b .0) × (length (regUnits (regInfoOf (now t)) (b .0)) ≤ 8) ⌝ }
-    ensures { λ o. ⌜ o ≡ meets (regUnits (regInfoOf (now (t .entry))) (a .0)) (regUnits (regInfoOf (now (t .entry))) (b .0)) ⌝ }
+    ensures { λ o. ⌜ (o ≡ meets (regUnits (regInfoOf (now (t .entry))) (a .0)) (regUnits (regInfoOf (now (t .entry))) (b .0))) × (o ≡ meets (regUnits (regInfoOf (now (t .entry))) (b .0)) (regUnits (regInfoOf (now (t .entry))) (a .0))) ⌝ }
 {
-    let n = num_reg_units(t, a);
-    let mut j: usize = 0;
-    while j < n {
-        let u = reg_unit(t, a, j);
-        if has_unit(t, b, u) {
+    let n = num_reg_units(t, b);
+    let mut k: usize = 0;
+    while k < n {
+        let u = reg_unit(t, b, k);
+        if has_unit(t, a, u) {
             return true;
         }
-        j += 1;
+        k += 1;
     }
     false
 }
@@ -272,7 +272,7 @@ pub fn place_unit(t: &RegInfo, p: Allocation, j: usize) -> AllocationUnit
 // Whether a place overlaps a register.
 pub fn overlaps_reg(t: &RegInfo, p: Allocation, r: PhysReg) -> bool
     requires { ⌜ KnownPlace (regInfoOf (now t)) (placeAt (p .0)) × KnownUnits (regInfoOf (now t)) (r .0) ⌝ }
-    ensures { λ o. ⌜ o ≡ overlap (regInfoOf (now (t .entry))) (placeAt (p .0)) (reg (r .0)) ⌝ }
+    ensures { λ o. ⌜ (o ≡ overlap (regInfoOf (now (t .entry))) (placeAt (p .0)) (reg (r .0))) × (o ≡ overlap (regInfoOf (now (t .entry))) (reg (r .0)) (placeAt (p .0))) ⌝ }
 {
     match p.kind() {
         AllocationKind::PhysReg(a) => regs_overlap(t, a, r),
@@ -293,7 +293,7 @@ fn is_slot(p: Allocation, s: SpillSlot) -> bool
 // Whether two places share a unit.
 pub fn overlap(t: &RegInfo, p: Allocation, q: Allocation) -> bool
     requires { ⌜ KnownPlace (regInfoOf (now t)) (placeAt (p .0)) × KnownPlace (regInfoOf (now t)) (placeAt (q .0)) ⌝ }
-    ensures { λ o. ⌜ o ≡ overlap (regInfoOf (now (t .entry))) (placeAt (p .0)) (placeAt (q .0)) ⌝ }
+    ensures { λ o. ⌜ (o ≡ overlap (regInfoOf (now (t .entry))) (placeAt (p .0)) (placeAt (q .0))) × (o ≡ overlap (regInfoOf (now (t .entry))) (placeAt (q .0)) (placeAt (p .0))) ⌝ }
 {
     match q.kind() {
         AllocationKind::PhysReg(r) => overlaps_reg(t, p, r),

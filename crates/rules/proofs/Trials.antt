@@ -8,11 +8,11 @@ use Rattle.rules.specs.Edit.{updated, andThen, each, find, filter}
 use Rattle.rules.specs.Scratch.{acquireFrom, unevict, unevictForReg, slotScratch, evictLast, reuse, orScratch, getScratchReg, moveEdits, doMove}
 use Rattle.rules.specs.Order.{carryOne, carry, remats, rematWithScratch, writerFrom, writersOf, writers, cycleMoveSources, divert, lead, undivert, undivertAll, close, visit, visitUnlessMemory, start, moves}
 use Rattle.rules.specs.Patch.{destinations, add, entryConditions, patchConditions, run, resolveSorted, resolveFrom, resolve}
-use Rattle.rules.specs.Trials.{three, chained, five, six, halves, between, sizes, slotsAlone, memory, eight, Trials, ToldApart}
+use Rattle.rules.specs.Trials.{three, chained, five, six, halves, between, sizes, slotsAlone, memory, eight, Trials, ToldApart, Overlaps}
 
-both : Trials × ToldApart
+all-trials : Trials × ToldApart × Overlaps
 unfolding any all has meets lastOr indices spillslotSize topLevelClass stackToStackClass regMemory bankForReg regUnits bankForClass classSlots classMembers allocationOrder firstOf valueBank rematCost rematClass updated andThen each find filter acquireFrom unevict unevictForReg slotScratch evictLast reuse orScratch getScratchReg moveEdits doMove carryOne carry remats rematWithScratch writerFrom writersOf writers cycleMoveSources divert lead undivert undivertAll close visit visitUnlessMemory start moves destinations add entryConditions patchConditions run resolveSorted resolveFrom resolve three chained five six halves between sizes slotsAlone memory eight orderTotal countsFit bankFits regFits classFits outsideLimits listedTwice unequalWidths foreignMember sharedMemory unfitClass targetRefusal twice
-both = (
+all-trials = (
   record {
     swap-full = (refl, refl, refl);
     unit-free = (refl, refl, refl);
@@ -52,10 +52,19 @@ both = (
     sources-differ = refl;
     values-differ = refl;
   },
+  record {
+    targets = (refl, refl, refl);
+    wider-evicted = (refl, refl, refl);
+    narrower-evicted = (refl, refl, refl);
+    last-overlaps = refl;
+  },
 )
 
 pub trials : Trials
-trials = both .0
+trials = all-trials .0
 
 pub told-apart : ToldApart
-told-apart = both .1
+told-apart = all-trials .1
+
+pub overlaps : Overlaps
+overlaps = all-trials .2

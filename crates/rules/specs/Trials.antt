@@ -271,3 +271,42 @@ pub record ToldApart : Type 0 where
   pub sources-differ : resolve three (plain 0 1) (patch [] (move (reg 0) (reg 2) 0 ∷ move (reg 1) (reg 2) 0 ∷ [])) 16 emptyCache ≡ refused 12
   -- or in its value
   pub values-differ : resolve three (plain 0 1) (patch [] (move (reg 0) (reg 2) 0 ∷ move (reg 0) (reg 2) 1 ∷ [])) 16 emptyCache ≡ refused 12
+
+-- ---- 02 c, overlap by the other list: r1 of bank 1 lists unit 0, which is r0's, behind unit 1; bank 0's stack class is register c
+abbrev pub crossed : ℕ → RegInfo
+crossed c =
+    record {
+      units = 3;
+      banks = record { size = 3; top = 0; stack = 1 } ∷ record { size = 3; top = 2; stack = 3 } ∷ [];
+      regs = single 0 ∷ record { memory = 0; bank = 1; units = 1 ∷ 0 ∷ [] } ∷ single 2 ∷ [];
+      classes =
+          record { bank = 0; slots = 1; members = []; order = [] }
+          ∷ record { bank = 0; slots = 0; members = c ∷ []; order = c ∷ [] }
+          ∷ record { bank = 1; slots = 1; members = []; order = [] }
+          ∷ record { bank = 1; slots = 0; members = 1 ∷ []; order = 1 ∷ [] }
+          ∷ [];
+    }
+
+-- r0 and r1 share unit 1, the second of both; the stack class is r1
+abbrev pub ends : RegInfo
+ends =
+    record {
+      units = 3;
+      banks = record { size = 3; top = 0; stack = 1 } ∷ [];
+      regs = pair 0 1 ∷ pair 2 1 ∷ [];
+      classes = record { bank = 0; slots = 1; members = []; order = [] } ∷ record { bank = 0; slots = 0; members = 1 ∷ []; order = 1 ∷ [] } ∷ [];
+    }
+
+-- the unit that is shared is not the first of the list walked
+pub record Overlaps : Type 0 where
+  pub targets : target.Accepted (crossed 2) × target.Accepted (crossed 0) × target.Accepted ends
+  -- r1 is evicted and brought back for r0, which is read
+  pub wider-evicted :
+      Gives (resolve (crossed 2) (over (fixed 0 ∷ fixed 1 ∷ []) 3 2) (patch [] (move (slot 0) (slot 1) 1 ∷ move (reg 0) (slot 2) 0 ∷ [])) 16 emptyCache)
+      (Move (slot 2) (reg 0) 0 ∷ EmergencySpill 3 1 ∷ Move (reg 1) (slot 0) 1 ∷ Move (slot 1) (reg 1) 1 ∷ EmergencyReload 1 3 ∷ []) 1 (3 ∷ [])
+  -- r0 is evicted and brought back for r1
+  pub narrower-evicted :
+      Gives (resolve (crossed 0) (over (fixed 0 ∷ fixed 1 ∷ []) 3 2) (patch [] (move (slot 0) (slot 1) 0 ∷ move (reg 1) (slot 2) 1 ∷ [])) 16 emptyCache)
+      (Move (slot 2) (reg 1) 1 ∷ EmergencySpill 3 0 ∷ Move (reg 0) (slot 0) 0 ∷ Move (slot 1) (reg 0) 0 ∷ EmergencyReload 0 3 ∷ []) 1 (3 ∷ [])
+  -- the order's last overlaps the destination of a rebuild with scratch
+  pub last-overlaps : resolve ends (over (rebuilt 1 ∷ []) 0 1) (patch [] (remat (reg 0) 0 ∷ [])) 8 emptyCache ≡ refused 14

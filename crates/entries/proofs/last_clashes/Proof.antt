@@ -2,7 +2,6 @@
 use mathlib.Core.Path.{sym, _∙_}
 use Rattle.entity.specs.Place.{reg, placeAt}
 use Rattle.reginfo.specs.Table.{regInfoOf}
-use Rattle.reginfo.proofs.Laws.{overlap-comm}
 use Rattle.reginfo.proofs.Accepted.{known-class, known-units, order-fits, ordered-fits, order-some, last-ordered}
 use Rattle.entries.proofs.last_clashes.Statement.{statement}
 use Rattle.entries.proofs.last_clashes.Tie as tie
@@ -31,7 +30,7 @@ returns-2 : tie.Need-returns-2
 returns-2 c =
     let s = c .before .before .before .before in
     let T = regInfoOf (s .args .t .now) in
-    rw (← c .before .before .before .class-includes-spillslots .ensures, c .before .before .if1 .left, ← c .before .order-last .ensures) (c .overlaps-reg .ensures ∙ overlap-comm T (placeAt (s .args .dest .0)) (reg (c .before .order-last .result .0)))
+    rw (← c .before .before .before .class-includes-spillslots .ensures, c .before .before .if1 .left, ← c .before .order-last .ensures) (c .overlaps-reg .ensures .1)
 
 pub last-clashes-spec : {M : Type 1} → statement M
 last-clashes-spec =

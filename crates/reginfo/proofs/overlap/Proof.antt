@@ -4,7 +4,7 @@ use borrow.Author.Needs.{needs}
 use Rattle.entity.specs.Place.{placeAt}
 use Rattle.reginfo.specs.RegInfo.{overlap}
 use Rattle.reginfo.specs.Table.{regInfoOf}
-use Rattle.reginfo.proofs.Laws.{by-kind, known-kind, overlap-slot}
+use Rattle.reginfo.proofs.Laws.{by-kind, known-kind, overlap-slot, either}
 use Rattle.reginfo.proofs.overlap.Statement.{statement}
 use Rattle.reginfo.proofs.overlap.Tie as tie
 
@@ -24,10 +24,10 @@ is-slot-requires : tie.Need-is-slot-requires
 is-slot-requires c κs = search needs
 
 returns : tie.Need-returns
-returns c = c .overlaps-reg .ensures ∙ by-kind (overlap (regInfoOf (c .before .before .before .before .before .args .t .now)) (placeAt (c .before .before .before .before .before .args .p .0))) (c .before .before .before .before .kind .ensures) (c .before .before .r .given .1)
+returns c = either (regInfoOf (c .before .before .before .before .before .args .t .now)) (placeAt (c .before .before .before .before .before .args .p .0)) (placeAt (c .before .before .before .before .before .args .q .0)) (c .overlaps-reg .ensures .0 ∙ by-kind (overlap (regInfoOf (c .before .before .before .before .before .args .t .now)) (placeAt (c .before .before .before .before .before .args .p .0))) (c .before .before .before .before .kind .ensures) (c .before .before .r .given .1))
 
 returns-2 : tie.Need-returns-2
-returns-2 c = c .is-slot .ensures ∙ sym (overlap-slot (regInfoOf (c .before .before .before .before .before .args .t .now)) (placeAt (c .before .before .before .before .before .args .p .0)) (c .before .before .s .given .0 .0 .0) (c .before .before .before .before .before .pre .0)) ∙ by-kind (overlap (regInfoOf (c .before .before .before .before .before .args .t .now)) (placeAt (c .before .before .before .before .before .args .p .0))) (c .before .before .before .before .kind .ensures) (c .before .before .s .given .1)
+returns-2 c = either (regInfoOf (c .before .before .before .before .before .args .t .now)) (placeAt (c .before .before .before .before .before .args .p .0)) (placeAt (c .before .before .before .before .before .args .q .0)) (c .is-slot .ensures ∙ sym (overlap-slot (regInfoOf (c .before .before .before .before .before .args .t .now)) (placeAt (c .before .before .before .before .before .args .p .0)) (c .before .before .s .given .0 .0 .0) (c .before .before .before .before .before .pre .0)) ∙ by-kind (overlap (regInfoOf (c .before .before .before .before .before .args .t .now)) (placeAt (c .before .before .before .before .before .args .p .0))) (c .before .before .before .before .kind .ensures) (c .before .before .s .given .1))
 
 pub overlap-spec : {M : Type 1} → statement M
 overlap-spec =

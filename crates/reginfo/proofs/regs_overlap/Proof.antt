@@ -1,23 +1,28 @@
--- `regs_overlap` meets its contract: whether a unit is shared from the start equals whether one is shared from here.
+-- `regs_overlap` meets its contract: whether a unit of the second is shared from the start equals whether one is shared from here, and what
+-- the second shares with the first the first shares with the second.
 use Prim.Native.Nat.{ℕ, _≤_, _-_}
 use mathlib.Core.Path.{_≡_, refl, sym, ap, _∙_}
-use mathlib.Core.Bool.{true, false}
+use mathlib.Core.Bool.{Bool, true, false}
 use mathlib.Core.List.{List}
 use native.Mathlib.Omega.{arith}
 use borrow.Author.Needs.{needs}
 use lib.ListN.{getD, length, drop, drop-of-length-le}
 use Rattle.entity.specs.Logic.{has, meets}
-use Rattle.entity.proofs.Laws.{meets-step}
+use Rattle.entity.proofs.Laws.{meets-step, meets-comm}
 use Rattle.reginfo.specs.RegInfo.{regUnits}
 use Rattle.reginfo.specs.Table.{regInfoOf}
 use Rattle.reginfo.proofs.regs_overlap.Statement.{statement}
 use Rattle.reginfo.proofs.regs_overlap.Tie as tie
 
+-- what is shared is shared either way round
+either : {o : Bool} (l m : List ℕ) → o ≡ meets l m → (o ≡ meets m l) × (o ≡ meets l m)
+either l m e = (e ∙ meets-comm l m, e)
+
 abbrev Inv-loop : tie.InvT-loop
-Inv-loop t a b n j₀ j = (meets (regUnits (regInfoOf t) (a .0)) (regUnits (regInfoOf t) (b .0)) ≡ meets (drop j (regUnits (regInfoOf t) (a .0))) (regUnits (regInfoOf t) (b .0))) × (j ≤ length (regUnits (regInfoOf t) (a .0)))
+Inv-loop t a b n k₀ k = (meets (regUnits (regInfoOf t) (b .0)) (regUnits (regInfoOf t) (a .0)) ≡ meets (drop k (regUnits (regInfoOf t) (b .0))) (regUnits (regInfoOf t) (a .0))) × (k ≤ length (regUnits (regInfoOf t) (b .0)))
 
 abbrev μ-loop : tie.MeasureT-loop
-μ-loop t a b n j₀ j = length (regUnits (regInfoOf t) (a .0)) - j
+μ-loop t a b n k₀ k = length (regUnits (regInfoOf t) (b .0)) - k
 
 num-reg-units-requires : tie.Need-num-reg-units-requires Inv-loop μ-loop
 num-reg-units-requires c κs = search needs
@@ -35,13 +40,13 @@ returns : tie.Need-returns Inv-loop μ-loop
 returns c =
     let l = c .before .before .before .before .loop in
     let s = c .before .before .before .before .before .before in
-    let us = regUnits (regInfoOf (s .args .t .now)) (s .args .a .0) in
-    let vs = regUnits (regInfoOf (s .args .t .now)) (s .args .b .0) in
-    let e : has (getD us (l .j) 0) vs ≡ true = cc in
-    sym (l .inv .0 ∙ meets-step us vs (l .j) (omega arith) ∙ rw e)
+    let us = regUnits (regInfoOf (s .args .t .now)) (s .args .b .0) in
+    let vs = regUnits (regInfoOf (s .args .t .now)) (s .args .a .0) in
+    let e : has (getD us (l .k) 0) vs ≡ true = cc in
+    either us vs (sym (l .inv .0 ∙ meets-step us vs (l .k) (omega arith) ∙ rw e))
 
-add-j : tie.Need-add-j Inv-loop μ-loop
-add-j c = search needs
+add-k : tie.Need-add-k Inv-loop μ-loop
+add-k c = search needs
 
 loop-less : tie.Need-loop-less Inv-loop μ-loop
 loop-less c = search needs
@@ -50,17 +55,19 @@ loop-again : tie.Need-loop-again Inv-loop μ-loop
 loop-again c =
     let l = c .before .before .before .before .loop in
     let s = c .before .before .before .before .before .before in
-    let us = regUnits (regInfoOf (s .args .t .now)) (s .args .a .0) in
-    let vs = regUnits (regInfoOf (s .args .t .now)) (s .args .b .0) in
-    let e : has (getD us (l .j) 0) vs ≡ false = cc in
-    (l .inv .0 ∙ meets-step us vs (l .j) (omega arith) ∙ rw e, omega arith)
+    let us = regUnits (regInfoOf (s .args .t .now)) (s .args .b .0) in
+    let vs = regUnits (regInfoOf (s .args .t .now)) (s .args .a .0) in
+    let e : has (getD us (l .k) 0) vs ≡ false = cc in
+    (l .inv .0 ∙ meets-step us vs (l .k) (omega arith) ∙ rw e, omega arith)
 
 returns-2 : tie.Need-returns-2 Inv-loop μ-loop
 unfolding meets
 returns-2 c =
     let l = c .before .loop in
     let s = c .before .before .before in
-    sym (l .inv .0 ∙ ap (λ (k : List ℕ). meets k (regUnits (regInfoOf (s .args .t .now)) (s .args .b .0))) (drop-of-length-le (regUnits (regInfoOf (s .args .t .now)) (s .args .a .0)) {i = l .j} (omega arith)))
+    let us = regUnits (regInfoOf (s .args .t .now)) (s .args .b .0) in
+    let vs = regUnits (regInfoOf (s .args .t .now)) (s .args .a .0) in
+    either us vs (sym (l .inv .0 ∙ ap (λ (l : List ℕ). meets l vs) (drop-of-length-le us {i = l .k} (omega arith))))
 
 pub regs-overlap-spec : {M : Type 1} → statement M
 regs-overlap-spec =
@@ -73,7 +80,7 @@ regs-overlap-spec =
     reg-unit-requires
     has-unit-requires
     returns
-    add-j
+    add-k
     loop-less
     loop-again
     returns-2)

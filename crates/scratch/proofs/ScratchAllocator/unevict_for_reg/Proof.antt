@@ -25,10 +25,10 @@ unevict-all-requires c κs = search needs
 
 returns-2 : tie.Need-returns-2
 returns-2 c =
-    λ available. brought-met _ _ _ _ _ _ _ _ _ (c .before .before .before .before .before .before .e .given .1) _ _ _ (c .before .before .before .before .overlaps-reg .ensures) (c .before .before .before .if1 .taken) (c .unevict-all .ensures available)
+    λ available. brought-met _ _ _ _ _ _ _ _ _ (c .before .before .before .before .before .before .e .given .1) _ _ _ (c .before .before .before .before .overlaps-reg .ensures .0) (c .before .before .before .if1 .taken) (c .unevict-all .ensures available)
 
 returns-3 : tie.Need-returns-3
-returns-3 c = λ available. brought-apart _ _ _ _ _ _ _ _ _ (c .before .before .before .e .given .1) _ (c .before .overlaps-reg .ensures) (c .if1 .left)
+returns-3 c = λ available. brought-apart _ _ _ _ _ _ _ _ _ (c .before .before .before .e .given .1) _ (c .before .overlaps-reg .ensures .0) (c .if1 .left)
 
 pub unevict-for-reg-spec : {M : Type 1} → statement M
 unevict-for-reg-spec =
