@@ -4,6 +4,7 @@ use crate::draft::{self, Draft, Patch, Place};
 
 #[link(name = "parallel_moves_c", kind = "static")]
 unsafe extern "C" {
+    #[link_name = "parallel_moves_open_1"]
     fn parallel_moves_open(
         bytes: *const u8,
         bytes_len: usize,
@@ -12,6 +13,7 @@ unsafe extern "C" {
         cache: *mut u16,
     ) -> u8;
 
+    #[link_name = "parallel_moves_resolve_1"]
     fn parallel_moves_resolve(
         target: *const u16,
         function: *const u16,
@@ -34,6 +36,7 @@ unsafe extern "C" {
         carried: *mut u16,
     ) -> usize;
 
+    #[link_name = "parallel_moves_answer_1"]
     fn parallel_moves_answer(
         job: *const u8,
         job_len: usize,
