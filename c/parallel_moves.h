@@ -1,13 +1,14 @@
 /* Parallel moves over registers that share units, resolved in-process.
  *
- * For C11 and C++. Link target/staticlib/libparallel_moves_c.a, which
- * `rt staticlib parallel_moves_c` builds; c/stamp writes parallel_moves_build.h
- * beside it, which says which build it is. docs/JOB.md has the format of a job,
- * and every refusal with its cause and cure.
- *
- * Patch by patch: parallel_moves_open_in with a target and a function, then
- * parallel_moves_resolve_in with each patch. A whole job, as bytes:
- * parallel_moves_answer_in.
+ * For C11 and C++. Link what is used of target/staticlib, or both:
+ * - libcalls_c.a, which `rt staticlib calls_c` builds, for calls patch by patch:
+ *   parallel_moves_open_in with a target and a function, then
+ *   parallel_moves_resolve_in with each patch, and parallel_moves_slots_made;
+ * - libparallel_moves_c.a, which `rt staticlib parallel_moves_c` builds, for a
+ *   whole job as bytes: parallel_moves_answer_in, and parallel_moves_text.
+ * c/stamp writes parallel_moves_build.h beside them, which says which build they
+ * are. docs/JOB.md has the format of a job, and every refusal with its cause and
+ * cure.
  *
  * The functions keep nothing but in the tables that they are lent, neither
  * allocate nor print, and accept any bytes and any patch. Of a caller they ask:

@@ -1,6 +1,6 @@
 //! Says where the static library is, from the folder that the environment names
-//! or from the one that the repository builds it in, and which build it is. The
-//! library is needed only when a program is linked.
+//! or from the one that the repository builds it in, and which build it is. It is
+//! two archives, and is needed only when a program is linked.
 
 use std::env;
 use std::fs;
@@ -10,7 +10,8 @@ use std::process::Command;
 /// Names the folder of the library by its whole path, where it is another than
 /// the repository's.
 const VARIABLE: &str = "PARALLEL_MOVES_LIB_DIR";
-const ARCHIVE: &str = "libparallel_moves_c.a";
+/// What is linked: whole jobs, and calls patch by patch.
+const LIBRARIES: [&str; 2] = ["parallel_moves_c", "calls_c"];
 /// What `c/stamp` writes beside the library.
 const STAMP: &str = "parallel_moves_build.h";
 
@@ -24,41 +25,43 @@ fn main() {
             root.join("target/staticlib")
         }
     };
-    let archive = folder.join(ARCHIVE);
+    let archives = LIBRARIES.map(|name| folder.join(format!("lib{name}.a")));
     let stamp = folder.join(STAMP);
     println!("cargo::rerun-if-changed=build.rs");
     println!("cargo::rerun-if-changed=src/sys.rs");
-    println!("cargo::rerun-if-changed={}", archive.display());
     println!("cargo::rerun-if-changed={}", stamp.display());
 
     // Not bundled: it is looked for when a program is linked, and not before.
     println!("cargo::rustc-link-search=native={}", folder.display());
-    println!("cargo::rustc-link-lib=static:-bundle=parallel_moves_c");
-    if !archive.is_file() {
-        println!(
-            "cargo::warning={} is not there, so no program can be linked: run `rt staticlib \
-             parallel_moves_c` in the repository's root, or let {VARIABLE} name the folder that \
-             has {ARCHIVE}",
-            archive.display()
-        );
+    for (name, archive) in LIBRARIES.iter().zip(&archives) {
+        println!("cargo::rerun-if-changed={}", archive.display());
+        println!("cargo::rustc-link-lib=static:-bundle={name}");
+        if !archive.is_file() {
+            println!(
+                "cargo::warning={} is not there, so no program can be linked: run `rt staticlib \
+                 {name}` in the repository's root, or let {VARIABLE} name the folder that has it",
+                archive.display()
+            );
+        }
     }
     println!(
         "cargo::rustc-env=PARALLEL_MOVES_BUILD={}",
-        build(&here, &archive, &stamp)
+        build(&here, &archives, &stamp)
     );
 }
 
-/// Which build it is: the one that is stamped, if the stamp is this library's.
-fn build(here: &Path, archive: &Path, stamp: &Path) -> String {
+/// Which build it is: the one that is stamped, if the stamp is these archives'.
+fn build(here: &Path, archives: &[PathBuf], stamp: &Path) -> String {
     let version = env::var("CARGO_PKG_VERSION").expect("cargo sets it");
     let sys = fs::read_to_string(here.join("src/sys.rs")).expect("it is the crate's");
     let interface =
         between(&sys, "link_name = \"parallel_moves_open_", "\"").expect("it is declared there");
     let start = format!("parallel_moves {version} interface {interface}");
-    let Some(sum) = sum(archive) else {
+    let sums: Option<Vec<String>> = archives.iter().map(|archive| sum(archive)).collect();
+    let Some(sums) = sums else {
         return format!("{start} library none");
     };
-    let start = format!("{start} library {sum}");
+    let start = format!("{start} library {}", sums.join(" "));
     let stamped = fs::read_to_string(stamp).unwrap_or_default();
     match between(&stamped, "#define PARALLEL_MOVES_BUILD \"", "\"") {
         Some(line) if line.starts_with(&format!("{start} ")) => line.to_owned(),

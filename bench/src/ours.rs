@@ -3,6 +3,7 @@
 use crate::draft::{self, Draft, Patch, Place};
 
 #[link(name = "parallel_moves_c", kind = "static")]
+#[link(name = "calls_c", kind = "static")]
 unsafe extern "C" {
     #[link_name = "parallel_moves_open_1"]
     fn parallel_moves_open(
@@ -147,10 +148,15 @@ impl Given {
             });
         }
         Given {
-            free: patch.free.iter().map(|&unit| unit as u32).collect(),
+            free: free(patch),
             numbers,
         }
     }
+}
+
+/// A patch's free units as numbers.
+pub fn free(patch: &Patch) -> Vec<u32> {
+    patch.free.iter().map(|&unit| unit as u32).collect()
 }
 
 /// The bytes of a target and a function: a job without patch count and patches.

@@ -32,7 +32,7 @@ pub struct Pair {
 impl Pair {
     pub fn open(draft: &Draft) -> Self {
         let ours = ours::Job::open(draft);
-        let theirs = theirs::Job::open(&ours.bytes).expect("compare's reader refuses the job");
+        let theirs = theirs::Job::open(draft).expect("compare's reader refuses the job");
         Pair {
             ours,
             theirs,

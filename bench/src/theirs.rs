@@ -2,8 +2,11 @@
 
 use original::internal::parallel_moves::{Edit, ParallelMoves};
 use original::output::{Allocation, AllocationKind, SpillSlot};
+use original::reginfo::{RegUnit, RegUnitSet};
 
+use crate::draft::Draft;
 use crate::number::{Reader, Refused};
+use crate::ours;
 use crate::patch::{Entry, Patch};
 use crate::target::Target;
 use crate::values::Values;
@@ -40,14 +43,17 @@ pub struct Job {
     target: Target,
     values: Values,
     patches: Vec<Patch>,
+    /// The free units of each, as ours is given them.
+    free: Vec<Vec<u32>>,
     /// Of this function only, as it keeps the emergency slots.
     moves: ParallelMoves,
     made: usize,
 }
 
 impl Job {
-    pub fn open(bytes: &[u8]) -> Result<Self, Refused> {
-        let mut reader = Reader::new(bytes);
+    pub fn open(draft: &Draft) -> Result<Self, Refused> {
+        let bytes = draft.job();
+        let mut reader = Reader::new(&bytes);
         let target = Target::read(&mut reader)?;
         let values = Values::read(&mut reader, &target)?;
         let count = reader.within(1, 1024)?;
@@ -60,6 +66,7 @@ impl Job {
             target,
             values,
             patches,
+            free: draft.patches.iter().map(ours::free).collect(),
             moves,
             made: 0,
         })
@@ -87,13 +94,13 @@ fn resolve(
     moves: &mut ParallelMoves,
     target: &Target,
     values: &Values,
-    patch: &Patch,
+    free: &RegUnitSet,
     made: &mut usize,
 ) -> bool {
     moves.resolve(
         target,
         values,
-        |unit| patch.free.contains(unit),
+        |unit| free.contains(unit),
         |_size| {
             let slot = SpillSlot::new(values.slots + *made);
             *made += 1;
@@ -103,17 +110,26 @@ fn resolve(
     *made <= values.emergency_limit
 }
 
-/// Adds and resolves a patch: how many edits it has.
+/// Makes the set of a patch's free units, adds and resolves it: how many edits
+/// it has.
 #[inline(never)]
 #[unsafe(no_mangle)]
 pub extern "C" fn timed_original_patch(job: &mut Job, memory: &mut Memory, patch: usize) -> usize {
-    let patch = &job.patches[patch];
-    add(&mut job.moves, &job.target, &job.values, patch);
+    let mut free = RegUnitSet::new();
+    for &unit in &job.free[patch] {
+        free.insert(RegUnit::new(unit as usize));
+    }
+    add(
+        &mut job.moves,
+        &job.target,
+        &job.values,
+        &job.patches[patch],
+    );
     if !resolve(
         &mut job.moves,
         &job.target,
         &job.values,
-        patch,
+        &free,
         &mut job.made,
     ) {
         return usize::MAX;
@@ -150,7 +166,7 @@ fn answer(bytes: &[u8], memory: &mut Memory) -> Result<(), Refused> {
     for _ in 0..reader.within(1, 1024)? {
         let patch = Patch::read(&mut reader, &target, &values)?;
         add(&mut memory.moves, &target, &values, &patch);
-        if !resolve(&mut memory.moves, &target, &values, &patch, &mut made) {
+        if !resolve(&mut memory.moves, &target, &values, &patch.free, &mut made) {
             return Err(Refused(17));
         }
         let head = memory.words.len();

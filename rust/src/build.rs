@@ -1,9 +1,9 @@
 //! Which build this is.
 
 /// Tells builds apart, in one line: the crate's version, the version of the
-/// interface, the SHA-256 sum of the static library, the kit and the sum of the
-/// logic that proved it, and the commit of the checkout that it was made in,
-/// with `+changes` if that had any.
+/// interface, the SHA-256 sums of the static library's two archives, the kit and
+/// the sum of the logic that proved it, and the commit of the checkout that it
+/// was made in, with `+changes` if that had any.
 ///
 /// Without the library it ends in `library none`, and if `c/stamp` was not run
 /// for the library in `not stamped`.

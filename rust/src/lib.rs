@@ -30,9 +30,10 @@
 //! # Building
 //!
 //! The static library is linked when a program is: from `target/staticlib` of
-//! the repository, where `rt staticlib parallel_moves_c` makes it, or from the
-//! folder that `PARALLEL_MOVES_LIB_DIR` names. `cargo check` and `cargo doc`
-//! do without it. [`BUILD`] tells builds apart.
+//! the repository, where `rt staticlib parallel_moves_c` and `rt staticlib
+//! calls_c` make its two archives, or from the folder that
+//! `PARALLEL_MOVES_LIB_DIR` names. `cargo check` and `cargo doc` do without it.
+//! [`BUILD`] tells builds apart.
 
 mod answer;
 mod build;

@@ -91,7 +91,9 @@ fn library(function: &str) -> Vec<String> {
         let path = entry.unwrap().path().join("src/lib.rt");
         types(&fs::read_to_string(path).unwrap_or_default(), &mut names);
     }
-    let text = read("crates/parallel_moves_c/src/lib.rt");
+    let libraries = ["parallel_moves_c", "calls_c"];
+    let text = libraries.map(|library| read(&format!("crates/{library}/src/lib.rt")));
+    let text = text.concat();
     let start = format!("fn {function}_{}(", interface());
     let (_, declared) = text
         .split_once(&start)

@@ -13,6 +13,7 @@ const MOST_TEXT: usize = 19 * 2 * MOST_BYTES + 36 * (MOST_PATCHES + 1);
 extern crate stub;
 
 #[cfg_attr(not(stub), link(name = "parallel_moves_c", kind = "static"))]
+#[cfg_attr(not(stub), link(name = "calls_c", kind = "static"))]
 unsafe extern "C" {
     #[link_name = "parallel_moves_open_1"]
     fn parallel_moves_open(

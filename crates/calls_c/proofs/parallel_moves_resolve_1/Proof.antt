@@ -3,12 +3,12 @@ use Rattle.reginfo.specs.Table.{regInfoOf}
 use Rattle.function.specs.Table.{functionOf}
 use Rattle.slots.specs.Stacks.{cacheOf}
 use Rattle.calls.specs.Call.{callOf}
-use Rattle.parallel_moves_c.proofs.Calling.{gave-edits, gave-number}
+use Rattle.calls_c.proofs.Calling.{gave-edits, gave-number}
 use borrow.Author.Needs.{needs}
-use Rattle.parallel_moves_c.proofs.parallel_moves_resolve_1.Statement.{statement}
-use Rattle.parallel_moves_c.proofs.parallel_moves_resolve_1.Tie as tie
-use Rattle.parallel_moves_c.proofs.parallel_moves_resolve_1.Reads as reads
-use Rattle.parallel_moves_c.proofs.parallel_moves_resolve_1.Lts as lts
+use Rattle.calls_c.proofs.parallel_moves_resolve_1.Statement.{statement}
+use Rattle.calls_c.proofs.parallel_moves_resolve_1.Tie as tie
+use Rattle.calls_c.proofs.parallel_moves_resolve_1.Reads as reads
+use Rattle.calls_c.proofs.parallel_moves_resolve_1.Lts as lts
 use Rattle.calls.proofs.resolve.Reads as resolve-reads
 
 resolve-requires : tie.Need-resolve-requires

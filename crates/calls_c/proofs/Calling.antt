@@ -11,7 +11,7 @@ use Rattle.parallel_moves.specs.Answers.{Gives}
 use Rattle.job.specs.Job.{Opened}
 use Rattle.calls.specs.declared.Opened.the-variants.{Yes, Refused}
 use Rattle.calls.specs.Opening.{OpenedAs}
-use Rattle.parallel_moves_c.specs.Called.{OpenedBy, CalledAs}
+use Rattle.calls_c.specs.Called.{OpenedBy, CalledAs}
 
 module _ (t f cache cache′ : List ℕ) where
   pub opened : (x : Read Opened) → OpenedAs x Yes t f cache cache′ → OpenedBy x 0 t f cache cache′

@@ -1,10 +1,10 @@
 use Rattle.calls.specs.Opening as calls
-use Rattle.parallel_moves_c.proofs.Calling.{opened, not-opened}
+use Rattle.calls_c.proofs.Calling.{opened, not-opened}
 use borrow.Author.Needs.{needs}
-use Rattle.parallel_moves_c.proofs.parallel_moves_open_1.Statement.{statement}
-use Rattle.parallel_moves_c.proofs.parallel_moves_open_1.Tie as tie
-use Rattle.parallel_moves_c.proofs.parallel_moves_open_1.Reads as reads
-use Rattle.parallel_moves_c.proofs.parallel_moves_open_1.Lts as lts
+use Rattle.calls_c.proofs.parallel_moves_open_1.Statement.{statement}
+use Rattle.calls_c.proofs.parallel_moves_open_1.Tie as tie
+use Rattle.calls_c.proofs.parallel_moves_open_1.Reads as reads
+use Rattle.calls_c.proofs.parallel_moves_open_1.Lts as lts
 use Rattle.calls.proofs.open.Reads as open-reads
 
 open-requires : tie.Need-open-requires
