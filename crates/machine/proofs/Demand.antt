@@ -19,9 +19,9 @@ use Rattle.function.specs.Refused as function
 use Rattle.function.proofs.Laws.{bank-there}
 use Rattle.rules.specs.Edit.{Edit}
 use Rattle.rules.specs.Scratch.{Cache, emptyCache, unitsOfReg}
-use Rattle.rules.specs.Order.{KeptMove, Remat, noMove, source, dest, value}
+use Rattle.rules.specs.Order.{KeptMove, Remat, source, dest, value}
 use Rattle.rules.specs.Patch.{Entry, Patch, Sorted, sorted, destinations, run, Answer, refused, resolved, resolve, Call, cacheAfter}
-use Rattle.rules.specs.Sorted.{SortedOk, RematOk, Ran, noRemat}
+use Rattle.rules.specs.Sorted.{SortedOk, RematOk, Ran}
 use Rattle.rules.proofs.Accepted.{accepted}
 use Rattle.machine.specs.Machine.{Memory, Machine, fits}
 use Rattle.machine.specs.Claim.{entryDest, entryValue, Contents, OfValue, Stopped, Finished, Right, Accepted, Answered, Claim, Demand3}
@@ -35,7 +35,7 @@ use Rattle.machine.proofs.Search.{ClassOk, place-covers}
 use Rattle.machine.proofs.Emit.{MemoryRule, StackOk}
 use Rattle.machine.proofs.Order.{PatchOk}
 use Rattle.machine.proofs.Whole.{In, EntryOk, PlainsOk, ScratchesOk, NeedR, PatchStart, Done, whole-ok}
-use Rattle.machine.proofs.Premises.{mem-at, has-reverse, Disjoint, disjoint, disjoint-comm, rematAt, kept-passes, remat-passes, scratch-passes, last-apart, dest-disjoint, dest-remat, dest-scratch, remat-remat, remat-scratch, scratch-scratch, writes, free-kept, free-remat, free-scratch, written, barred, remat-class, remat-bank, dest-fits, remat-fits, scratch-fits, member-holds, no-units, reg-low, reg-once, reg-slot, beyond}
+use Rattle.machine.proofs.Premises.{has-reverse, Disjoint, disjoint, disjoint-comm, rematAt, kept-passes, remat-passes, scratch-passes, last-apart, dest-disjoint, dest-remat, dest-scratch, remat-remat, remat-scratch, scratch-scratch, writes, free-kept, free-remat, free-scratch, written, barred, remat-class, remat-bank, dest-fits, remat-fits, scratch-fits, member-holds, no-units, reg-low, reg-once, reg-slot, beyond}
 use Rattle.machine.proofs.Entries.{Became, dests-are, entry-ends}
 use Rattle.machine.proofs.Bound.{bound-ok}
 

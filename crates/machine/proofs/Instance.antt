@@ -1,7 +1,6 @@
 -- Demand 3 at swap-full and at slot-to-slot: target and function are accepted, the edits are those of the trial, and the premise can be met.
 use Prim.Native.Nat.{ℕ, zero, suc, _<_}
 use mathlib.Core.Path.{_≡_, refl, sym, ap, _∙_}
-use mathlib.Core.Bool.{true, false}
 use mathlib.Core.List.{List, [], _∷_, map}
 use mathlib.Core.Option.{Option, none, some}
 use native.Mathlib.Omega.{arith}

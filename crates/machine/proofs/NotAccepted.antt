@@ -1,17 +1,16 @@
 -- Lists of edits that demand 3 does not accept, by computation from one start each.
 use Prim.Native.Nat.{ℕ, zero, suc, _<_, _≤_}
 use mathlib.Core.Path.{_≡_, refl, sym, ap, _∙_}
-use mathlib.Core.Bool.{Bool, true, false, true≢false, false≢true}
+use mathlib.Core.Bool.{Bool, true, false, false≢true}
 use mathlib.Core.List.{List, [], _∷_, List·Memᴰ, List·Memᴰ·head, List·Memᴰ·tail, List·Memᴰ·not-nil}
 use mathlib.Core.Option.{Option, none, some}
-use mathlib.Core.Logic.{_⊎_, inl, inr, ⊎-elim}
+use mathlib.Core.Logic.{_⊎_, inl, inr}
 use native.Mathlib.Omega.{arith}
-use lib.ListN.{length, getD, take, replicate}
+use lib.ListN.{length, getD, take}
 use Rattle.entity.specs.Logic.{any, all, has, meets, twice, lastOr, indices}
 use Rattle.entity.specs.Place.{Place, reg, slot}
 use Rattle.reginfo.specs.RegInfo.{spillslotSize, topLevelClass, stackToStackClass, regMemory, bankForReg, regUnits, bankForClass, classSlots, classMembers, allocationOrder}
 use Rattle.reginfo.specs.Refused.{orderTotal, countsFit, bankFits, regFits, classFits, outsideLimits, listedTwice, unequalWidths, foreignMember, sharedMemory, unfitClass, firstOf, targetRefusal}
-use Rattle.reginfo.specs.Refused as target
 use Rattle.function.specs.Function.{valueBank, rematCost, rematClass}
 use Rattle.function.specs.Refused as function
 use Rattle.rules.specs.Edit.{Edit, Move, updated, andThen, each, find, filter}
