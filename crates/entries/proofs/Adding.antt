@@ -17,30 +17,21 @@ use Rattle.reginfo.specs.Table.{regInfoOf}
 use Rattle.function.specs.Function.{Function, numValues, valueBank, rematClass, canRematerialize}
 use Rattle.function.specs.Table.{functionOf}
 use Rattle.rules.specs.Order.{KeptMove, Remat, noMove, writerFrom}
-use Rattle.rules.specs.Patch.{Entry, move, remat, Sorted, destinations, needsScratch, becomesRemat, sameMove, dropped, addRemat, add, namesPlace, overlapsEarlier, entryConditions}
+use Rattle.rules.specs.Patch.{Entry, move, remat, Sorted, destinations, needsScratch, becomesRemat, sameMove, dropped, addRemat, add, namesPlace, overlapsEarlier, wouldBeKept, overlapsSource, entryConditions}
 use Rattle.rules.specs.Sorted.{SortedOk}
-use Rattle.rules.proofs.Accepted.{sorted-add}
+use Rattle.rules.proofs.Accepted.{same-self, same-is, sorted-add}
 use Rattle.sparse.specs.Map.{mapOf, known}
 use Rattle.entries.specs.Table.{moveAt, sortedOf, isMoveOf, keptMove, rebuiltAs, withMove, withRemat, withDropped}
 use Rattle.function.specs.Known.{Checked}
-use Rattle.entries.specs.Known.{Writable, NamedRemat, NamedMove, isWritten, Noted, Roomy, orRebuilt, writerOf, Tracked, PassedMove, EntriesOk}
-use Rattle.entries.specs.Answers.{AddedAs, RebuiltAs}
+use Rattle.entries.specs.Known.{Writable, NamedRemat, NamedMove, isWritten, Noted, Roomy, orRebuilt, writerOf, SameIndex, Tracked, PassedMove, EntriesOk}
+use Rattle.entries.specs.Answers.{KeptAs, AddedAs, RebuiltAs}
 use Rattle.entries.proofs.Lists.{both-ways, pick-none, any-true, any-where, any-only, meets-any}
 use Rattle.entries.proofs.Table.{kept-count, remats-count, scratch-count, entries-count, kept-is}
 use Rattle.entries.proofs.Writers.{known-none, known-from, overlaps-written, tracked-move, tracked-remat}
 use Rattle.entries.proofs.Fates.{writable}
+use Rattle.entries.proofs.Sources.{indexed-same, indexed-kept}
 
 -- places by their codes
-same-self : (p : Place) → samePlace p p ≡ true
-same-self (reg r) = eq-eqb r r refl
-same-self (slot s) = eq-eqb s s refl
-
-same-is : (p q : Place) → samePlace p q ≡ true → p ≡ q
-same-is (reg a) (reg b) e = ap reg (eqb-true a b e)
-same-is (slot a) (slot b) e = ap slot (eqb-true a b e)
-same-is (reg a) (slot b) e = absurd (false≢true e)
-same-is (slot a) (reg b) e = absurd (false≢true e)
-
 pub same-code : (a b : ℕ) → samePlace (placeAt a) (placeAt b) ≡ eqb a b
 same-code a b =
     both-ways (samePlace (placeAt a) (placeAt b)) (eqb a b)
@@ -74,8 +65,8 @@ roomy t f e w ok less =
 pub rebuild-refused : (e w us : List ℕ) (b : Bool) (x : Remat) → any (isWritten w) us ≡ true → RebuiltAs e w e w us b x (some 12)
 rebuild-refused e w us b x h = record { is = rw h; yes = λ q. (let z : _≡_ {A = ℕ} 0 1 = cc in absurd (omega arith)); no = λ n q. (refl, refl) }
 
-pub rebuild-taken : (e w e′ w′ us : List ℕ) (b : Bool) (x : Remat) → any (isWritten w) us ≡ false → sortedOf e′ ≡ withRemat b x (sortedOf e) → Noted w w′ us 128 → RebuiltAs e w e′ w′ us b x none
-rebuild-taken e w e′ w′ us b x h q n = record { is = rw h; yes = λ z. (q, n); no = λ m z. (let y : _≡_ {A = ℕ} 0 1 = cc in absurd (omega arith)) }
+pub rebuild-taken : (e w e′ w′ us : List ℕ) (b : Bool) (x : Remat) → any (isWritten w) us ≡ false → (sortedOf e′ ≡ withRemat b x (sortedOf e)) × SameIndex e e′ → Noted w w′ us 128 → RebuiltAs e w e′ w′ us b x none
+rebuild-taken e w e′ w′ us b x h q n = record { is = rw h; yes = λ z. (q .0, n, q .1); no = λ m z. (let y : _≡_ {A = ℕ} 0 1 = cc in absurd (omega arith)) }
 
 module _ (t : RegInfo) (f : Function) where
   -- the kept move that writes a unit
@@ -141,7 +132,7 @@ module _ (t : RegInfo) (f : Function) where
   full a (remat d v) h = rw (le-leb 128 (a .count) h)
 
   -- the numbers an entry can still be refused by
-  move-conditions : (a : Sorted) (s d : Place) (v : ℕ) → PassedMove t f a s d v → firstOf (entryConditions t f a (move s d v)) ≡ orElse (and (overlapsEarlier t f a d) (no (dropped t f a s d v))) 12 none
+  move-conditions : (a : Sorted) (s d : Place) (v : ℕ) → PassedMove t f a s d v → firstOf (entryConditions t f a (move s d v)) ≡ orElse (and (overlapsEarlier t f a d) (no (dropped t f a s d v))) 12 (orElse (and (wouldBeKept t f a s d v) (overlapsSource t a s)) 21 none)
   unfolding entryConditions firstOf
   move-conditions a s d v p = rw (lt-leb 128 (a .count) (p .less), p .source-named, p .dest-named, lt-ltb v (numValues f) (p .value-named), p .source-bank, p .dest-bank, p .differ)
 
@@ -226,7 +217,7 @@ module _ (t f e w : List ℕ) (ok : Checked t f) (kept : EntriesOk t f e w) wher
     unfolding entryConditions firstOf
     not-rebuilt g h = refused-by (remat d v) 11 (rw (lt-leb 128 (a .count) (n .less), n .dest-named, lt-ltb v (numValues F) (n .value-named), g, h))
 
-  taken : (x : Entry) (e′ w′ : List ℕ) → firstOf (entryConditions T F a x) ≡ none → sortedOf e′ ≡ add T F x a → (SortedOk T F (add T F x a) → Tracked T F (add T F x a) w′) → AddedAs t f e w e′ w′ x none
+  taken : (x : Entry) (e′ w′ : List ℕ) → firstOf (entryConditions T F a x) ≡ none → sortedOf e′ ≡ add T F x a → (SortedOk T F (add T F x a) → Tracked T F (add T F x a) e′ w′) → AddedAs t f e w e′ w′ x none
   taken x e′ w′ h q g = record { is = sym h; yes = λ z. (q, rw q (g (sorted-add T F x a (kept .sorted) h))); no = λ n z. (let y : _≡_ {A = ℕ} 0 1 = cc in absurd (omega arith)) }
 
   -- a rebuild
@@ -243,7 +234,7 @@ module _ (t f e w : List ℕ) (ok : Checked t f) (kept : EntriesOk t f e w) wher
         yes = λ z. (let m = done .yes z in
             let ok = rw q at (sorted-add T F x a (kept .sorted) (given ∙ sym (done .is) ∙ z)) in
             let apart = overlaps-is (placeAt d) ∙ pick-none (any (isWritten w) (placeUnits T (placeAt d))) 12 (sym z ∙ done .is) in
-            (m .0 ∙ sym q, rw (m .0) (tracked-remat T F a (placeAt d) apart w w′ kept less (writes .few) b v (m .1) ok)));
+            (m .0 ∙ sym q, rw (m .0) (tracked-remat T F a (placeAt d) apart e e′ w w′ kept less (writes .few) b v (m .1) ok (m .2))));
         no = done .no;
       }
 
@@ -270,27 +261,35 @@ module _ (t f e w : List ℕ) (ok : Checked t f) (kept : EntriesOk t f e w) wher
       dropped-is : dropped T F a (placeAt s) (placeAt d) v ≡ there
       dropped-is = rw q (same-there s d v dest-writable)
 
-      kept-conditions : firstOf (entryConditions T F a (move (placeAt s) (placeAt d) v)) ≡ orElse (and written (no there)) 12 none
-      kept-conditions = move-conditions T F a (placeAt s) (placeAt d) v p ∙ rw (overlaps-is (placeAt d), dropped-is)
+      kept-conditions : firstOf (entryConditions T F a (move (placeAt s) (placeAt d) v)) ≡ orElse (and written (no there)) 12 (orElse (and (no there) (overlapsSource T a (placeAt s))) 21 none)
+      kept-conditions = move-conditions T F a (placeAt s) (placeAt d) v p ∙ rw (overlaps-is (placeAt d), dropped-is, q)
 
       pub refused-12 : written ≡ true → there ≡ false → AddedAs t f e w e w (move (placeAt s) (placeAt d) v) (some 12)
       refused-12 h g = refused-by (move (placeAt s) (placeAt d) v) 12 (kept-conditions ∙ rw (h, g))
 
-      pub added-dropped : written ≡ true → there ≡ true → (e′ : List ℕ) → sortedOf e′ ≡ withDropped a → AddedAs t f e w e′ w (move (placeAt s) (placeAt d) v) none
+      -- a move whose destination nothing writes
+      new : written ≡ false → there ≡ false
+      new h = rw (known-none (mapOf w (getD (placeUnits T (placeAt d)) 0 0)) (any-has (isWritten w) (placeUnits T (placeAt d)) _ h (has-getD (placeUnits T (placeAt d)) 0 (dest-writable .some))))
+
+      pub refused-21 : written ≡ false → overlapsSource T a (placeAt s) ≡ true → AddedAs t f e w e w (move (placeAt s) (placeAt d) v) (some 21)
+      refused-21 h g = refused-by (move (placeAt s) (placeAt d) v) 21 (kept-conditions ∙ rw (h, new h, g))
+
+      pub added-dropped : written ≡ true → there ≡ true → (e′ : List ℕ) → sortedOf e′ ≡ withDropped a → SameIndex e e′ → AddedAs t f e w e′ w (move (placeAt s) (placeAt d) v) none
       unfolding add writerOf
-      added-dropped h g e′ done =
+      added-dropped h g e′ done same =
           let is : add T F (move (placeAt s) (placeAt d) v) a ≡ withDropped a = rw (q, same-there s d v dest-writable, g) in
           taken (move (placeAt s) (placeAt d) v) e′ w (kept-conditions ∙ rw (h, g)) (done ∙ sym is)
-          (λ o. rw is record { sorted = rw is at o; few = omega (arith, kept .few); most = omega (arith, p .less); map = kept .map; linked = kept .linked; room = kept .room })
+          (λ o. rw is record { sorted = rw is at o; few = omega (arith, kept .few); most = omega (arith, p .less); map = kept .map; linked = kept .linked; room = kept .room; indexed = indexed-same T a (withDropped a) e e′ refl same (kept .indexed) })
 
-      pub added-kept : written ≡ false → (e′ w′ : List ℕ) → sortedOf e′ ≡ withMove (keptMove s d v) a → Noted w w′ (placeUnits T (placeAt d)) (length (a .moves)) → AddedAs t f e w e′ w′ (move (placeAt s) (placeAt d) v) none
+      pub added-kept : written ≡ false → overlapsSource T a (placeAt s) ≡ false → (e′ w′ : List ℕ) → KeptAs T e w e′ w′ s d v → AddedAs t f e w e′ w′ (move (placeAt s) (placeAt d) v) none
       unfolding add
-      added-kept h e′ w′ done noted =
-          let nothing = known-none (mapOf w (getD (placeUnits T (placeAt d)) 0 0)) (any-has (isWritten w) (placeUnits T (placeAt d)) _ h (has-getD (placeUnits T (placeAt d)) 0 (dest-writable .some))) in
-          let new : any (sameMove T F (placeAt s) (placeAt d) v) (a .moves) ≡ false = same-there s d v dest-writable ∙ rw nothing in
-          let is : add T F (move (placeAt s) (placeAt d) v) a ≡ withMove (keptMove s d v) a = rw (q, new) in
-          taken (move (placeAt s) (placeAt d) v) e′ w′ (kept-conditions ∙ rw h) (done ∙ sym is)
-          (λ o. rw is (tracked-move T F a (placeAt d) (overlaps-is (placeAt d) ∙ h) w w′ kept (p .less) (dest-writable .few) (placeAt s) v noted (rw is at o)))
+      added-kept h g e′ w′ done =
+          let is : add T F (move (placeAt s) (placeAt d) v) a ≡ withMove (keptMove s d v) a = rw (q, same-there s d v dest-writable, new h) in
+          let reads = writable t f ok (placeAt s) (p .source-named) in
+          taken (move (placeAt s) (placeAt d) v) e′ w′ (kept-conditions ∙ rw (h, new h, g)) (done .sorted ∙ sym is)
+          (λ o. rw is
+              (tracked-move T F a (placeAt d) (overlaps-is (placeAt d) ∙ h) e e′ w w′ kept (p .less) (dest-writable .few) (placeAt s) v (done .noted) (rw is at o)
+              (indexed-kept T F e w e′ w′ s d v (reads .known) (reads .few) (kept .indexed) done (rw is at o))))
 
     -- a move that is rebuilt
     pub added-instead : (b : Bool) → becomesRemat T F (placeAt s) (placeAt d) v ≡ true → needsScratch T F (placeAt d) v ≡ b → (e′ w′ : List ℕ) (r : Option ℕ) → RebuiltAs e w e′ w′ (placeUnits T (placeAt d)) b (rebuiltAs d v) r

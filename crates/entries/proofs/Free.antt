@@ -49,8 +49,8 @@ any-has-true : (p : ℕ → Bool) (l : List ℕ) (u : ℕ) → has u l ≡ true 
 any-has-true p l u h k = let w = has-where u l h in any-true p l (w .0) 0 (w .1) (rw (w .2) k)
 
 -- the keys are the units of the destinations
-pub key-written : (t : RegInfo) (f : Function) (a : Sorted) (w : List ℕ) → Tracked t f a w → (u : ℕ) → has u (keysOf w) ≡ any (λ d. has u (placeUnits t d)) (destinations a)
-key-written t f a w kept u = known-keys w u ∙ ap (λ (g : ℕ → Option ℕ). known (g u)) (kept .map) ∙ writer-known t f a u
+pub key-written : (t : RegInfo) (f : Function) (a : Sorted) (e w : List ℕ) → Tracked t f a e w → (u : ℕ) → has u (keysOf w) ≡ any (λ d. has u (placeUnits t d)) (destinations a)
+key-written t f a e w kept u = known-keys w u ∙ ap (λ (g : ℕ → Option ℕ). known (g u)) (kept .map) ∙ writer-known t f a u
 
 module _ (t : RegInfo) (ok : Accepted t) (f : Function) where
   reg-low : (r u : ℕ) → has u (regUnits t r) ≡ true → u < 512
@@ -74,13 +74,13 @@ module _ (t : RegInfo) (ok : Accepted t) (f : Function) where
   reg-of-unit (reg r) u h = (h, reg-low r u h)
   reg-of-unit (slot s) u h = absurd (false≢true h)
 
-  module _ (a : Sorted) (w : List ℕ) (kept : Tracked t f a w) (free : List Bool) (p : Patch) (same : (u : ℕ) → has u (p .free) ≡ setOf free u) where
+  module _ (a : Sorted) (es w : List ℕ) (kept : Tracked t f a es w) (free : List Bool) (p : Patch) (same : (u : ℕ) → has u (p .free) ≡ setOf free u) where
     to : any (isFree free) (keysOf w) ≡ true → freeDestination t f p a ≡ true
     to e =
         let j = any-where (isFree free) (keysOf w) 0 e in
         let u = getD (keysOf w) (j .0) 0 in
         let q = and-true (ltb u 512) (setOf free u) (j .2) in
-        let i = any-where (λ d. has u (placeUnits t d)) (destinations a) (slot 0) (sym (key-written t f a w kept u) ∙ has-getD (keysOf w) (j .0) (j .1)) in
+        let i = any-where (λ d. has u (placeUnits t d)) (destinations a) (slot 0) (sym (key-written t f a es w kept u) ∙ has-getD (keysOf w) (j .0) (j .1)) in
         let d = getD (destinations a) (i .0) (slot 0) in
         any-true (λ d. meets (unitsOfReg t f d) (p .free)) (destinations a) (i .0) (slot 0) (i .1)
         (meets-both (unitsOfReg t f d) (p .free) u (unit-of-reg d u (i .2) (ltb-true u 512 (q .0))) (same u ∙ q .1))
@@ -92,7 +92,7 @@ module _ (t : RegInfo) (ok : Accepted t) (f : Function) where
         let k = any-where (λ u. has u (p .free)) (unitsOfReg t f d) 0 (sym (meets-any (unitsOfReg t f d) (p .free)) ∙ i .2) in
         let u = getD (unitsOfReg t f d) (k .0) 0 in
         let m = reg-of-unit d u (has-getD (unitsOfReg t f d) (k .0) (k .1)) in
-        any-has-true (isFree free) (keysOf w) u (key-written t f a w kept u ∙ any-true (λ d. has u (placeUnits t d)) (destinations a) (i .0) (slot 0) (i .1) (m .0))
+        any-has-true (isFree free) (keysOf w) u (key-written t f a es w kept u ∙ any-true (λ d. has u (placeUnits t d)) (destinations a) (i .0) (slot 0) (i .1) (m .0))
         (rw (lt-ltb u 512 (m .1)) (sym (same u) ∙ k .2))
 
     pub free-is : any (isFree free) (keysOf w) ≡ freeDestination t f p a

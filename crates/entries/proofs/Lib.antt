@@ -1,6 +1,7 @@
 pub mod Lists
 pub mod Table
-pub mod Writers
 pub mod Fates
+pub mod Sources
+pub mod Writers
 pub mod Adding
 pub mod Free

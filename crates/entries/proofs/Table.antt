@@ -11,6 +11,7 @@ use Rattle.entity.specs.Logic.{indices}
 use Rattle.entity.proofs.Laws.{length-built, getD-built}
 use Rattle.rules.specs.Order.{KeptMove, Remat, noMove}
 use Rattle.rules.specs.Patch.{Sorted, nothingSorted}
+use Rattle.entries.specs.Known.{SameIndex}
 use Rattle.entries.specs.Table.{moveAt, rematAt, sortedOf, keptMove, rebuiltAs, countedOne, storedMove, storedRemat, withMove, withRemat, withDropped}
 
 -- lists made by index
@@ -71,8 +72,18 @@ pub scratch-is : (e : List ℕ) (i : ℕ) (d : Remat) → i < length (sortedOf e
 unfolding sortedOf
 scratch-is e i d h = getD-built (rematAt 768 e) 0 (getD e 1026 0) i d (rw length-built at h) ∙ ap (rematAt 768 e) (omega arith)
 
+-- what stands below the index decides
+pub low-same : (e u : List ℕ) → ((x : ℕ) → x < 1028 → getD u x 0 ≡ getD e x 0) → getD e 1024 0 ≤ 128 → getD e 1025 0 ≤ 128 → getD e 1026 0 ≤ 128 → sortedOf u ≡ sortedOf e
+unfolding sortedOf
+low-same e u cell few few-remats few-scratch =
+    sorted-same
+    (built-kept (moveAt u) (moveAt e) (getD e 1024 0) (getD u 1024 0) (cell 1024 (omega arith)) (λ k l. move-same u e k (λ x h. cell x (omega arith))))
+    (built-kept (rematAt 512 u) (rematAt 512 e) (getD e 1025 0) (getD u 1025 0) (cell 1025 (omega arith)) (λ k l. remat-same 512 u e k (λ x a h. cell x (omega arith))))
+    (built-kept (rematAt 768 u) (rematAt 768 e) (getD e 1026 0) (getD u 1026 0) (cell 1026 (omega arith)) (λ k l. remat-same 768 u e k (λ x a h. cell x (omega arith))))
+    (cell 1027 (omega arith))
+
 -- no entry
-module _ (e : List ℕ) (long : length e ≡ 1028) where
+module _ (e : List ℕ) (long : length e ≡ 1540) where
   pub emptied : sortedOf (set (set (set (set e 1024 0) 1025 0) 1026 0) 1027 0) ≡ nothingSorted
   unfolding sortedOf indices
   emptied =
@@ -106,7 +117,7 @@ remat-count e base counter d v high below less =
     getD-set-other b counter 1027 (i + 1) 0 (λ q. omega arith) ∙ getD-set-other a (base + 1 + i * 2) 1027 v 0 (λ q. omega arith) ∙ getD-set-other e (base + i * 2) 1027 d 0 (λ q. omega arith)
 
 -- stores below the count of all entries
-module _ (e : List ℕ) (long : length e ≡ 1028) (few : getD e 1024 0 ≤ 128) (few-remats : getD e 1025 0 ≤ 128) (few-scratch : getD e 1026 0 ≤ 128) where
+module _ (e : List ℕ) (long : length e ≡ 1540) (few : getD e 1024 0 ≤ 128) (few-remats : getD e 1025 0 ≤ 128) (few-scratch : getD e 1026 0 ≤ 128) where
   dropped-one : sortedOf (countedOne e) ≡ withDropped (sortedOf e)
   unfolding sortedOf
   dropped-one =
@@ -222,22 +233,44 @@ module _ (e : List ℕ) (long : length e ≡ 1028) (few : getD e 1024 0 ≤ 128)
       (remats-more 768 1026 d v (omega arith) (omega arith) (omega arith) (omega arith) less)
       (third-all 768 1026 d v (omega arith) (omega arith) (omega arith) (omega arith) less)
 
+-- neither store nor count writes the index
+pub counted-index : (e : List ℕ) (u : ℕ) → getD (countedOne e) (1028 + u) 0 ≡ getD e (1028 + u) 0
+counted-index e u = getD-set-other e 1027 (1028 + u) _ 0 (λ q. omega arith)
+
+remat-index : (e : List ℕ) (base counter d v : ℕ) → base ≤ 768 → counter < 1028 → getD e counter 0 < 128 → (u : ℕ) → getD (storedRemat e base counter (getD e counter 0) d v) (1028 + u) 0 ≡ getD e (1028 + u) 0
+remat-index e base counter d v high below less u =
+    let i = getD e counter 0 in
+    let a = set e (base + i * 2) d in
+    let b = set a (base + 1 + i * 2) v in
+    getD-set-other b counter (1028 + u) (i + 1) 0 (λ q. omega arith) ∙ getD-set-other a (base + 1 + i * 2) (1028 + u) v 0 (λ q. omega arith) ∙ getD-set-other e (base + i * 2) (1028 + u) d 0 (λ q. omega arith)
+
+pub remat-done-index : (e e₁ e₂ : List ℕ) (base counter d v : ℕ) → base ≤ 768 → counter < 1028 → getD e counter 0 < 128 → e₁ ≡ storedRemat e base counter (getD e counter 0) d v → e₂ ≡ countedOne e₁ → SameIndex e e₂
+remat-done-index e e₁ e₂ base counter d v high below less p q u = rw (q, p) (counted-index (storedRemat e base counter (getD e counter 0) d v) u ∙ remat-index e base counter d v high below less u)
+
+pub move-index : (e : List ℕ) (s d v : ℕ) → getD e 1024 0 < 128 → (u : ℕ) → getD (storedMove e (getD e 1024 0) s d v) (1028 + u) 0 ≡ getD e (1028 + u) 0
+move-index e s d v less u =
+    let m = getD e 1024 0 in
+    let a = set e (m * 4) s in
+    let b = set a (1 + m * 4) d in
+    let c = set b (2 + m * 4) v in
+    getD-set-other c 1024 (1028 + u) (m + 1) 0 (λ q. omega arith) ∙ getD-set-other b (2 + m * 4) (1028 + u) v 0 (λ q. omega arith) ∙ getD-set-other a (1 + m * 4) (1028 + u) d 0 (λ q. omega arith) ∙ getD-set-other e (m * 4) (1028 + u) s 0 (λ q. omega arith)
+
 -- the stores of the code, one after the other
-module _ (e : List ℕ) (few : getD e 1024 0 + (getD e 1025 0 + getD e 1026 0) < 128) (e₁ e₂ : List ℕ) (long : length e₁ ≡ 1028) (counted : e₂ ≡ countedOne e₁) where
+module _ (e : List ℕ) (few : getD e 1024 0 + (getD e 1025 0 + getD e 1026 0) < 128) (e₁ e₂ : List ℕ) (long : length e₁ ≡ 1540) (counted : e₂ ≡ countedOne e₁) where
   pub kept-done : (s d v : ℕ) → e₁ ≡ storedMove e (getD e 1024 0) s d v → sortedOf e₂ ≡ withMove (keptMove s d v) (sortedOf e)
   kept-done s d v p =
-      let l : length e ≡ 1028 = simp length-set at (rw p at long) in
+      let l : length e ≡ 1540 = simp length-set at (rw p at long) in
       rw (counted, p) (kept-one e l (omega arith) (omega arith) (omega arith) s d v (omega arith))
 
   pub rebuilt-done : (d v : ℕ) → e₁ ≡ storedRemat e 512 1025 (getD e 1025 0) d v → sortedOf e₂ ≡ withRemat false (rebuiltAs d v) (sortedOf e)
   rebuilt-done d v p =
-      let l : length e ≡ 1028 = simp length-set at (rw p at long) in
+      let l : length e ≡ 1540 = simp length-set at (rw p at long) in
       rw (counted, p) (rebuilt-one e l (omega arith) (omega arith) (omega arith) d v (omega arith))
 
   pub scratch-done : (d v : ℕ) → e₁ ≡ storedRemat e 768 1026 (getD e 1026 0) d v → sortedOf e₂ ≡ withRemat true (rebuiltAs d v) (sortedOf e)
   scratch-done d v p =
-      let l : length e ≡ 1028 = simp length-set at (rw p at long) in
+      let l : length e ≡ 1540 = simp length-set at (rw p at long) in
       rw (counted, p) (rebuilt-with-scratch e l (omega arith) (omega arith) (omega arith) d v (omega arith))
 
-pub dropped-done : (e : List ℕ) → getD e 1024 0 + (getD e 1025 0 + getD e 1026 0) < 128 → (e₂ : List ℕ) → length e ≡ 1028 → e₂ ≡ countedOne e → sortedOf e₂ ≡ withDropped (sortedOf e)
+pub dropped-done : (e : List ℕ) → getD e 1024 0 + (getD e 1025 0 + getD e 1026 0) < 128 → (e₂ : List ℕ) → length e ≡ 1540 → e₂ ≡ countedOne e → sortedOf e₂ ≡ withDropped (sortedOf e)
 dropped-done e few e₂ long counted = rw counted (dropped-one e long (omega arith) (omega arith) (omega arith))

@@ -18,8 +18,9 @@ use Rattle.rules.specs.Sorted.{SortedOk}
 use Rattle.sparse.specs.Map.{mapOf, known, updated, foundOf, emptyMap, Emptied}
 use Rattle.sparse.specs.declared.Found.{Found}
 use Rattle.entries.specs.Table.{withMove, withRemat}
-use Rattle.entries.specs.Known.{noted, Noted, orRebuilt, rebuilds, writerOf, places, Tracked}
+use Rattle.entries.specs.Known.{noted, Noted, orRebuilt, rebuilds, writerOf, places, Indexed, SameIndex, Tracked}
 use Rattle.entries.proofs.Lists.{or-none, or-right, or-assoc, any-append, any-end, any-map, any-same, any-swap, meets-any}
+use Rattle.entries.proofs.Sources.{indexed-same}
 
 -- what holds of the answer that a look-up found
 pub by-found : {A : Type 0} (g : Option ℕ → A) {r v : Found} {o : Option ℕ} → foundOf r ≡ o → r ≡ v → g (foundOf v) ≡ g o
@@ -135,39 +136,41 @@ module _ (t : RegInfo) (f : Function) where
         (unwritten u)
 
     -- what is known of the table and the map, with that entry
-    module _ (w w′ : List ℕ) (ok : Tracked t f a w) (less : a .count < 128) (few : length (placeUnits t d) ≤ 8) where
+    module _ (e e′ w w′ : List ℕ) (ok : Tracked t f a e w) (less : a .count < 128) (few : length (placeUnits t d) ≤ 8) where
       tracked : (a′ : Sorted) (x : ℕ) → Noted w w′ (placeUnits t d) x → SortedOk t f a′ → ((u : ℕ) → writerOf t f a′ u ≡ pick (unitOf u d) (some x) (writerOf t f a u))
-          → places t f a′ ≡ places t f a + 1 → a′ .count ≡ suc (a .count) → Tracked t f a′ w′
-      tracked a′ x n s e p c = record {
+          → places t f a′ ≡ places t f a + 1 → a′ .count ≡ suc (a .count) → Indexed t a′ e′ → Tracked t f a′ e′ w′
+      tracked a′ x n s q p c i = record {
         sorted = s;
         few = omega (arith, ok .few);
         most = omega arith;
-        map = n .map ∙ fun-ext (λ u. noted-is (mapOf w) (placeUnits t d) x u ∙ rw (ok .map) (sym (e u)));
+        map = n .map ∙ fun-ext (λ u. noted-is (mapOf w) (placeUnits t d) x u ∙ rw (ok .map) (sym (q u)));
         linked = n .linked;
         room = omega (arith, ok .room, n .few);
+        indexed = i;
       }
 
-      pub tracked-move : (s : Place) (v : ℕ) → Noted w w′ (placeUnits t d) (length (a .moves)) → SortedOk t f (withMove (record { source = s; dest = d; value = v }) a) → Tracked t f (withMove (record { source = s; dest = d; value = v }) a) w′
-      tracked-move s v n ok = tracked (withMove (record { source = s; dest = d; value = v }) a) (length (a .moves)) n ok (writer-move s v) (simp length-append (omega arith)) refl
+      pub tracked-move : (s : Place) (v : ℕ) → Noted w w′ (placeUnits t d) (length (a .moves)) → SortedOk t f (withMove (record { source = s; dest = d; value = v }) a) → Indexed t (withMove (record { source = s; dest = d; value = v }) a) e′ → Tracked t f (withMove (record { source = s; dest = d; value = v }) a) e′ w′
+      tracked-move s v n o i = tracked (withMove (record { source = s; dest = d; value = v }) a) (length (a .moves)) n o (writer-move s v) (simp length-append (omega arith)) refl i
 
-      pub tracked-remat : (b : Bool) (v : ℕ) → Noted w w′ (placeUnits t d) 128 → SortedOk t f (withRemat b (record { dest = d; value = v }) a) → Tracked t f (withRemat b (record { dest = d; value = v }) a) w′
-      tracked-remat true v n ok = tracked (withRemat true (record { dest = d; value = v }) a) 128 n ok (writer-remat true v) (simp length-append (omega arith)) refl
-      tracked-remat false v n ok = tracked (withRemat false (record { dest = d; value = v }) a) 128 n ok (writer-remat false v) (simp length-append (omega arith)) refl
+      pub tracked-remat : (b : Bool) (v : ℕ) → Noted w w′ (placeUnits t d) 128 → SortedOk t f (withRemat b (record { dest = d; value = v }) a) → SameIndex e e′ → Tracked t f (withRemat b (record { dest = d; value = v }) a) e′ w′
+      tracked-remat true v n o i = tracked (withRemat true (record { dest = d; value = v }) a) 128 n o (writer-remat true v) (simp length-append (omega arith)) refl (indexed-same t a (withRemat true (record { dest = d; value = v }) a) e e′ refl i (ok .indexed))
+      tracked-remat false v n o i = tracked (withRemat false (record { dest = d; value = v }) a) 128 n o (writer-remat false v) (simp length-append (omega arith)) refl (indexed-same t a (withRemat false (record { dest = d; value = v }) a) e e′ refl i (ok .indexed))
 
 pub noted-step : (g : ℕ → Option ℕ) (us : List ℕ) (x j : ℕ) → j < length us → noted g (drop j us) x ≡ noted (updated g (getD us j 0) x) (drop (j + 1) us) x
 unfolding noted
 noted-step g us x j h = ap (λ (l : List ℕ). noted g l x) (drop-step us j 0 h)
 
 -- no entry and no writer
-pub tracked-none : (t : RegInfo) (f : Function) (a : Sorted) (v w : List ℕ) → a ≡ nothingSorted → Emptied v w → Tracked t f a w
+pub tracked-none : (t : RegInfo) (f : Function) (a : Sorted) (e v w : List ℕ) → a ≡ nothingSorted → Emptied v w → Tracked t f a e w
 unfolding writerOf writerFrom any emptyMap destinations
-tracked-none t f a v w e m =
-    rw e
+tracked-none t f a e v w q m =
+    rw q
     record {
-      sorted = record { moves = λ i h. absurd (omega arith); remats = λ i h. absurd (omega arith); rematsWithScratch = λ i h. absurd (omega arith); apart = λ i k h. absurd (omega arith) };
+      sorted = record { moves = λ i h. absurd (omega arith); remats = λ i h. absurd (omega arith); rematsWithScratch = λ i h. absurd (omega arith); apart = λ i k h. absurd (omega arith); sources = λ i k h. absurd (omega arith) };
       few = omega arith;
       most = omega arith;
       map = m .map;
       linked = m .linked;
       room = rw (m .keys) (omega arith);
+      indexed = λ k u h. absurd (omega arith);
     }

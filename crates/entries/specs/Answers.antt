@@ -1,10 +1,13 @@
 -- What the enums of the code stand for, and what adding an entry leaves.
-use Prim.Native.Nat.{ℕ}
+use Prim.Native.Nat.{ℕ, _+_, _<_}
 use mathlib.Core.Path.{_≡_}
-use mathlib.Core.Bool.{Bool}
+use mathlib.Core.Bool.{Bool, true, false}
 use mathlib.Core.List.{List}
 use mathlib.Core.Option.{Option, none, some}
-use Rattle.entity.specs.Logic.{pick, any}
+use lib.ListN.{getD, length}
+use Rattle.entity.specs.Logic.{pick, any, has}
+use Rattle.entity.specs.Place.{placeAt}
+use Rattle.reginfo.specs.RegInfo.{RegInfo, placeUnits}
 use Rattle.reginfo.specs.Refused.{firstOf}
 use Rattle.reginfo.specs.Table.{regInfoOf}
 use Rattle.function.specs.Table.{functionOf}
@@ -14,8 +17,8 @@ use Rattle.entries.specs.declared.Added as A
 use Rattle.entries.specs.declared.Added.{Added}
 use Rattle.entries.specs.declared.Fate as F
 use Rattle.entries.specs.declared.Fate.{Fate}
-use Rattle.entries.specs.Table.{sortedOf, withRemat}
-use Rattle.entries.specs.Known.{isWritten, Noted, EntriesOk}
+use Rattle.entries.specs.Table.{sortedOf, keptMove, withMove, withRemat}
+use Rattle.entries.specs.Known.{isWritten, Noted, Tells, SameIndex, EntriesOk}
 
 -- the number by which an entry or a patch is refused
 abbrev pub addedOf : Added → Option ℕ
@@ -33,8 +36,15 @@ pub record AddedAs (t f e w e′ w′ : List ℕ) (x : Entry) (r : Option ℕ) :
   pub yes : r ≡ none → (sortedOf e′ ≡ add (regInfoOf t) (functionOf f) x (sortedOf e)) × EntriesOk t f e′ w′
   pub no : (n : ℕ) → r ≡ some n → (e′ ≡ e) × (w′ ≡ w)
 
+-- a move kept: the index tells it for the units of its source, and is otherwise as it was
+pub record KeptAs (t : RegInfo) (e w e′ w′ : List ℕ) (s d v : ℕ) : Type 0 where
+  pub sorted : sortedOf e′ ≡ withMove (keptMove s d v) (sortedOf e)
+  pub noted : Noted w w′ (placeUnits t (placeAt d)) (length (sortedOf e .moves))
+  pub told : (u : ℕ) → u < 512 → has u (placeUnits t (placeAt s)) ≡ true → Tells t e′ u (placeAt s) (length (sortedOf e .moves))
+  pub others : (u : ℕ) → u < 512 → has u (placeUnits t (placeAt s)) ≡ false → getD e′ (1028 + u) 0 ≡ getD e (1028 + u) 0
+
 -- a rebuild added, unless one of the units us is written already
 pub record RebuiltAs (e w e′ w′ us : List ℕ) (b : Bool) (x : Remat) (r : Option ℕ) : Type 0 where
   pub is : r ≡ pick (any (isWritten w) us) (some 12) none
-  pub yes : r ≡ none → (sortedOf e′ ≡ withRemat b x (sortedOf e)) × Noted w w′ us 128
+  pub yes : r ≡ none → (sortedOf e′ ≡ withRemat b x (sortedOf e)) × Noted w w′ us 128 × SameIndex e e′
   pub no : (n : ℕ) → r ≡ some n → (e′ ≡ e) × (w′ ≡ w)

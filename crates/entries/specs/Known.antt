@@ -1,5 +1,5 @@
 -- What is known of checked tables and of a patch under construction.
-use Prim.Native.Nat.{ℕ, _+_, _*_, _<_, _≤_}
+use Prim.Native.Nat.{ℕ, _+_, _*_, _/_, _%_, _<_, _≤_}
 use mathlib.Core.Path.{_≡_}
 use mathlib.Core.Bool.{Bool, true, false}
 use mathlib.Core.List.{List, [], _∷_}
@@ -7,13 +7,13 @@ use mathlib.Core.Option.{Option, none, some}
 use lib.Dec.{ltb}
 use lib.ListN.{length, getD}
 use Rattle.entity.specs.Logic.{pick, and, or, no, any, has}
-use Rattle.entity.specs.Place.{Place, reg, samePlace}
+use Rattle.entity.specs.Place.{Place, reg, samePlace, placeAt}
 use Rattle.reginfo.specs.RegInfo.{RegInfo, includesSpillslots, lastInOrder, placeUnits, overlap, ofBank}
 use Rattle.reginfo.specs.Known.{KnownPlace}
 use Rattle.reginfo.specs.Table.{regInfoOf}
 use Rattle.function.specs.Function.{Function, numValues, valueBank}
 use Rattle.function.specs.Table.{functionOf}
-use Rattle.rules.specs.Order.{Remat, writerFrom}
+use Rattle.rules.specs.Order.{KeptMove, Remat, noMove, writerFrom}
 use Rattle.rules.specs.Patch.{Sorted, namesPlace}
 use Rattle.rules.specs.Sorted.{SortedOk}
 use Rattle.small_set.specs.Set.{setOf}
@@ -56,6 +56,39 @@ isFree free u = and (ltb u 512) (setOf free u)
 abbrev pub lastClashes : RegInfo → ℕ → Place → Bool
 lastClashes t c d = and (no (includesSpillslots t c)) (overlap t (reg (lastInOrder t c)) d)
 
+-- ---- 02 h: the index of sources
+module _ (t : RegInfo) where
+  -- 21 at one unit: an unequal source of a kept move has it
+  unfoldable pub clashesAt : Sorted → Place → ℕ → Bool
+  clashesAt a s u = any (λ (m : KeptMove). and (has u (placeUnits t (m .source))) (no (samePlace (m .source) s))) (a .moves)
+
+  -- the cell of unit u tells move m, and where in its source p the unit stands
+  abbrev pub Tells : List ℕ → ℕ → Place → ℕ → Type 0
+  Tells e u p m = (j : ℕ) × (j < length (placeUnits t p)) × (getD (placeUnits t p) j 0 ≡ u) × (getD e (1028 + u) 0 ≡ m * 8 + j)
+
+  -- it tells a kept move whose source is p
+  pub record Points (a : Sorted) (e : List ℕ) (u : ℕ) (p : Place) : Type 0 where
+    pub kept : getD e (1028 + u) 0 / 8 < length (a .moves)
+    pub source : getD (a .moves) (getD e (1028 + u) 0 / 8) noMove .source ≡ p
+    pub listed : getD e (1028 + u) 0 % 8 < length (placeUnits t p)
+    pub there : getD (placeUnits t p) (getD e (1028 + u) 0 % 8) 0 ≡ u
+
+  -- the cell of every register unit of a kept source does
+  abbrev pub Indexed : Sorted → List ℕ → Type 0
+  Indexed a e =
+      (k u : ℕ) → k < length (a .moves) → u < 512 → has u (placeUnits t (getD (a .moves) k noMove .source)) ≡ true
+      → Points a e u (getD (a .moves) k noMove .source)
+
+  -- what a look at the index needs
+  pub record Sourced (e : List ℕ) : Type 0 where
+    pub few : getD e 1024 0 ≤ 128
+    pub known : (m : ℕ) → m < getD e 1024 0 → KnownPlace t (placeAt (getD e (m * 4) 0))
+    pub indexed : Indexed (sortedOf e) e
+
+-- the index was not written
+abbrev pub SameIndex : List ℕ → List ℕ → Type 0
+SameIndex e e′ = (u : ℕ) → getD e′ (1028 + u) 0 ≡ getD e (1028 + u) 0
+
 -- a kept move, else 128 where a rebuild writes the unit
 abbrev pub orRebuilt : Option ℕ → Bool → Option ℕ
 orRebuilt (some m) b = some m
@@ -72,14 +105,15 @@ module _ (t : RegInfo) (f : Function) where
   abbrev pub places : Sorted → ℕ
   places a = length (a .moves) + (length (a .remats) + length (a .rematsWithScratch))
 
-  -- the map holds the writer of each unit
-  pub record Tracked (a : Sorted) (w : List ℕ) : Type 0 where
+  -- the map holds the writer of each unit, and the index the kept sources
+  pub record Tracked (a : Sorted) (e w : List ℕ) : Type 0 where
     pub sorted : SortedOk t f a
     pub few : places a ≤ a .count
     pub most : a .count ≤ 128
     pub map : mapOf w ≡ writerOf a
     pub linked : Linked w
     pub room : length (keysOf w) ≤ 8 * places a
+    pub indexed : Indexed t a e
 
   -- an entry that is not refused by 15 or 2
   pub record NamedRemat (a : Sorted) (d : Place) (v : ℕ) : Type 0 where
@@ -102,4 +136,4 @@ module _ (t : RegInfo) (f : Function) where
     pub differ : samePlace s d ≡ false
 
 abbrev pub EntriesOk : (t f e w : List ℕ) → Type 0
-EntriesOk t f e w = Tracked (regInfoOf t) (functionOf f) (sortedOf e) w
+EntriesOk t f e w = Tracked (regInfoOf t) (functionOf f) (sortedOf e) e w

@@ -1,10 +1,13 @@
 // 01, Ordering: the patch under construction, one lent table of numbers (specs/Table.antt), and the writer of each unit: kept move m as m,
-// a rebuild as 128.
+// a rebuild as 128. Beside the table's entries stands the index of sources: for each register unit, a kept move whose source has it.
 use entity::Allocation;
+use entity::AllocationKind;
 use entity::AllocationUnit;
 use entity::AllocationUnitKind;
 use entity::Named;
+use entity::PhysReg;
 use entity::RegClass;
+use entity::RegUnit;
 use entity::Value;
 use entity::narrow;
 use entity::wide;
@@ -19,26 +22,26 @@ ghost use mathlib.Core.Bool.{true, false};
 ghost use mathlib.Core.List.{List};
 ghost use mathlib.Core.Option.{none, some};
 ghost use Prim.Native.Nat.{ℕ, _+_, _*_, _<_, _≤_};
-ghost use lib.Dec.{ltb, leb};
+ghost use lib.Dec.{eqb, ltb, leb};
 ghost use lib.ListN.{length, getD};
 ghost use Rattle.entity.specs.Logic.{pick, and, no, any, has};
-ghost use Rattle.entity.specs.Place.{placeAt};
-ghost use Rattle.reginfo.specs.RegInfo.{numClasses, inClass, placeUnits};
+ghost use Rattle.entity.specs.Place.{reg, placeAt};
+ghost use Rattle.reginfo.specs.RegInfo.{numClasses, regUnits, inClass, placeUnits};
 ghost use Rattle.reginfo.specs.Refused.{Accepted, firstOf};
-ghost use Rattle.reginfo.specs.Known.{KnownPlace, KnownMembers};
+ghost use Rattle.reginfo.specs.Known.{KnownUnits, KnownPlace, KnownMembers};
 ghost use Rattle.reginfo.specs.Table.{regInfoOf};
 ghost use Rattle.function.specs.Function.{numValues, rematClass};
 ghost use Rattle.function.specs.Table.{functionOf};
-ghost use Rattle.rules.specs.Patch.{move, remat, namesPlace, becomesRemat, needsScratch, nothingSorted, bound, lastOverlaps, patchConditions, Patch};
+ghost use Rattle.rules.specs.Patch.{move, remat, namesPlace, becomesRemat, needsScratch, nothingSorted, overlapsSource, bound, lastOverlaps, patchConditions, Patch};
 ghost use Rattle.rules.specs.Sorted.{RematOk, SortedOk};
 ghost use Rattle.small_set.specs.Set.{setOf};
 ghost use Rattle.sparse.specs.Map.{mapOf, keysOf, Linked};
-ghost use Rattle.entries.specs.Table.{sortedOf, countedOne, storedMove, storedRemat, isMove, isMoveOf, keptMove, rebuiltAs, withMove, withRemat};
+ghost use Rattle.entries.specs.Table.{sortedOf, countedOne, storedMove, storedRemat, indexed, sourceIndexed, isMove, isMoveOf, keptMove, rebuiltAs, withMove, withRemat};
 ghost use Rattle.function.specs.Known.{Checked};
-ghost use Rattle.entries.specs.Known.{Writable, isWritten, Noted, Roomy, isFree, lastClashes, NamedRemat, NamedMove, PassedMove, EntriesOk};
-ghost use Rattle.entries.specs.Answers.{addedOf, rebuiltOf, AddedAs, RebuiltAs};
+ghost use Rattle.entries.specs.Known.{Writable, isWritten, Noted, Roomy, isFree, lastClashes, clashesAt, Indexed, Sourced, SameIndex, NamedRemat, NamedMove, PassedMove, EntriesOk};
+ghost use Rattle.entries.specs.Answers.{addedOf, rebuiltOf, KeptAs, AddedAs, RebuiltAs};
 
-pub type Entries = [u16; 1028];
+pub type Entries = [u16; 1540];
 
 // An entry's or a patch's answer; the number is 01's.
 pub enum Added {
@@ -53,8 +56,8 @@ enum Fate {
 }
 
 // It does nothing: a call tells the length of the table that is passed.
-fn told(e: [u16; 1028]) -> bool
-    ensures { λ _. ⌜ length e ≡ 1028 ⌝ }
+fn told(e: [u16; 1540]) -> bool
+    ensures { λ _. ⌜ length e ≡ 1540 ⌝ }
 {
     true
 }
@@ -148,7 +151,7 @@ fn is_dropped(
 // Counts an entry.
 fn count_entry(e: &mut Entries)
     requires { ⌜ getD (now e) 1027 0 < 128 ⌝ }
-    ensures { λ _. ⌜ (now (e .exit) ≡ countedOne (now (e .entry))) × (length (now (e .entry)) ≡ 1028) ⌝ }
+    ensures { λ _. ⌜ (now (e .exit) ≡ countedOne (now (e .entry))) × (length (now (e .entry)) ≡ 1540) ⌝ }
 {
     told(*e);
     let n = wide(e[1027]);
@@ -178,6 +181,92 @@ fn store_remat(e: &mut Entries, base: usize, counter: usize, dest: Allocation, v
     e[counter] = narrow(i + 1);
 }
 
+// Whether unit j of a register is u.
+fn lists_at(t: &RegInfo, r: PhysReg, j: usize, u: RegUnit) -> bool
+    requires { ⌜ KnownUnits (regInfoOf (now t)) (r .0) ⌝ }
+    ensures { λ o. ⌜ o ≡ and (ltb j (length (regUnits (regInfoOf (now (t .entry))) (r .0)))) (eqb (getD (regUnits (regInfoOf (now (t .entry))) (r .0)) j 0) (u .0)) ⌝ }
+{
+    if reginfo::num_reg_units(t, r) <= j {
+        return false;
+    }
+    let v = reginfo::reg_unit(t, r, j);
+    v.0 == u.0
+}
+
+// Whether a kept move whose source is not r has the unit in it: the cell of the unit tells which may.
+fn unit_clashes(t: &RegInfo, e: &Entries, r: PhysReg, u: RegUnit) -> bool
+    requires { ⌜ Sourced (regInfoOf (now t)) (now e) × (u .0 < 512) ⌝ }
+    ensures { λ o. ⌜ o ≡ clashesAt (regInfoOf (now (t .entry))) (sortedOf (now (e .entry))) (reg (r .0)) (u .0) ⌝ }
+{
+    let c = wide(e[1028 + wide(u.0)]);
+    let m = c / 8;
+    if wide(e[1024]) <= m {
+        return false;
+    }
+    let p = Allocation(e[m * 4]);
+    match p.kind() {
+        AllocationKind::PhysReg(q) => {
+            if q.0 == r.0 {
+                return false;
+            }
+            lists_at(t, q, c % 8, u)
+        }
+        AllocationKind::SpillSlot(_) => false,
+    }
+}
+
+fn reg_clashes(t: &RegInfo, e: &Entries, r: PhysReg) -> bool
+    requires { ⌜ Sourced (regInfoOf (now t)) (now e) × KnownUnits (regInfoOf (now t)) (r .0) ⌝ }
+    ensures { λ o. ⌜ o ≡ any (clashesAt (regInfoOf (now (t .entry))) (sortedOf (now (e .entry))) (reg (r .0))) (regUnits (regInfoOf (now (t .entry))) (r .0)) ⌝ }
+{
+    let n = reginfo::num_reg_units(t, r);
+    let mut j: usize = 0;
+    while j < n {
+        if unit_clashes(t, e, r, reginfo::reg_unit(t, r, j)) {
+            return true;
+        }
+        j += 1;
+    }
+    false
+}
+
+// 21: whether a kept move has an unequal source that overlaps this one. Slots overlap only if they are equal.
+fn overlaps_source(t: &RegInfo, e: &Entries, source: Allocation) -> bool
+    requires { ⌜ Sourced (regInfoOf (now t)) (now e) × KnownPlace (regInfoOf (now t)) (placeAt (source .0)) ⌝ }
+    ensures { λ o. ⌜ o ≡ overlapsSource (regInfoOf (now (t .entry))) (sortedOf (now (e .entry))) (placeAt (source .0)) ⌝ }
+{
+    match source.kind() {
+        AllocationKind::PhysReg(r) => reg_clashes(t, e, r),
+        AllocationKind::SpillSlot(_) => false,
+    }
+}
+
+fn index_reg(t: &RegInfo, e: &mut Entries, r: PhysReg, m: u16)
+    requires { ⌜ KnownUnits (regInfoOf (now t)) (r .0) × (m < 128) ⌝ }
+    ensures { λ _. ⌜ (now (e .exit) ≡ indexed (now (e .entry)) (regUnits (regInfoOf (now (t .entry))) (r .0)) m 0) × (length (now (e .entry)) ≡ 1540) ⌝ }
+{
+    told(*e);
+    let n = reginfo::num_reg_units(t, r);
+    let mut j: usize = 0;
+    while j < n {
+        let u = reginfo::reg_unit(t, r, j);
+        e[1028 + wide(u.0)] = narrow(wide(m) * 8 + j);
+        j += 1;
+    }
+}
+
+// Notes in the index that kept move m reads the place.
+fn index_source(t: &RegInfo, e: &mut Entries, source: Allocation, m: u16)
+    requires { ⌜ KnownPlace (regInfoOf (now t)) (placeAt (source .0)) × (m < 128) ⌝ }
+    ensures { λ _. ⌜ (now (e .exit) ≡ sourceIndexed (regInfoOf (now (t .entry))) (now (e .entry)) (placeAt (source .0)) m) × (length (now (e .entry)) ≡ 1540) ⌝ }
+{
+    told(*e);
+    match source.kind() {
+        AllocationKind::PhysReg(r) => index_reg(t, e, r, m),
+        AllocationKind::SpillSlot(_) => {}
+    }
+}
+
 // Keeps a move.
 fn keep(
     t: &RegInfo,
@@ -187,19 +276,20 @@ fn keep(
     dest: Allocation,
     v: Value,
 )
-    requires { ⌜ Roomy (now e) (now w) × Writable (regInfoOf (now t)) (placeAt (dest .0)) ⌝ }
-    ensures { λ _. ⌜ (sortedOf (now (e .exit)) ≡ withMove (keptMove (source .0) (dest .0) (v .0)) (sortedOf (now (e .entry)))) × Noted (now (w .entry)) (now (w .exit)) (placeUnits (regInfoOf (now (t .entry))) (placeAt (dest .0))) (length (sortedOf (now (e .entry)) .moves)) ⌝ }
+    requires { ⌜ Roomy (now e) (now w) × KnownPlace (regInfoOf (now t)) (placeAt (source .0)) × Writable (regInfoOf (now t)) (placeAt (dest .0)) ⌝ }
+    ensures { λ _. ⌜ KeptAs (regInfoOf (now (t .entry))) (now (e .entry)) (now (w .entry)) (now (e .exit)) (now (w .exit)) (source .0) (dest .0) (v .0) ⌝ }
 {
     let m = e[1024];
     store_move(e, source, dest, v);
     count_entry(e);
+    index_source(t, e, source, m);
     note_writes(t, w, dest, m);
 }
 
 // Puts a rebuild into the table.
 fn put_remat(e: &mut Entries, scratch: bool, dest: Allocation, v: Value)
     requires { ⌜ (getD (now e) 1024 0 + (getD (now e) 1025 0 + getD (now e) 1026 0) < 128) × (getD (now e) 1027 0 < 128) ⌝ }
-    ensures { λ _. ⌜ sortedOf (now (e .exit)) ≡ withRemat scratch (rebuiltAs (dest .0) (v .0)) (sortedOf (now (e .entry))) ⌝ }
+    ensures { λ _. ⌜ (sortedOf (now (e .exit)) ≡ withRemat scratch (rebuiltAs (dest .0) (v .0)) (sortedOf (now (e .entry)))) × SameIndex (now (e .entry)) (now (e .exit)) ⌝ }
 {
     if scratch {
         store_remat(e, 768, 1026, dest, v);
@@ -274,6 +364,9 @@ fn place_move(
     match move_fate(t, f, source, dest, v) {
         Fate::Kept => {
             if !is_written(t, w, dest) {
+                if overlaps_source(t, e, source) {
+                    return Added::Refused(21);
+                }
                 keep(t, e, w, source, dest, v);
                 return Added::Yes;
             }

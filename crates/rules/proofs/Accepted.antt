@@ -7,10 +7,10 @@ use mathlib.Core.Option.{Option, none, some}
 use native.Mathlib.Omega.{arith}
 use lib.Dec.{ltb}
 use lib.ListN.{length, getD}
-use borrow.Author.Tests.{ltb-true, ltb-false}
+use borrow.Author.Tests.{ltb-true, ltb-false, eq-eqb, eqb-true}
 use Rattle.entity.specs.Logic.{pick, and, or, no, any}
-use Rattle.entity.specs.Place.{Place, slot}
-use Rattle.entity.proofs.Laws.{or-false, and-true, no-false, any-at}
+use Rattle.entity.specs.Place.{Place, reg, slot, samePlace}
+use Rattle.entity.proofs.Laws.{or-false, and-true, no-false, never-true, any-at}
 use Rattle.reginfo.specs.RegInfo.{RegInfo, inClass, ofBank, overlap}
 use Rattle.reginfo.specs.Refused.{firstOf}
 use Rattle.reginfo.proofs.Laws.{overlap-comm}
@@ -19,8 +19,12 @@ use Rattle.function.specs.Function.{Function, numValues, valueBank, rematClass,
 use Rattle.rules.specs.Edit.{Edit}
 use Rattle.rules.specs.Scratch.{Cache, ScratchAllocator}
 use Rattle.rules.specs.Order.{KeptMove, Remat, noMove}
-use Rattle.rules.specs.Patch.{Entry, move, remat, Patch, Sorted, nothingSorted, destinations, bound, Answer, resolved, answerOf, unlessRefused, needsScratch, becomesRemat, dropped, addRemat, addKept, add, sortedFrom, sorted, namesPlace, overlapsEarlier, entryConditions, patchConditions, run, resolveSorted, resolveFrom, resolve}
+use Rattle.rules.specs.Patch.{Entry, move, remat, Patch, Sorted, nothingSorted, destinations, bound, Answer, resolved, answerOf, unlessRefused, needsScratch, becomesRemat, dropped, addRemat, addKept, add, sortedFrom, sorted, namesPlace, overlapsEarlier, overlapsSource, entryConditions, patchConditions, run, resolveSorted, resolveFrom, resolve}
 use Rattle.rules.specs.Sorted.{MoveOk, RematOk, noRemat, SortedOk, Ran}
+
+unless-not : (o b : Bool) → and o (no b) ≡ false → b ≡ false → o ≡ false
+unless-not false b e q = refl
+unless-not true b e q = absurd (true≢false (sym (no-false b e) ∙ q))
 
 -- one more at the end of a list
 snoc-all : {A : Type 0} (P : A → Type 0) (l : List A) (x d : A) → ((i : ℕ) → i < length l → P (getD l i d)) → P x
@@ -29,6 +33,15 @@ snoc-all P [] x d h p zero k = p
 snoc-all P [] x d h p (suc i) k = absurd (omega arith)
 snoc-all P (y ∷ l) x d h p zero k = h 0 (omega arith)
 snoc-all P (y ∷ l) x d h p (suc i) k = snoc-all P l x d (λ j q. h (suc j) (omega arith)) p i (omega arith)
+
+-- the same of every two
+snoc-pairs : {A : Type 0} (P : A → A → Type 0) (l : List A) (x d : A) → ((i k : ℕ) → i < length l → k < length l → P (getD l i d) (getD l k d))
+    → ((i : ℕ) → i < length l → P (getD l i d) x × P x (getD l i d)) → P x x
+    → (i k : ℕ) → i < length (l ++ (x ∷ [])) → k < length (l ++ (x ∷ [])) → P (getD (l ++ (x ∷ [])) i d) (getD (l ++ (x ∷ [])) k d)
+snoc-pairs P l x d h e p i k a b =
+    snoc-all (λ y. (k : ℕ) → k < length (l ++ (x ∷ [])) → P y (getD (l ++ (x ∷ [])) k d)) l x d
+    (λ j c. snoc-all (P (getD l j d)) l x d (λ k q. h j k c q) (e j c .0))
+    (snoc-all (P x) l x d (λ k q. e k q .1) p) i a k b
 
 map-snoc : {A B : Type 0} (g : A → B) (l : List A) (x : A) → map g (l ++ (x ∷ [])) ≡ map g l ++ (g x ∷ [])
 map-snoc g [] x = refl
@@ -43,6 +56,20 @@ answered : (o : Option ScratchAllocator) (es : List Edit) (c : Cache) → answer
     → (k : ScratchAllocator) × (o ≡ some k) × (es ≡ k .edits) × (c ≡ k .cache)
 answered none es c e = let z : _≡_ {A = ℕ} 0 1 = cc in absurd (omega arith)
 answered (some k) es c e = (k, refl, cc, cc)
+
+pub same-self : (p : Place) → samePlace p p ≡ true
+same-self (reg r) = eq-eqb r r refl
+same-self (slot s) = eq-eqb s s refl
+
+pub same-is : (p q : Place) → samePlace p q ≡ true → p ≡ q
+same-is (reg a) (reg b) e = ap reg (eqb-true a b e)
+same-is (slot a) (slot b) e = ap slot (eqb-true a b e)
+same-is (reg a) (slot b) e = absurd (false≢true e)
+same-is (slot a) (reg b) e = absurd (false≢true e)
+
+-- two places that are not equal are not equal the other way round
+differ-comm : (p q : Place) → samePlace p q ≡ false → samePlace q p ≡ false
+differ-comm p q e = never-true (samePlace q p) (λ h. true≢false (sym (same-self p) ∙ ap (samePlace p) (sym (same-is q p h)) ∙ e))
 
 module _ (t : RegInfo) (f : Function) where
   -- no two of the places overlap
@@ -77,15 +104,20 @@ module _ (t : RegInfo) (f : Function) where
   apart-at (p ∷ l) h (suc i) zero a b d = overlap-comm t (getD l i (slot 0)) p ∙ any-at (overlap t p) l i (slot 0) (h .0) (omega arith)
   apart-at (p ∷ l) h (suc i) (suc k) a b d = apart-at l (h .1) i k (omega arith) (omega arith) (λ e. d (ap suc e))
 
-  -- `SortedOk` with its last part as above
+  -- sources that are not equal share no unit
+  abbrev Clear : KeptMove → KeptMove → Type 0
+  Clear m n = samePlace (m .source) (n .source) ≡ false → overlap t (m .source) (n .source) ≡ false
+
+  -- `SortedOk` with the destinations' part as above
   record Good (a : Sorted) : Type 0 where
     moves : (i : ℕ) → i < length (a .moves) → MoveOk t f (getD (a .moves) i noMove)
     remats : (i : ℕ) → i < length (a .remats) → RematOk t f true (getD (a .remats) i (noRemat t f))
     rematsWithScratch : (i : ℕ) → i < length (a .rematsWithScratch) → RematOk t f false (getD (a .rematsWithScratch) i (noRemat t f))
     apart : Apart (destinations a)
+    sources : (i k : ℕ) → i < length (a .moves) → k < length (a .moves) → Clear (getD (a .moves) i noMove) (getD (a .moves) k noMove)
 
   good-ok : (a : Sorted) → Good a → SortedOk t f a
-  good-ok a g = record { moves = g .moves; remats = g .remats; rematsWithScratch = g .rematsWithScratch; apart = apart-at (destinations a) (g .apart) }
+  good-ok a g = record { moves = g .moves; remats = g .remats; rematsWithScratch = g .rematsWithScratch; apart = apart-at (destinations a) (g .apart); sources = g .sources }
 
   -- one more behind each of three parts
   module _ (xs ys zs : List Place) (d : Place) (e : any (λ p. overlap t p d) (xs ++ (ys ++ zs)) ≡ false) (h : Apart (xs ++ (ys ++ zs))) where
@@ -106,11 +138,19 @@ module _ (t : RegInfo) (f : Function) where
   abbrev remat-dests : List Remat → List Place
   remat-dests l = map (λ (r : Remat). r .dest) l
 
+  -- a source that overlaps no unequal one before it
+  clear-of : (a : Sorted) (s d : Place) (v : ℕ) → overlapsSource t a s ≡ false → (i : ℕ) → i < length (a .moves)
+      → Clear (getD (a .moves) i noMove) record { source = s; dest = d; value = v } × Clear record { source = s; dest = d; value = v } (getD (a .moves) i noMove)
+  clear-of a s d v e i h =
+      let p = getD (a .moves) i noMove .source in
+      let c : samePlace p s ≡ false → overlap t p s ≡ false = λ q. unless-not (overlap t p s) (samePlace p s) (any-at (λ (m : KeptMove). and (overlap t (m .source) s) (no (samePlace (m .source) s))) (a .moves) i noMove e h) q in
+      (c, λ q. overlap-comm t s p ∙ c (differ-comm s p q))
+
   -- an entry whose destination overlaps none before it
   module _ (a : Sorted) (g : Good a) (d : Place) (v : ℕ) (e : overlapsEarlier t f a d ≡ false) where
-    good-kept : (s : Place) → MoveOk t f record { source = s; dest = d; value = v } → Good (addKept t f false s d v a)
+    good-kept : (s : Place) → overlapsSource t a s ≡ false → MoveOk t f record { source = s; dest = d; value = v } → Good (addKept t f false s d v a)
     unfolding destinations
-    good-kept s ok =
+    good-kept s e′ ok =
         record {
           moves = snoc-all (MoveOk t f) (a .moves) record { source = s; dest = d; value = v } noMove (g .moves) ok;
           remats = g .remats;
@@ -118,6 +158,9 @@ module _ (t : RegInfo) (f : Function) where
           apart =
               rw (map-snoc (λ (m : KeptMove). m .dest) (a .moves) record { source = s; dest = d; value = v })
               (behind-first (kept-dests (a .moves)) (remat-dests (a .remats)) (remat-dests (a .rematsWithScratch)) d e (g .apart));
+          sources =
+              snoc-pairs Clear (a .moves) record { source = s; dest = d; value = v } noMove (g .sources) (clear-of a s d v e′)
+              (λ q. absurd (true≢false (sym (same-self s) ∙ q)));
         }
 
     good-remat : (b : Bool) → RematOk t f (no b) record { dest = d; value = v } → Good (addRemat t f b d v a)
@@ -130,6 +173,7 @@ module _ (t : RegInfo) (f : Function) where
           apart =
               rw (map-snoc (λ (r : Remat). r .dest) (a .rematsWithScratch) record { dest = d; value = v })
               (behind-third (kept-dests (a .moves)) (remat-dests (a .remats)) (remat-dests (a .rematsWithScratch)) d e (g .apart));
+          sources = g .sources;
         }
     good-remat false ok =
         record {
@@ -139,11 +183,8 @@ module _ (t : RegInfo) (f : Function) where
           apart =
               rw (map-snoc (λ (r : Remat). r .dest) (a .remats) record { dest = d; value = v })
               (behind-second (kept-dests (a .moves)) (remat-dests (a .remats)) (remat-dests (a .rematsWithScratch)) d e (g .apart));
+          sources = g .sources;
         }
-
-  unless-dropped : (o b : Bool) → and o (no b) ≡ false → b ≡ false → o ≡ false
-  unless-dropped false b e q = refl
-  unless-dropped true b e q = absurd (true≢false (sym (no-false b e) ∙ q))
 
   never-dropped : (b x : Bool) → b ≡ true → and (no b) x ≡ false
   never-dropped true x q = refl
@@ -176,15 +217,19 @@ module _ (t : RegInfo) (f : Function) where
       banks = or-false (no (ofBank t (valueBank f v) s)) (no (ofBank t (valueBank f v) d)) (first-none _ h 2 (omega arith))
 
       clear : dropped t f a s d v ≡ false → overlapsEarlier t f a d ≡ false
-      clear q = unless-dropped (overlapsEarlier t f a d) (dropped t f a s d v) (first-none _ h 4 (omega arith)) q
+      clear q = unless-not (overlapsEarlier t f a d) (dropped t f a s d v) (first-none _ h 4 (omega arith)) q
+
+      -- 21 was tested, since the move is neither rebuilt nor dropped
+      apart : becomesRemat t f s d v ≡ false → dropped t f a s d v ≡ false → overlapsSource t a s ≡ false
+      apart q p = rw (p, q) at (first-none _ h 5 (omega arith))
 
       go : (b : Bool) → becomesRemat t f s d v ≡ b → (c : Bool) → dropped t f a s d v ≡ c → Good (pick b (addRemat t f (needsScratch t f d v) d v a) (addKept t f c s d v a))
       go true q c p =
           good-remat a g d v (clear (never-dropped (becomesRemat t f s d v) _ q)) (needsScratch t f d v)
           (remat-ok d v (names .1) (names .2) (no-false _ (banks .1)) (and-true (canRematerialize f v) _ q .0))
-      go false q true p = record { moves = g .moves; remats = g .remats; rematsWithScratch = g .rematsWithScratch; apart = g .apart }
+      go false q true p = record { moves = g .moves; remats = g .remats; rematsWithScratch = g .rematsWithScratch; apart = g .apart; sources = g .sources }
       go false q false p =
-          good-kept a g d v (clear p) s
+          good-kept a g d v (clear p) s (apart q p)
           record {
             source-named = names .0;
             dest-named = names .1;
@@ -207,7 +252,7 @@ module _ (t : RegInfo) (f : Function) where
 
   pub sorted-add : (e : Entry) (a : Sorted) → SortedOk t f a → firstOf (entryConditions t f a e) ≡ none → SortedOk t f (add t f e a)
   sorted-add e a ok h =
-      good-ok (add t f e a) (good-add e a record { moves = ok .moves; remats = ok .remats; rematsWithScratch = ok .rematsWithScratch; apart = at-apart (destinations a) (ok .apart) } h)
+      good-ok (add t f e a) (good-add e a record { moves = ok .moves; remats = ok .remats; rematsWithScratch = ok .rematsWithScratch; apart = at-apart (destinations a) (ok .apart); sources = ok .sources } h)
 
   good-from : (p : Patch) (room : ℕ) (c c′ : Cache) (es : List Edit) (l : List Entry) (a : Sorted) → Good a → resolveFrom t f p room c l a ≡ resolved es c′
       → Good (sortedFrom t f l a) × (resolveSorted t f p room c (sortedFrom t f l a) ≡ resolved es c′)
@@ -222,7 +267,7 @@ module _ (t : RegInfo) (f : Function) where
   accepted p room c c′ es h =
       let a = sorted t f p in
       let g = good-from p room c c′ es (p .entries) nothingSorted
-      record { moves = λ i l. absurd (omega arith); remats = λ i l. absurd (omega arith); rematsWithScratch = λ i l. absurd (omega arith); apart = tt } h in
+      record { moves = λ i l. absurd (omega arith); remats = λ i l. absurd (omega arith); rematsWithScratch = λ i l. absurd (omega arith); apart = tt; sources = λ i k l q. absurd (omega arith) } h in
       let q = not-refused (firstOf (patchConditions t f p room a)) (answerOf (run t f p a c)) es c′ (g .1) in
       let k = answered (run t f p a c) es c′ (q .1) in
       record {

@@ -8,10 +8,10 @@ use Rattle.rules.specs.Edit.{updated, andThen, each, find, filter}
 use Rattle.rules.specs.Scratch.{acquireFrom, unevict, unevictForReg, slotScratch, evictLast, reuse, orScratch, getScratchReg, moveEdits, doMove}
 use Rattle.rules.specs.Order.{carryOne, carry, remats, rematWithScratch, writerFrom, writersOf, writers, cycleMoveSources, divert, lead, undivert, undivertAll, close, visit, visitUnlessMemory, start, moves}
 use Rattle.rules.specs.Patch.{destinations, add, entryConditions, patchConditions, run, resolveSorted, resolveFrom, resolve}
-use Rattle.rules.specs.Trials.{three, chained, five, six, halves, between, sizes, slotsAlone, memory, eight, Trials, ToldApart, Overlaps}
+use Rattle.rules.specs.Trials.{three, chained, five, six, halves, between, sizes, slotsAlone, memory, eight, doubled, Trials, ToldApart, Overlaps, Sources}
 
-all-trials : Trials × ToldApart × Overlaps
-unfolding any all has meets lastOr indices spillslotSize topLevelClass stackToStackClass regMemory bankForReg regUnits bankForClass classSlots classMembers allocationOrder firstOf valueBank rematCost rematClass updated andThen each find filter acquireFrom unevict unevictForReg slotScratch evictLast reuse orScratch getScratchReg moveEdits doMove carryOne carry remats rematWithScratch writerFrom writersOf writers cycleMoveSources divert lead undivert undivertAll close visit visitUnlessMemory start moves destinations add entryConditions patchConditions run resolveSorted resolveFrom resolve three chained five six halves between sizes slotsAlone memory eight orderTotal countsFit bankFits regFits classFits outsideLimits listedTwice unequalWidths foreignMember sharedMemory unfitClass targetRefusal twice
+all-trials : Trials × ToldApart × Overlaps × Sources
+unfolding any all has meets lastOr indices spillslotSize topLevelClass stackToStackClass regMemory bankForReg regUnits bankForClass classSlots classMembers allocationOrder firstOf valueBank rematCost rematClass updated andThen each find filter acquireFrom unevict unevictForReg slotScratch evictLast reuse orScratch getScratchReg moveEdits doMove carryOne carry remats rematWithScratch writerFrom writersOf writers cycleMoveSources divert lead undivert undivertAll close visit visitUnlessMemory start moves destinations add entryConditions patchConditions run resolveSorted resolveFrom resolve three chained five six halves between sizes slotsAlone memory eight doubled orderTotal countsFit bankFits regFits classFits outsideLimits listedTwice unequalWidths foreignMember sharedMemory unfitClass targetRefusal twice
 all-trials = (
   record {
     swap-full = (refl, refl, refl);
@@ -58,6 +58,19 @@ all-trials = (
     narrower-evicted = (refl, refl, refl);
     last-overlaps = refl;
   },
+  record {
+    target = refl;
+    whole-then-half = refl;
+    half-then-whole = refl;
+    with-any-kept = refl;
+    equal-sources = (refl, refl, refl);
+    after-12 = refl;
+    before-9 = refl;
+    before-13 = refl;
+    rebuilt-then-whole = (refl, refl, refl);
+    whole-then-rebuilt = (refl, refl, refl);
+    over-a-destination = (refl, refl, refl);
+  },
 )
 
 pub trials : Trials
@@ -68,3 +81,6 @@ told-apart = all-trials .1
 
 pub overlaps : Overlaps
 overlaps = all-trials .2
+
+pub sources : Sources
+sources = all-trials .3

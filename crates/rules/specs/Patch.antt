@@ -63,6 +63,10 @@ abbrev pub cacheAfter : Cache → Answer → Cache
 cacheAfter c (refused n) = c
 cacheAfter c (resolved es c′) = c′
 
+-- 02 h, 21: "has a source that overlaps an unequal source of an earlier kept move"
+abbrev pub overlapsSource : RegInfo → Sorted → Place → Bool
+overlapsSource t a s = any (λ (m : KeptMove). and (overlap t (m .source) s) (no (samePlace (m .source) s))) (a .moves)
+
 module _ (t : RegInfo) (f : Function) where
   -- "A rebuild whose destination is not in the class needs a scratch."
   abbrev pub needsScratch : Place → ℕ → Bool
@@ -113,7 +117,11 @@ module _ (t : RegInfo) (f : Function) where
   abbrev pub overlapsEarlier : Sorted → Place → Bool
   overlapsEarlier a d = any (λ p. overlap t p d) (destinations a)
 
-  -- "each entry 15, 2, 9, 10, 11, 12"
+  -- 02 h, 21: "a move entry that would be kept": neither rebuilt nor dropped
+  abbrev pub wouldBeKept : Sorted → Place → Place → ℕ → Bool
+  wouldBeKept a s d v = and (no (becomesRemat s d v)) (no (dropped a s d v))
+
+  -- "each entry 15, 2, 9, 10, 11, 12"; 02 h: 21 "straight after 12"
   unfoldable pub entryConditions : Sorted → Entry → List Condition
   entryConditions a (move s d v) =
       cond 15 (leb 128 (a .count))
@@ -121,6 +129,7 @@ module _ (t : RegInfo) (f : Function) where
       ∷ cond 9 (or (no (ofBank t (valueBank f v) s)) (no (ofBank t (valueBank f v) d)))
       ∷ cond 10 (samePlace s d)
       ∷ cond 12 (and (overlapsEarlier a d) (no (dropped a s d v)))
+      ∷ cond 21 (and (wouldBeKept a s d v) (overlapsSource t a s))
       ∷ []
   entryConditions a (remat d v) =
       cond 15 (leb 128 (a .count))

@@ -41,6 +41,11 @@ module _ (t : RegInfo) (f : Function) where
     pub apart :
         (i k : ℕ) → i < length (destinations a) → k < length (destinations a) → (i ≡ k → ⊥)
         → overlap t (getD (destinations a) i (slot 0)) (getD (destinations a) k (slot 0)) ≡ false
+    -- 02 h: unequal sources of kept moves share no unit
+    pub sources :
+        (i k : ℕ) → i < length (a .moves) → k < length (a .moves)
+        → samePlace (getD (a .moves) i noMove .source) (getD (a .moves) k noMove .source) ≡ false
+        → overlap t (getD (a .moves) i noMove .source) (getD (a .moves) k noMove .source) ≡ false
 
   -- an accepted call: what its tests leave known, and its run
   pub record Ran (p : Patch) (room : ℕ) (c : Cache) (es : List Edit) (c′ : Cache) : Type 0 where

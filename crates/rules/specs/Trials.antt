@@ -310,3 +310,53 @@ pub record Overlaps : Type 0 where
       (Move (slot 2) (reg 1) 1 ∷ EmergencySpill 3 0 ∷ Move (reg 0) (slot 0) 0 ∷ Move (slot 1) (reg 0) 0 ∷ EmergencyReload 0 3 ∷ []) 1 (3 ∷ [])
   -- the order's last overlaps the destination of a rebuild with scratch
   pub last-overlaps : resolve ends (over (rebuilt 1 ∷ []) 0 1) (patch [] (remat (reg 0) 0 ∷ [])) 8 emptyCache ≡ refused 14
+
+-- ---- 02 h, overlapping sources: r0 to r5 of bank 0 are units 0 to 5; r6, r7 and r8 of bank 1 are two of them each
+abbrev pub ofBankOne : ℕ → ℕ → Reg
+ofBankOne u x = record { memory = 0; bank = 1; units = u ∷ x ∷ [] }
+
+unfoldable pub doubled : RegInfo
+doubled =
+    record {
+      units = 6;
+      banks = record { size = 2; top = 0; stack = 1 } ∷ record { size = 3; top = 2; stack = 3 } ∷ [];
+      regs = single 0 ∷ single 1 ∷ single 2 ∷ single 3 ∷ single 4 ∷ single 5 ∷ ofBankOne 0 1 ∷ ofBankOne 2 3 ∷ ofBankOne 4 5 ∷ [];
+      classes =
+          record { bank = 0; slots = 1; members = indices 0 6; order = indices 0 6 }
+          ∷ record { bank = 0; slots = 0; members = indices 0 6; order = indices 0 6 }
+          ∷ record { bank = 1; slots = 1; members = indices 6 3; order = indices 6 3 }
+          ∷ record { bank = 1; slots = 0; members = indices 6 3; order = indices 6 3 }
+          ∷ [];
+    }
+
+-- values 0 and 1 of bank 0, 2 of bank 1, and 3 of bank 0, rebuilt more cheaply than moved; N = L = 2
+abbrev pub ofDoubled : List ℕ → List Entry → Answer
+ofDoubled free es = resolve doubled (over (fixed 0 ∷ fixed 0 ∷ fixed 1 ∷ record { bank = 0; cost = 1; class = 0 } ∷ []) 2 2) (patch free es) 24 emptyCache
+
+-- a pair register, and half of it to a place of its own
+abbrev pub whole : Entry
+whole = move (reg 6) (reg 7) 2
+
+abbrev pub half : Entry
+half = move (reg 0) (reg 4) 0
+
+abbrev pub NoSlots : List Edit → Answer → Type 0
+NoSlots es r = Leaves r es 0 (λ z. [])
+
+pub record Sources : Type 0 where
+  pub target : target.Accepted doubled
+  pub whole-then-half : ofDoubled [] (whole ∷ half ∷ []) ≡ refused 21
+  pub half-then-whole : ofDoubled [] (half ∷ whole ∷ []) ≡ refused 21
+  -- not the last kept alone
+  pub with-any-kept : ofDoubled [] (whole ∷ move (reg 4) (reg 5) 0 ∷ move (reg 1) (slot 0) 1 ∷ []) ≡ refused 21
+  -- "Equal sources still pass, whatever their values."
+  pub equal-sources : NoSlots (Move (reg 3) (reg 0) 1 ∷ Move (reg 2) (reg 0) 0 ∷ []) (ofDoubled [] (move (reg 0) (reg 2) 0 ∷ move (reg 0) (reg 3) 1 ∷ []))
+  -- "tested straight after 12": 12 of the same entry comes first, a later entry's 9 and the patch's 13 do not
+  pub after-12 : ofDoubled [] (whole ∷ move (reg 0) (reg 2) 0 ∷ []) ≡ refused 12
+  pub before-9 : ofDoubled [] (whole ∷ half ∷ move (reg 0) (reg 8) 2 ∷ []) ≡ refused 21
+  pub before-13 : ofDoubled (4 ∷ []) (whole ∷ half ∷ []) ≡ refused 21
+  -- "a move entry that would be kept", "an earlier kept move": one that is rebuilt is neither
+  pub rebuilt-then-whole : NoSlots (Move (reg 7) (reg 6) 2 ∷ Rematerialize (reg 4) 3 ∷ []) (ofDoubled [] (move (reg 0) (reg 4) 3 ∷ whole ∷ []))
+  pub whole-then-rebuilt : NoSlots (Move (reg 7) (reg 6) 2 ∷ Rematerialize (reg 4) 3 ∷ []) (ofDoubled [] (whole ∷ move (reg 0) (reg 4) 3 ∷ []))
+  -- destinations do not count: each half of r6 is written from a pair's half
+  pub over-a-destination : NoSlots (Move (reg 7) (reg 6) 2 ∷ Move (reg 0) (reg 4) 0 ∷ []) (ofDoubled [] (whole ∷ move (reg 4) (reg 0) 0 ∷ []))

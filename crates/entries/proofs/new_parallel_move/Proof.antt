@@ -24,7 +24,7 @@ clear-requires : tie.Need-clear-requires
 clear-requires c κs = search needs
 
 returns : tie.Need-returns
-returns c = let e = emptied (c .before .before .before .before .args .e .now) (c .before .before .told .ensures) in (e, λ t f. tracked-none _ _ _ _ _ e (c .clear .ensures))
+returns c = let e = emptied (c .before .before .before .before .args .e .now) (c .before .before .told .ensures) in (e, λ t f. tracked-none _ _ _ _ _ _ e (c .clear .ensures))
 
 pub new-parallel-move-spec : {M : Type 1} → statement M
 new-parallel-move-spec =

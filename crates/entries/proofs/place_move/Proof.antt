@@ -1,10 +1,12 @@
--- `place_move` meets its contract: kept, dropped or rebuilt as the rules say.
+-- `place_move` meets its contract: kept, dropped, rebuilt or refused as the rules say.
 use mathlib.Core.Path.{sym, ap, _∙_}
 use borrow.Author.Tests.{not-true, not-false}
+use Rattle.entity.specs.Place.{placeAt}
 use Rattle.entries.specs.Answers.{rebuiltOf}
-use Rattle.entries.proofs.Table.{entries-count, dropped-done}
+use Rattle.entries.proofs.Table.{entries-count, counted-index, dropped-done}
 use Rattle.entries.proofs.Fates.{writable, fate-kept, fate-rebuilt}
-use Rattle.entries.proofs.Adding.{roomy, refused-12, added-dropped, added-kept, added-instead}
+use Rattle.entries.proofs.Sources.{sourced}
+use Rattle.entries.proofs.Adding.{roomy, refused-12, refused-21, added-dropped, added-kept, added-instead}
 use borrow.Author.Needs.{needs}
 use Rattle.entries.proofs.place_move.Statement.{statement}
 use Rattle.entries.proofs.place_move.Tie as tie
@@ -18,52 +20,49 @@ enum-told c = search needs
 is-written-requires : tie.Need-is-written-requires
 is-written-requires c κs = let s = c .before .before .before .before in (s .pre .1 .linked, writable _ _ (s .pre .0) _ (s .pre .2 .dest-named))
 
-keep-requires : tie.Need-keep-requires
-keep-requires c κs =
-    let s = c .before .before .before .before .before .before .before .before in
-    (roomy _ _ _ _ (s .pre .1) (rw entries-count at (s .pre .2 .less)), writable _ _ (s .pre .0) _ (s .pre .2 .dest-named))
+overlaps-source-requires : tie.Need-overlaps-source-requires
+overlaps-source-requires c κs = let s = c .before .before .before .before .before .before .before in (sourced _ _ _ _ (s .pre .0) (s .pre .1), writable _ _ (s .pre .0) (placeAt (s .args .source .0)) (s .pre .2 .source-named) .known)
 
 returns : tie.Need-returns
 returns c =
     let s = c .before .before .before .before .before .before .before .before .before in
-    added-kept _ _ _ _ (s .pre .0) (s .pre .1) _ _ _ (s .pre .2) (fate-kept _ _ _ _ _ (sym (ap rebuiltOf (c .before .before .before .before .before .before .enum-told .given .1)) ∙ c .before .before .before .before .before .before .before .before .move-fate .ensures)) (sym (c .before .before .before .before .is-written .ensures) ∙ not-true _ (c .before .before .before .if1 .taken)) _ _ (c .keep .ensures .0) (c .keep .ensures .1)
+    refused-21 _ _ _ _ (s .pre .0) (s .pre .1) _ _ _ (s .pre .2) (fate-kept _ _ _ _ _ (sym (ap rebuiltOf (c .before .before .before .before .before .before .enum-told .given .1)) ∙ c .before .before .before .before .before .before .before .before .move-fate .ensures)) (sym (c .before .before .before .before .is-written .ensures) ∙ not-true _ (c .before .before .before .if1 .taken)) (sym (c .before .overlaps-source .ensures) ∙ c .if2 .taken)
+
+keep-requires : tie.Need-keep-requires
+keep-requires c κs = let s = c .before .before .before .before .before .before .before .before .before .before .before in (roomy _ _ _ _ (s .pre .1) (rw entries-count at (s .pre .2 .less)), writable _ _ (s .pre .0) (placeAt (s .args .source .0)) (s .pre .2 .source-named) .known, writable _ _ (s .pre .0) _ (s .pre .2 .dest-named))
+
+returns-2 : tie.Need-returns-2
+returns-2 c =
+    let s = c .before .before .before .before .before .before .before .before .before .before .before .before in
+    added-kept _ _ _ _ (s .pre .0) (s .pre .1) _ _ _ (s .pre .2) (fate-kept _ _ _ _ _ (sym (ap rebuiltOf (c .before .before .before .before .before .before .before .before .before .enum-told .given .1)) ∙ c .before .before .before .before .before .before .before .before .before .before .before .move-fate .ensures)) (sym (c .before .before .before .before .before .before .before .is-written .ensures) ∙ not-true _ (c .before .before .before .before .before .before .if1 .taken)) (sym (c .before .before .before .before .overlaps-source .ensures) ∙ c .before .before .before .if2 .left) _ _ (c .keep .ensures)
 
 is-dropped-requires : tie.Need-is-dropped-requires
 is-dropped-requires c κs = let s = c .before .before .before .before .before .before .before .before in (s .pre .1 .linked, writable _ _ (s .pre .0) _ (s .pre .2 .dest-named))
 
 count-entry-requires : tie.Need-count-entry-requires
-count-entry-requires c κs =
-    let s = c .before .before .before .before .before .before .before .before .before .before .before in
-    roomy _ _ _ _ (s .pre .1) (rw entries-count at (s .pre .2 .less)) .count
+count-entry-requires c κs = let s = c .before .before .before .before .before .before .before .before .before .before .before in roomy _ _ _ _ (s .pre .1) (rw entries-count at (s .pre .2 .less)) .count
 
-returns-2 : tie.Need-returns-2
-returns-2 c =
+returns-3 : tie.Need-returns-3
+returns-3 c =
     let s = c .before .before .before .before .before .before .before .before .before .before .before .before in
     let e = s .args .e .now in
-    added-dropped _ _ _ _ (s .pre .0) (s .pre .1) _ _ _ (s .pre .2) (fate-kept _ _ _ _ _ (sym (ap rebuiltOf (c .before .before .before .before .before .before .before .before .before .enum-told .given .1)) ∙ c .before .before .before .before .before .before .before .before .before .before .before .move-fate .ensures)) (sym (c .before .before .before .before .before .before .before .is-written .ensures) ∙ not-false _ (c .before .before .before .before .before .before .if1 .left)) (sym (c .before .before .before .is-dropped .ensures) ∙ c .before .before .if2 .taken) _ (dropped-done e (roomy _ _ _ _ (s .pre .1) (rw entries-count at (s .pre .2 .less)) .few) _ (c .count-entry .ensures .1) (c .count-entry .ensures .0))
+    added-dropped _ _ _ _ (s .pre .0) (s .pre .1) _ _ _ (s .pre .2) (fate-kept _ _ _ _ _ (sym (ap rebuiltOf (c .before .before .before .before .before .before .before .before .before .enum-told .given .1)) ∙ c .before .before .before .before .before .before .before .before .before .before .before .move-fate .ensures)) (sym (c .before .before .before .before .before .before .before .is-written .ensures) ∙ not-false _ (c .before .before .before .before .before .before .if1 .left)) (sym (c .before .before .before .is-dropped .ensures) ∙ c .before .before .if3 .taken) _ (dropped-done e (roomy _ _ _ _ (s .pre .1) (rw entries-count at (s .pre .2 .less)) .few) _ (c .count-entry .ensures .1) (c .count-entry .ensures .0)) (λ u. rw (c .count-entry .ensures .0) (counted-index e u))
 
 enum-known-scratch : tie.Need-enum-known-scratch
 enum-known-scratch c = search needs
 
 rebuild-requires : tie.Need-rebuild-requires
-rebuild-requires c κs =
-    let s = c .before .before .before .before .before .before in
-    (roomy _ _ _ _ (s .pre .1) (rw entries-count at (s .pre .2 .less)), writable _ _ (s .pre .0) _ (s .pre .2 .dest-named))
-
-returns-3 : tie.Need-returns-3
-returns-3 c =
-    let s = c .before .before .before .before .before .before .before .before .before .before in
-    refused-12 _ _ _ _ (s .pre .0) (s .pre .1) _ _ _ (s .pre .2) (fate-kept _ _ _ _ _ (sym (ap rebuiltOf (c .before .before .before .before .before .before .before .enum-told .given .1)) ∙ c .before .before .before .before .before .before .before .before .before .move-fate .ensures)) (sym (c .before .before .before .before .before .is-written .ensures) ∙ not-false _ (c .before .before .before .before .if1 .left)) (sym (c .before .is-dropped .ensures) ∙ c .if2 .left)
+rebuild-requires c κs = let s = c .before .before .before .before .before .before in (roomy _ _ _ _ (s .pre .1) (rw entries-count at (s .pre .2 .less)), writable _ _ (s .pre .0) _ (s .pre .2 .dest-named))
 
 returns-4 : tie.Need-returns-4
 returns-4 c =
+    let s = c .before .before .before .before .before .before .before .before .before .before in
+    refused-12 _ _ _ _ (s .pre .0) (s .pre .1) _ _ _ (s .pre .2) (fate-kept _ _ _ _ _ (sym (ap rebuiltOf (c .before .before .before .before .before .before .before .enum-told .given .1)) ∙ c .before .before .before .before .before .before .before .before .before .move-fate .ensures)) (sym (c .before .before .before .before .before .is-written .ensures) ∙ not-false _ (c .before .before .before .before .if1 .left)) (sym (c .before .is-dropped .ensures) ∙ c .if3 .left)
+
+returns-5 : tie.Need-returns-5
+returns-5 c =
     let s = c .before .before .before .before .before .before .before in
-    let t = s .args .t .now in
-    let f = s .args .f .now in
-    let x = s .args .source .0 in
-    let d = s .args .dest .0 in
-    let v = s .args .v .0 in
-    let q = fate-rebuilt t f x d v _ (sym (ap rebuiltOf (c .before .before .before .before .scratch .given .1)) ∙ c .before .before .before .before .before .before .move-fate .ensures) in
+    let q = fate-rebuilt (s .args .t .now) (s .args .f .now) (s .args .source .0) (s .args .dest .0) (s .args .v .0) _ (sym (ap rebuiltOf (c .before .before .before .before .scratch .given .1)) ∙ c .before .before .before .before .before .before .move-fate .ensures) in
     added-instead _ _ _ _ (s .pre .0) (s .pre .1) _ _ _ (s .pre .2) _ (q .0) (q .1) _ _ _ (c .rebuild .ensures)
 
 pub place-move-spec : {M : Type 1} → statement M
@@ -73,12 +72,14 @@ place-move-spec =
     move-fate-requires
     enum-told
     is-written-requires
-    keep-requires
+    overlaps-source-requires
     returns
+    keep-requires
+    returns-2
     is-dropped-requires
     count-entry-requires
-    returns-2
+    returns-3
     enum-known-scratch
     rebuild-requires
-    returns-3
-    returns-4)
+    returns-4
+    returns-5)
