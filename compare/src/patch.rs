@@ -146,6 +146,8 @@ enum Fate {
 struct Seen {
     /// Source, destination and value of the moves kept.
     kept: Vec<(Allocation, Allocation, Value)>,
+    /// The register units of their sources.
+    sources: RegUnitSet,
     /// The register units and the slots of all destinations.
     units: RegUnitSet,
     slots: Vec<SpillSlot>,
@@ -184,11 +186,7 @@ impl Seen {
                 return Ok(());
             }
             self.write(dest, target)?;
-            for &(earlier, _, _) in &self.kept {
-                if earlier != source && overlap(earlier, source, target) {
-                    return Err(OVERLAPPING_SOURCES);
-                }
-            }
+            self.read(source, target)?;
             self.kept.push(kept);
             self.bound += 8;
         } else {
@@ -206,6 +204,25 @@ impl Seen {
                 self.evicts_destination = true;
             }
         }
+        Ok(())
+    }
+
+    /// Marks the source of a move to be kept as read, or refuses with 21: each
+    /// earlier one is held against it, if a unit of it was read at all.
+    fn read(&mut self, source: Allocation, target: &Target) -> Result<(), Refused> {
+        // A slot overlaps itself alone, and is then equal.
+        let AllocationKind::PhysReg(reg) = source.kind() else {
+            return Ok(());
+        };
+        let units = &target.register(reg).units;
+        if units.iter().any(|&unit| self.sources.contains(unit)) {
+            for &(earlier, _, _) in &self.kept {
+                if earlier != source && overlap(earlier, source, target) {
+                    return Err(OVERLAPPING_SOURCES);
+                }
+            }
+        }
+        self.sources.extend(units.iter().copied());
         Ok(())
     }
 
