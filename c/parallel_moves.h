@@ -35,7 +35,7 @@
 /* The version of the interface: of what each function is lent, and how long the
  * tables are. The names in the library end in it, so that a library of another
  * version does not link. */
-#define PARALLEL_MOVES_INTERFACE 1
+#define PARALLEL_MOVES_INTERFACE 2
 
 #define PARALLEL_MOVES_STRING_OF(text) #text
 #define PARALLEL_MOVES_STRING(text) PARALLEL_MOVES_STRING_OF(text)
@@ -73,7 +73,7 @@
 #define PARALLEL_MOVES_FUNCTION 16387
 #define PARALLEL_MOVES_CACHE 65600
 #define PARALLEL_MOVES_UNITS 512
-#define PARALLEL_MOVES_ENTRIES 1028
+#define PARALLEL_MOVES_ENTRIES 1540
 #define PARALLEL_MOVES_WRITERS 6657
 #define PARALLEL_MOVES_EDITS 1025
 #define PARALLEL_MOVES_SLOTS 32834
@@ -101,8 +101,8 @@ PARALLEL_MOVES_LOOK_AT_IT uint8_t parallel_moves_open(
  * parallel_moves_put_move and parallel_moves_put_remat write them. Returns how
  * many edits the patch has, as words at the front of `list`; the words past them
  * are left alone. *refusal is set to 0, or to the number of the refusal (2, 3, 9
- * to 17): look at it first, since then the result is 0, and list and cache are
- * as they were. PARALLEL_MOVES_MOST_EDITS words are enough for every patch. The
+ * to 17, 21): look at it first, since then the result is 0, and list and cache
+ * are as they were. PARALLEL_MOVES_MOST_EDITS words are enough for every patch. The
  * working tables are `entries` to `carried`. */
 size_t parallel_moves_resolve(
     const uint16_t target[PARALLEL_MOVES_TARGET],

@@ -5,7 +5,7 @@ use crate::draft::{self, Draft, Patch, Place};
 #[link(name = "parallel_moves_c", kind = "static")]
 #[link(name = "calls_c", kind = "static")]
 unsafe extern "C" {
-    #[link_name = "parallel_moves_open_1"]
+    #[link_name = "parallel_moves_open_2"]
     fn parallel_moves_open(
         bytes: *const u8,
         bytes_len: usize,
@@ -14,7 +14,7 @@ unsafe extern "C" {
         cache: *mut u16,
     ) -> u8;
 
-    #[link_name = "parallel_moves_resolve_1"]
+    #[link_name = "parallel_moves_resolve_2"]
     fn parallel_moves_resolve(
         target: *const u16,
         function: *const u16,
@@ -37,7 +37,7 @@ unsafe extern "C" {
         carried: *mut u16,
     ) -> usize;
 
-    #[link_name = "parallel_moves_answer_1"]
+    #[link_name = "parallel_moves_answer_2"]
     fn parallel_moves_answer(
         job: *const u8,
         job_len: usize,
@@ -104,7 +104,7 @@ impl Memory {
             words: vec![0; MOST_WORDS],
             list: vec![0; 1024],
             free_units: vec![0; 512],
-            entries: vec![0xa5a5; 1028],
+            entries: vec![0xa5a5; 1540],
             writers: vec![0xa5a5; 6657],
             available: vec![0; 512],
             sources: vec![0; 512],

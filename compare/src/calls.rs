@@ -117,7 +117,7 @@ impl<'a> Session<'a> {
     }
 
     /// The patch of a call, tested.
-    fn read(&self, call: &Call) -> Result<Patch, Refused> {
+    pub fn read(&self, call: &Call) -> Result<Patch, Refused> {
         let mut bytes = Vec::new();
         number::put(&mut bytes, call.free.len() as u32);
         for &unit in &call.free {

@@ -22,6 +22,8 @@ const FREE_AND_WRITTEN: Refused = Refused(13);
 const EVICTS_DESTINATION: Refused = Refused(14);
 /// 15: one entry too many.
 const TOO_MANY_ENTRIES: Refused = Refused(15);
+/// 21: the source overlaps an unequal one of an earlier kept move (request 02 h).
+const OVERLAPPING_SOURCES: Refused = Refused(21);
 
 /// An entry of a patch.
 #[derive(Clone, Copy)]
@@ -144,6 +146,8 @@ enum Fate {
 struct Seen {
     /// Source, destination and value of the moves kept.
     kept: Vec<(Allocation, Allocation, Value)>,
+    /// The register units of their sources.
+    sources: RegUnitSet,
     /// The register units and the slots of all destinations.
     units: RegUnitSet,
     slots: Vec<SpillSlot>,
@@ -154,7 +158,7 @@ struct Seen {
 }
 
 impl Seen {
-    /// Tests 9 to 12 of an entry and takes it in.
+    /// Tests 9 to 12, and then 21, of an entry and takes it in.
     fn test(&mut self, entry: Entry, target: &Target, values: &Values) -> Result<(), Refused> {
         let (source, dest, value) = match entry {
             Entry::Move {
@@ -182,6 +186,7 @@ impl Seen {
                 return Ok(());
             }
             self.write(dest, target)?;
+            self.read(source, target)?;
             self.kept.push(kept);
             self.bound += 8;
         } else {
@@ -191,10 +196,33 @@ impl Seen {
         if let Fate::Rebuild { class, scratch } = fate {
             self.bound += if scratch { 5 } else { 1 };
             let class = target.class(class);
-            if scratch && !class.slots && overlaps(class.order.last().copied(), dest, target) {
+            if let Some(&last) = class.order.last()
+                && scratch
+                && !class.slots
+                && overlap(Allocation::reg(last), dest, target)
+            {
                 self.evicts_destination = true;
             }
         }
+        Ok(())
+    }
+
+    /// Marks the source of a move to be kept as read, or refuses with 21: each
+    /// earlier one is held against it, if a unit of it was read at all.
+    fn read(&mut self, source: Allocation, target: &Target) -> Result<(), Refused> {
+        // A slot overlaps itself alone, and is then equal.
+        let AllocationKind::PhysReg(reg) = source.kind() else {
+            return Ok(());
+        };
+        let units = &target.register(reg).units;
+        if units.iter().any(|&unit| self.sources.contains(unit)) {
+            for &(earlier, _, _) in &self.kept {
+                if earlier != source && overlap(earlier, source, target) {
+                    return Err(OVERLAPPING_SOURCES);
+                }
+            }
+        }
+        self.sources.extend(units.iter().copied());
         Ok(())
     }
 
@@ -269,12 +297,13 @@ fn is_memory(place: Allocation, target: &Target) -> bool {
     }
 }
 
-fn overlaps(reg: Option<PhysReg>, place: Allocation, target: &Target) -> bool {
-    match (reg, place.kind()) {
-        (Some(reg), AllocationKind::PhysReg(other)) => {
+/// Whether two places share a unit; a slot overlaps itself alone.
+fn overlap(one: Allocation, other: Allocation, target: &Target) -> bool {
+    match (one.kind(), other.kind()) {
+        (AllocationKind::PhysReg(one), AllocationKind::PhysReg(other)) => {
             let units = &target.register(other).units;
-            target.register(reg).units.iter().any(|u| units.contains(u))
+            target.register(one).units.iter().any(|u| units.contains(u))
         }
-        _ => false,
+        _ => one == other,
     }
 }

@@ -16,7 +16,7 @@ const MOST_JOB: usize = 16_000;
 const MOST_TEXT: usize = 60_000;
 
 /// The numbers that a job can be refused by.
-const NUMBERS: [u32; 16] = [1, 2, 3, 4, 5, 6, 7, 8, 9, 10, 11, 12, 13, 14, 15, 17];
+const NUMBERS: [u32; 17] = [1, 2, 3, 4, 5, 6, 7, 8, 9, 10, 11, 12, 13, 14, 15, 17, 21];
 
 /// The modes of mostly accepted jobs: how many to take, how many lines the text
 /// has at least, and how long job and text together may be.

@@ -8,16 +8,18 @@ use std::slice;
 use std::sync::{Mutex, OnceLock};
 
 use judge::calls::{Call, Function, Room, Session};
+use judge::number::Refused;
 use judge::{answer, words};
 
 /// The faults, each in some answers only.
-const FAULTS: [&str; 16] = [
+const FAULTS: [&str; 19] = [
     "order",       // two edits change places in a patch with four or more
     "place",       // a copy into slot 3 goes to slot 1
     "made",        // a slot too many is counted from the second patch on
     "patch",       // of five patches and more, the last has no answer
     "number",      // 12 for 13
     "accepted",    // bytes left over are accepted
+    "sources",     // 21 is not given
     "text",        // the text of rebuilds is wrong, their words are right
     "words",       // the words of rebuilds are wrong, their text is right
     "little-room", // no heed is paid to the room that there is
@@ -28,6 +30,8 @@ const FAULTS: [&str; 16] = [
     "call-list",   // a call refused by 17 writes a word of the list
     "call-cache",  // a call refused by 13 changes the cache
     "call-past",   // a word past the edits is written
+    "call-equal",  // 21 is given for equal sources of two values
+    "call-last",   // 21 is given only if the entry before is the one overlapped
 ];
 
 fn fault() -> &'static str {
@@ -86,7 +90,7 @@ fn edit(kind: u64, to: u64, from: u64, value: u64) -> u64 {
 fn spoil(words: &mut Vec<u64>, refusal: &mut u8) {
     match (fault(), *refusal) {
         ("number", 13) => *refusal = 12,
-        ("accepted", 8) => *refusal = 0,
+        ("accepted", 8) | ("sources", 21) => *refusal = 0,
         _ => {}
     }
     let mut at = 0;
@@ -133,7 +137,7 @@ fn whole_patches(words: &[u64], room: usize) -> usize {
 
 /// # Safety
 /// As the library's.
-#[unsafe(export_name = "parallel_moves_answer_1")]
+#[unsafe(export_name = "parallel_moves_answer_2")]
 pub unsafe extern "C" fn parallel_moves_answer(
     job: *const u8,
     job_len: usize,
@@ -173,7 +177,7 @@ pub unsafe extern "C" fn parallel_moves_answer(
 
 /// # Safety
 /// As the library's.
-#[unsafe(export_name = "parallel_moves_text_1")]
+#[unsafe(export_name = "parallel_moves_text_2")]
 pub unsafe extern "C" fn parallel_moves_text(
     words: *const u64,
     words_len: usize,
@@ -209,7 +213,7 @@ fn opened() -> &'static Mutex<HashMap<usize, Session<'static>>> {
 
 /// # Safety
 /// As the library's.
-#[unsafe(export_name = "parallel_moves_open_1")]
+#[unsafe(export_name = "parallel_moves_open_2")]
 pub unsafe extern "C" fn parallel_moves_open(
     bytes: *const u8,
     bytes_len: usize,
@@ -233,9 +237,29 @@ pub unsafe extern "C" fn parallel_moves_open(
     0
 }
 
+/// Whether two moves of a call have equal sources and other values.
+fn has_equal_sources(call: &Call) -> bool {
+    let moves: Vec<&[u32]> = call.numbers.chunks(4).filter(|e| e[0] == 0).collect();
+    let equal = |a: &[u32], b: &[u32]| a[1] == b[1] && a[3] != b[3];
+    moves.iter().any(|a| moves.iter().any(|b| equal(a, b)))
+}
+
+/// Whether a call that is refused by 21 is so for an entry and the one before.
+fn overlaps_the_last(session: &Session<'_>, call: &Call) -> bool {
+    let refused = |numbers: &[u32]| {
+        let part = Call {
+            numbers: numbers.to_vec(),
+            ..call.clone()
+        };
+        matches!(session.read(&part), Err(refused) if refused.0 == 21)
+    };
+    let end = (8..=call.numbers.len()).find(|&end| refused(&call.numbers[..end]));
+    end.is_some_and(|end| refused(&call.numbers[end - 8..end]))
+}
+
 /// # Safety
 /// As the library's.
-#[unsafe(export_name = "parallel_moves_resolve_1")]
+#[unsafe(export_name = "parallel_moves_resolve_2")]
 pub unsafe extern "C" fn parallel_moves_resolve(
     target: *const u16,
     _function: *const u16,
@@ -264,7 +288,14 @@ pub unsafe extern "C" fn parallel_moves_resolve(
     };
     let mut all = opened().lock().unwrap();
     let session = all.get_mut(&(target as usize)).expect("a function is open");
-    let expected = session.call(&call);
+    let mut expected = session.call(&call);
+    match (fault(), &expected.outcome) {
+        ("call-equal", Ok(_)) if has_equal_sources(&call) => expected.outcome = Err(Refused(21)),
+        ("call-last", Err(Refused(21))) if !overlaps_the_last(session, &call) => {
+            expected.outcome = Ok(Vec::new());
+        }
+        _ => {}
+    }
     let lent = unsafe { slice::from_raw_parts_mut(list, list_len) };
     match expected.outcome {
         Ok(mut edits) => {
@@ -299,7 +330,7 @@ pub unsafe extern "C" fn parallel_moves_resolve(
 
 /// # Safety
 /// As the library's.
-#[unsafe(export_name = "parallel_moves_made_1")]
+#[unsafe(export_name = "parallel_moves_made_2")]
 pub unsafe extern "C" fn parallel_moves_made(cache: *const u16) -> u16 {
     let made = unsafe { *cache };
     if fault() == "call-made" && made > 0 {

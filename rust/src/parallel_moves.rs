@@ -80,7 +80,7 @@ impl ParallelMoves {
     ///
     /// # Errors
     ///
-    /// The refusals 2, 3 and 9 to 15, and 17. Any patch can be given; after a
+    /// The refusals 2, 3, 9 to 15, 17 and 21. Any patch can be given; after a
     /// refused one the function is as before it.
     #[inline]
     pub fn resolve(&mut self, patch: &Patch) -> Result<Edits<'_>, Refusal> {

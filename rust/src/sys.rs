@@ -14,7 +14,7 @@ type SlotCache = [u16; 65_600];
 /// A set of register units.
 type RegUnitSet = [bool; 512];
 /// A patch under construction.
-type Entries = [u16; 1028];
+type Entries = [u16; 1540];
 /// The writer of each unit.
 type SparseMap = [u16; 6657];
 /// Edits in the making, backwards.
@@ -31,7 +31,7 @@ type Carried = [u16; 2049];
 // A slice goes as a pointer and a length; an array, or one number, goes as a
 // pointer, which a reference is here.
 unsafe extern "C" {
-    #[link_name = "parallel_moves_open_1"]
+    #[link_name = "parallel_moves_open_2"]
     fn parallel_moves_open(
         bytes: *const u8,
         bytes_length: usize,
@@ -40,7 +40,7 @@ unsafe extern "C" {
         cache: &mut SlotCache,
     ) -> u8;
 
-    #[link_name = "parallel_moves_resolve_1"]
+    #[link_name = "parallel_moves_resolve_2"]
     fn parallel_moves_resolve(
         target: &RegInfo,
         function: &Function,
@@ -63,10 +63,10 @@ unsafe extern "C" {
         carried: &mut Carried,
     ) -> usize;
 
-    #[link_name = "parallel_moves_made_1"]
+    #[link_name = "parallel_moves_made_2"]
     safe fn parallel_moves_made(cache: &SlotCache) -> u16;
 
-    #[link_name = "parallel_moves_answer_1"]
+    #[link_name = "parallel_moves_answer_2"]
     fn parallel_moves_answer(
         job: *const u8,
         job_length: usize,
@@ -88,7 +88,7 @@ unsafe extern "C" {
         carried: &mut Carried,
     ) -> usize;
 
-    #[link_name = "parallel_moves_text_1"]
+    #[link_name = "parallel_moves_text_2"]
     fn parallel_moves_text(
         words: *const u64,
         words_length: usize,

@@ -164,7 +164,7 @@ fn each_refusal_is_recorded() {
     }
     refusals.sort();
     refusals.dedup();
-    assert_eq!(refusals, [0, 2, 3, 9, 10, 11, 12, 13, 14, 15, 16, 17]);
+    assert_eq!(refusals, [0, 2, 3, 9, 10, 11, 12, 13, 14, 15, 16, 17, 21]);
 }
 
 /// A refused function gives no tables to resolve with, and what the tables held

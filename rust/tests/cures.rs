@@ -18,6 +18,11 @@ const TWO_BANKS: &str =
 /// Pairs: r0 and r1 share unit 1. A class follows that value 0 is rebuilt by.
 const PAIRS: &str =
     "5 1 4 0 1 3 0 0 2 0 1 0 0 2 1 2 0 0 2 3 4 3 0 1 3 0 1 2 3 0 1 2 0 0 3 0 1 2 3 0 1 2";
+/// r0 to r2 of one unit each, r3 on units 0 and 1 and r4 on 2 and 3; value 0 for
+/// the single ones, value 1 for the pairs; N = 1.
+const HALVES: &str = "4 2 2 0 1 3 2 3 5 0 0 1 0 0 0 1 1 0 0 1 2 0 1 2 0 1 0 1 2 2 3 \
+     4 0 1 3 0 1 2 3 0 1 2 0 0 3 0 1 2 3 0 1 2 1 1 2 3 4 2 3 4 1 0 2 3 4 2 3 4 \
+     2 1 1 0 0 1 0";
 /// A rebuild of value 0, cost 2 by class 2, into r1.
 const INTO_R1: &str = "1 0 1 0 2 2 1 0 1 1 3 0";
 
@@ -170,6 +175,27 @@ fn entries() {
         12,
         &[THREE, REBUILT, "1 0 2 0 0 3 0 0 0 3 0"],
         &[&[THREE, REBUILT, "1 0 1 0 0 3 0"]],
+    );
+}
+
+/// A pair and its half as sources.
+#[test]
+fn sources() {
+    // r3 to r4 and r0 to r1, which r3 has; then in two patches, the pair's first,
+    // or by way of slot 0.
+    check(
+        21,
+        &[HALVES, "1 0 2 0 7 9 1 0 1 3 0"],
+        &[
+            &[HALVES, "2 0 1 0 7 9 1 0 1 0 1 3 0"],
+            &[HALVES, "2 0 1 0 1 0 0 0 2 0 7 9 1 0 0 3 0"],
+        ],
+    );
+    // The half before the pair; then the value lies in r2.
+    check(
+        21,
+        &[HALVES, "1 0 2 0 1 3 0 0 7 9 1"],
+        &[&[HALVES, "1 0 2 0 5 3 0 0 7 9 1"]],
     );
 }
 

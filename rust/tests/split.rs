@@ -1,5 +1,5 @@
 //! The rule of `docs/JOB.md` for splitting a patch: the parts, one after the
-//! other, do what the whole does.
+//! other, do what the whole does, or would do if its sources did not overlap.
 
 mod common;
 
@@ -7,7 +7,7 @@ use std::collections::HashMap;
 
 use common::encoded;
 use common::machine::{Machine, Place, Register};
-use parallel_moves::{Answer, Edit, Resolver};
+use parallel_moves::{Answer, Edit, Refusal, Resolver};
 
 /// Ordinary slots of a random machine.
 const SLOTS: u16 = 4;
@@ -199,9 +199,28 @@ fn check_slots(registers: &[Register], banks: &[usize], answer: &Answer) {
     }
 }
 
-/// Splits a random patch, if chance gives a split, and compares: how many parts
-/// it had, or 0.
-fn try_one(random: &mut Random, resolver: &mut Resolver) -> usize {
+/// Whether two sources overlap and are not equal. None of them is rebuilt.
+fn sources_overlap(registers: &[Register], entries: &[Entry]) -> bool {
+    let sources: Vec<Place> = entries.iter().filter_map(|entry| entry.source).collect();
+    let unequal = |a, b| a != b && overlap(registers, a, b);
+    sources
+        .iter()
+        .any(|&a| sources.iter().any(|&b| unequal(a, b)))
+}
+
+/// What became of a random patch.
+#[derive(PartialEq)]
+enum Tried {
+    /// Chance gave no split, or one with a part that 21 refuses.
+    NotSplit,
+    /// Its parts did what it does.
+    Split,
+    /// It is refused by 21, and its parts did what it was to do.
+    Cured,
+}
+
+/// Splits a random patch, if chance gives a split, and compares.
+fn try_one(random: &mut Random, resolver: &mut Resolver) -> Tried {
     let registers = registers();
     let mut start = Machine {
         registers: registers.clone(),
@@ -253,17 +272,29 @@ fn try_one(random: &mut Random, resolver: &mut Resolver) -> usize {
         .filter(|unit| !dests.contains(unit) && random.one_in(2))
         .collect();
     let Some(parts) = split(random, &registers, &entries, &free) else {
-        return 0;
+        return Tried::NotSplit;
     };
 
     let whole = [Part {
         free: free.clone(),
         entries: entries.clone(),
     }];
+    let mut tried = Tried::Split;
     for parts in [&whole[..], &parts] {
-        let answer = resolver
-            .answer(&job(&registers, SLOTS, &banks, &rebuilt, parts))
-            .unwrap();
+        let answer = resolver.answer(&job(&registers, SLOTS, &banks, &rebuilt, parts));
+        let refused = parts
+            .iter()
+            .any(|part| sources_overlap(&registers, &part.entries));
+        if refused {
+            let refusal = answer.unwrap_err().refusal();
+            assert_eq!(refusal, Refusal::OverlappingSources);
+            tried = match tried {
+                Tried::Split => Tried::Cured,
+                _ => Tried::NotSplit,
+            };
+            continue;
+        }
+        let answer = answer.unwrap();
         assert_eq!(answer.patches().count(), parts.len());
         check_slots(&registers, &banks, &answer);
         let mut machine = start.clone();
@@ -280,15 +311,22 @@ fn try_one(random: &mut Random, resolver: &mut Resolver) -> usize {
             assert_eq!(machine.slots[&slot], start.slots[&slot]);
         }
     }
-    parts.len()
+    tried
 }
 
 #[test]
 fn parts_do_what_the_whole_does() {
     let mut random = Random(1);
     let mut resolver = Resolver::new();
-    let split = (0..60_000).filter(|_| try_one(&mut random, &mut resolver) > 0);
-    assert!(split.count() > 20_000);
+    let (mut split, mut cured) = (0, 0);
+    for _ in 0..60_000 {
+        match try_one(&mut random, &mut resolver) {
+            Tried::NotSplit => {}
+            Tried::Split => split += 1,
+            Tried::Cured => cured += 1,
+        }
+    }
+    assert!(split > 20_000 && cured > 2000, "{split} {cured}");
 }
 
 /// Registers 0 to 199 of one unit each, value r in register r.

@@ -15,7 +15,7 @@ extern crate stub;
 #[cfg_attr(not(stub), link(name = "parallel_moves_c", kind = "static"))]
 #[cfg_attr(not(stub), link(name = "calls_c", kind = "static"))]
 unsafe extern "C" {
-    #[link_name = "parallel_moves_open_1"]
+    #[link_name = "parallel_moves_open_2"]
     fn parallel_moves_open(
         bytes: *const u8,
         bytes_len: usize,
@@ -24,7 +24,7 @@ unsafe extern "C" {
         cache: *mut u16,
     ) -> u8;
 
-    #[link_name = "parallel_moves_resolve_1"]
+    #[link_name = "parallel_moves_resolve_2"]
     fn parallel_moves_resolve(
         target: *const u16,
         function: *const u16,
@@ -47,10 +47,10 @@ unsafe extern "C" {
         carried: *mut u16,
     ) -> usize;
 
-    #[link_name = "parallel_moves_made_1"]
+    #[link_name = "parallel_moves_made_2"]
     fn parallel_moves_made(cache: *const u16) -> u16;
 
-    #[link_name = "parallel_moves_answer_1"]
+    #[link_name = "parallel_moves_answer_2"]
     fn parallel_moves_answer(
         job: *const u8,
         job_len: usize,
@@ -72,7 +72,7 @@ unsafe extern "C" {
         carried: *mut u16,
     ) -> usize;
 
-    #[link_name = "parallel_moves_text_1"]
+    #[link_name = "parallel_moves_text_2"]
     fn parallel_moves_text(
         words: *const u64,
         words_len: usize,
@@ -150,7 +150,7 @@ impl Ours {
             cache: shorts(65_600),
             list: longs(MOST_EDITS),
             free_units: flags(512),
-            entries: shorts(1028),
+            entries: shorts(1540),
             writers: shorts(6657),
             available: flags(512),
             sources: flags(512),

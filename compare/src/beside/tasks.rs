@@ -124,7 +124,7 @@ pub fn generated(seed: u64, count: usize) -> Vec<Task> {
 /// Trials that are damaged.
 const TRIALS: [&str; 10] = [
     "swap-full",
-    "swap-with-unit-2-free",
+    "sources-equal",
     "slots-swapped",
     "rebuild-into-slot",
     "slot-of-the-stack-first",

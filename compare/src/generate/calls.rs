@@ -110,7 +110,7 @@ fn call(random: &mut Random, draft: &Draft, flavour: &Flavour, evicting: Option<
         }
         return call;
     }
-    match random.below(12) {
+    match random.below(13) {
         0 => free_unit_of_nothing(random, draft, &patch),
         1 | 2 => free_units_not_rising(random, draft, &patch),
         3 => number_of_nothing(random, draft, &patch),
@@ -126,6 +126,7 @@ fn call(random: &mut Random, draft: &Draft, flavour: &Flavour, evicting: Option<
                 8 => *random.pick(&[9, 10]),
                 9 => *random.pick(&[11, 15]),
                 10 => 12,
+                11 => 21,
                 _ => 13,
             };
             given(&refused::spoil_patch(random, draft, patch, number))

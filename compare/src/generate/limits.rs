@@ -8,11 +8,11 @@ use crate::draft::{
 use crate::random::Random;
 
 /// A number is drawn below this; some kinds of jobs have several numbers.
-const DRAWN: usize = 24;
+const DRAWN: usize = 26;
 
 /// A number of each kind.
-pub const KINDS: [usize; 20] = [
-    0, 1, 2, 3, 4, 5, 6, 7, 8, 9, 10, 11, 12, 13, 14, 15, 16, 18, 19, 20,
+pub const KINDS: [usize; 21] = [
+    0, 1, 2, 3, 4, 5, 6, 7, 8, 9, 10, 11, 12, 13, 14, 15, 16, 18, 19, 20, 22,
 ];
 
 /// A job at a limit, or one past it.
@@ -44,6 +44,7 @@ pub fn job_of(random: &mut Random, kind: usize, past: usize) -> Vec<u8> {
         16 | 17 => one_cycle(random),
         18 => free_units(random, past),
         19 => least(random),
+        20 | 21 => sources(random, past),
         _ => just_enough_slots(random, past),
     }
 }
@@ -418,6 +419,62 @@ fn free_units(random: &mut Random, past: usize) -> Vec<u8> {
         entry(Place::Slot(0), Place::Slot(1), 0),
         entry(Place::Slot(1), Place::Slot(random.below(2)), 0),
     ];
+    draft.job()
+}
+
+/// As many moves as there may be, from single registers and from a pair. The
+/// pair lies apart from the others, or on one of them; at times a single one
+/// is moved to two places.
+fn sources(random: &mut Random, past: usize) -> Vec<u8> {
+    let mut draft = plain(128, 5, 128);
+    let units = draft.target.units;
+    draft.target.units = units + 2;
+    draft.target.banks.push(Bank {
+        size_log2: 4,
+        top_level_class: 2,
+        stack_class: 3,
+    });
+    let pair = draft.target.registers.len();
+    let under = random.below(127);
+    let mut lying = vec![units, units + 1];
+    if past == 1 {
+        lying[random.below(2)] = under;
+    }
+    draft.target.registers.push(Register {
+        memory: false,
+        bank: 1,
+        units: lying,
+    });
+    for slots in [true, false] {
+        draft.target.classes.push(Class {
+            bank: 1,
+            slots,
+            members: vec![pair],
+            order: vec![pair],
+        });
+    }
+    draft.values.push(Value {
+        bank: 1,
+        cost: COST_NONE,
+        class: 0,
+    });
+    let entries = &mut draft.patches[0].entries;
+    for reg in 0..127 {
+        let source = match random.below(20) {
+            0 => under,
+            _ => reg,
+        };
+        let value = random.below(5);
+        entries.push(entry(Place::Register(source), Place::Slot(reg), value));
+    }
+    match random.below(3) {
+        0 => random.shuffle(entries),
+        1 => entries.reverse(),
+        _ => {}
+    }
+    let last = entry(Place::Register(pair), Place::Slot(127), 5);
+    let at = *random.pick(&[0, 64, 127, 127]);
+    entries.insert(at, last);
     draft.job()
 }
 

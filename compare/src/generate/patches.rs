@@ -15,6 +15,10 @@ pub struct PatchMaker<'a> {
     taken: Vec<bool>,
     /// Which units are some destination's.
     written: Vec<bool>,
+    /// The source, of those of kept moves, that each unit is of.
+    read: Vec<Option<Place>>,
+    /// Whether sources may overlap, for which 21 comes.
+    overlapping: bool,
     /// The values and the registers of each bank.
     values: Vec<Vec<usize>>,
     registers: Vec<Vec<usize>>,
@@ -33,6 +37,7 @@ impl<'a> PatchMaker<'a> {
         }
         let units = FIRST_SLOT_UNIT + draft.slots;
         let stray = *random.pick(&[0, 10, 40, 100]);
+        let overlapping = random.below(1000) < 2;
         PatchMaker {
             random,
             draft,
@@ -40,6 +45,8 @@ impl<'a> PatchMaker<'a> {
             patch: Patch::default(),
             taken: vec![false; units],
             written: vec![false; units],
+            read: vec![None; units],
+            overlapping,
             values,
             registers: (0..banks).map(|b| draft.target.registers_of(b)).collect(),
             homes: vec![None; draft.values.len()],
@@ -121,15 +128,33 @@ impl<'a> PatchMaker<'a> {
         None
     }
 
-    /// A place that some destination overlaps, if there is one.
-    fn written_place(&mut self, bank: usize) -> Place {
-        for _ in 0..8 {
+    /// Whether a place is a source already, or overlaps none.
+    fn may_be_source(&self, place: Place) -> bool {
+        let other = |unit: usize| self.read[unit].is_some_and(|source| source != place);
+        self.overlapping || !self.draft.target.any_unit(place, other)
+    }
+
+    /// A place for a source, if chance gives one.
+    fn source_place(&mut self, bank: usize) -> Place {
+        for _ in 0..6 {
             let place = self.any_place(bank);
-            if self.draft.target.any_unit(place, |unit| self.written[unit]) {
+            if self.may_be_source(place) {
                 return place;
             }
         }
         self.any_place(bank)
+    }
+
+    /// A place for a source that some destination overlaps, if there is one.
+    fn written_place(&mut self, bank: usize) -> Place {
+        for _ in 0..12 {
+            let place = self.any_place(bank);
+            let written = self.draft.target.any_unit(place, |unit| self.written[unit]);
+            if written && self.may_be_source(place) {
+                return place;
+            }
+        }
+        self.source_place(bank)
     }
 
     /// Adds an entry if it would be accepted.
@@ -146,14 +171,23 @@ impl<'a> PatchMaker<'a> {
         {
             return false;
         }
+        if let Some(place) = source {
+            if !self.draft.is_rebuild(&entry) {
+                if !self.may_be_source(place) {
+                    return false;
+                }
+                target.any_unit(place, |unit| {
+                    self.read[unit] = source;
+                    false
+                });
+            }
+            self.homes[value] = source;
+        }
         target.any_unit(dest, |unit| {
             self.taken[unit] = true;
             self.written[unit] = true;
             false
         });
-        if source.is_some() {
-            self.homes[value] = source;
-        }
         self.patch.entries.push(entry);
         true
     }
@@ -228,6 +262,7 @@ impl<'a> PatchMaker<'a> {
                 .iter()
                 .copied()
                 .filter(|&reg| reg != dest && target.registers[reg].bank == bank)
+                .filter(|&reg| self.may_be_source(Place::Register(reg)))
                 .collect();
             let value = match last_values[bank] {
                 Some(value) if self.random.chance(joining) => value,
@@ -281,19 +316,16 @@ impl<'a> PatchMaker<'a> {
         small_value: usize,
     ) {
         let small_bank = self.draft.values[small_value].bank;
-        if self.random.chance(40) {
-            // Each of those on the source is moved to the one before, and one
-            // on the destination to the last.
-            for pair in on_source.windows(2) {
+        let chain = if self.random.chance(60) {
+            self.chain(source, dest, on_source, small_bank)
+        } else {
+            None
+        };
+        if let Some(chain) = chain {
+            for (from, to) in chain {
                 let value = self.value_like(small_value);
-                self.add(Some(pair[1]), pair[0], value);
+                self.add(Some(from), to, value);
             }
-            let value_of_last = self.value_like(small_value);
-            self.add(
-                Some(on_dest[0]),
-                on_source[on_source.len() - 1],
-                value_of_last,
-            );
             self.add(Some(source), dest, value);
         } else {
             // Those on the destination are moved to the source, most of them
@@ -323,6 +355,51 @@ impl<'a> PatchMaker<'a> {
         }
     }
 
+    /// Moves onto registers that lie on `source`, each read from a register that
+    /// the next one writes, the last from one that lies on `dest`. All are then
+    /// open when the move from `source` to `dest` closes. Since sources don't
+    /// overlap, all but the first reach beyond `source`.
+    fn chain(
+        &mut self,
+        source: Place,
+        dest: Place,
+        on_source: &[Place],
+        bank: usize,
+    ) -> Option<Vec<(Place, Place)>> {
+        let target = &self.draft.target;
+        let of_source = |unit| target.any_unit(source, |other| other == unit);
+        let (inside, beyond): (Vec<Place>, Vec<Place>) = on_source
+            .iter()
+            .partition(|&&place| !target.any_unit(place, |unit| !of_source(unit)));
+        let mut written: Vec<Place> = inside.into_iter().take(1).collect();
+        written.extend(beyond);
+        if written.len() < 2 {
+            return None;
+        }
+        let mut read = vec![source];
+        let mut chain = Vec::new();
+        for (index, &to) in written.iter().enumerate() {
+            let next = written.get(index + 1).copied().unwrap_or(dest);
+            let fits = |from: Place| {
+                from != to
+                    && target.overlap(from, next)
+                    && self.may_be_source(from)
+                    && read
+                        .iter()
+                        .all(|&other| other == from || !target.overlap(other, from))
+            };
+            let sources: Vec<Place> = self.registers[bank]
+                .iter()
+                .map(|&reg| Place::Register(reg))
+                .filter(|&from| fits(from))
+                .collect();
+            let from = *self.random.pick_any(&sources)?;
+            read.push(from);
+            chain.push((from, to));
+        }
+        Some(chain)
+    }
+
     /// The open registers of a bank that overlap `under` and neither `other`
     /// nor each other.
     fn lying_on(&mut self, bank: usize, under: usize, other: usize) -> Vec<Place> {
@@ -330,6 +407,11 @@ impl<'a> PatchMaker<'a> {
         let (under, other) = (Place::Register(under), Place::Register(other));
         let mut all = self.registers[bank].clone();
         self.random.shuffle(&mut all);
+        if self.random.chance(50) {
+            // Those first that reach beyond it.
+            let of_it = |unit| target.any_unit(under, |other| other == unit);
+            all.sort_by_key(|&reg| !target.any_unit(Place::Register(reg), |unit| !of_it(unit)));
+        }
         let mut lying: Vec<Place> = Vec::new();
         for place in all.into_iter().map(Place::Register) {
             if target.overlap(place, under)
@@ -343,7 +425,8 @@ impl<'a> PatchMaker<'a> {
         lying
     }
 
-    /// Up to `room` open places of the value's bank that don't overlap.
+    /// Up to `room` open places of the value's bank, also for sources, that don't
+    /// overlap.
     fn apart(&mut self, value: usize, room: usize) -> Vec<Place> {
         let bank = self.draft.values[value].bank;
         let most = if self.random.chance(10) { room } else { 6 };
@@ -351,6 +434,7 @@ impl<'a> PatchMaker<'a> {
         let mut places: Vec<Place> = Vec::new();
         for _ in 0..wanted {
             if let Some(place) = self.open_place(bank)
+                && self.may_be_source(place)
                 && !places
                     .iter()
                     .any(|&other| self.draft.target.overlap(other, place))
@@ -383,7 +467,7 @@ impl<'a> PatchMaker<'a> {
         let source = match self.homes[value] {
             Some(home) if !self.random.chance(self.stray) => home,
             _ if self.random.chance(70) => self.written_place(bank),
-            _ => self.any_place(bank),
+            _ => self.source_place(bank),
         };
         if let Some(dest) = self.open_place(bank) {
             self.add(Some(source), dest, value);

@@ -50,6 +50,8 @@ enum Layout {
     Row,
     /// The same, but each bank from the start, as in the shipped target.
     Aligned,
+    /// The same, but each from the middle of the one before.
+    Stepped,
     /// Anyhow.
     Loose,
 }
@@ -59,10 +61,15 @@ impl Layout {
     fn choose(random: &mut Random, percent: usize) -> Layout {
         if !random.chance(percent) {
             Layout::Row
-        } else if random.chance(55) {
-            Layout::Aligned
         } else {
-            Layout::Loose
+            *random.pick(&[
+                Layout::Aligned,
+                Layout::Aligned,
+                Layout::Aligned,
+                Layout::Stepped,
+                Layout::Loose,
+                Layout::Loose,
+            ])
         }
     }
 }
@@ -107,7 +114,7 @@ pub fn random(random: &mut Random, flavour: &Flavour) -> Target {
     let mut next = [0, ordinary];
     let mut last_bank = 0;
     for register in &mut registers {
-        if layout == Layout::Aligned && register.bank != last_bank {
+        if matches!(layout, Layout::Aligned | Layout::Stepped) && register.bank != last_bank {
             next = [0, ordinary];
             last_bank = register.bank;
         }
@@ -130,8 +137,13 @@ pub fn random(random: &mut Random, flavour: &Flavour) -> Target {
             if *start + width > first + count {
                 *start = first;
             }
-            *start += width;
-            (*start - width..*start).collect()
+            let from = *start;
+            *start += if layout == Layout::Stepped {
+                width.div_ceil(2)
+            } else {
+                width
+            };
+            (from..from + width).collect()
         };
         if random.chance(15) {
             random.shuffle(&mut register.units);
