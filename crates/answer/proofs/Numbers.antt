@@ -1,13 +1,13 @@
 -- Every condition of a job has one of 01's numbers, so its refusal has.
-use Prim.Native.Nat.{ℕ, zero, suc, _+_, _<_}
+use Prim.Native.Nat.{ℕ, zero, suc, _+_, _<_, _≤_}
 use mathlib.Core.Path.{_≡_, refl, subst}
 use mathlib.Core.Bool.{Bool, true, false}
 use mathlib.Core.List.{List, [], _∷_, _++_}
 use native.Mathlib.Omega.{arith}
-use borrow.Author.Tests.{leb-true}
+use borrow.Author.Tests.{leb-true, eqb-true}
 use lib.Dec.{eqb, leb}
 use lib.ListN.{length, drop}
-use Rattle.entity.specs.Logic.{pick, and}
+use Rattle.entity.specs.Logic.{pick, and, or}
 use Rattle.entity.proofs.Laws.{and-true}
 use Rattle.reginfo.specs.RegInfo.{RegInfo}
 use Rattle.reginfo.specs.Refused.{Condition}
@@ -25,11 +25,11 @@ use Rattle.job_patch.specs.Patches.{rising, place, entry, patch}
 use Rattle.job.specs.Job.{opening}
 use Rattle.job.specs.Conditions.{afterGot, inNumber, afterNumber, inTested, afterTested, inTimes, inDistinct, inBank, inReg, inClass, inClasses, inTarget, ofTarget, inRebuilt, inValue, inFunction, inRising, afterResolved, inPlace, inEntry, inEntries, inPatch, ofCall, inPatches, inOpening, jobConditions}
 use Rattle.job.proofs.Conditions.{refusals}
-use Rattle.answer.specs.Words.{Of01, Numbered}
+use Rattle.answer.specs.Words.{OfTable, Numbered}
 
 abbrev Numbers : List Condition → Type 0
 Numbers [] = Unit {0}
-Numbers (c ∷ l) = Of01 (c .number) × Numbers l
+Numbers (c ∷ l) = OfTable (c .number) × Numbers l
 
 -- ---- one part after another
 both : (a b : List Condition) → Numbers a → Numbers b → Numbers (a ++ b)
@@ -43,8 +43,13 @@ after (refused k) next h = tt
 part : {A : Type 0} (a : List Condition) (x : Read A) (next : A → List ℕ → List Condition) → Numbers a → ((a : A) (r : List ℕ) → Numbers (next a r)) → Numbers (a ++ afterGot x next)
 part a x next p h = both a (afterGot x next) p (after x next h)
 
-of01 : (n : ℕ) → and (leb 1 n) (leb n 17) ≡ true → Of01 n
-of01 n h = let w = and-true (leb 1 n) (leb n 17) h in (leb-true 1 n (w .0), leb-true n 17 (w .1))
+-- the least and the greatest of them
+pub table-bounds : (n : ℕ) → OfTable n → (1 ≤ n) × (n ≤ 21)
+table-bounds n h = go (and (leb 1 n) (leb n 17)) refl h
+  where
+    go : (b : Bool) → and (leb 1 n) (leb n 17) ≡ b → or b (eqb n 21) ≡ true → (1 ≤ n) × (n ≤ 21)
+    go true e q = let w = and-true (leb 1 n) (leb n 17) e in (leb-true 1 n (w .0), omega (arith, leb-true n 17 (w .1)))
+    go false e q = let z : n ≡ 21 = eqb-true n 21 q in (omega arith, omega arith)
 
 either : (b : Bool) (x y : List Condition) → Numbers x → Numbers y → Numbers (pick b x y)
 either true x y p q = p
@@ -52,14 +57,14 @@ either false x y p q = q
 
 in-number : (l : List ℕ) → Numbers (inNumber l)
 unfolding inNumber
-in-number l = (of01 1 refl, tt)
+in-number l = (refl, tt)
 
 after-number : (l : List ℕ) (next : ℕ → List ℕ → List Condition) → ((n : ℕ) (r : List ℕ) → Numbers (next n r)) → Numbers (afterNumber l next)
 after-number l next h = part (inNumber l) (number l) next (in-number l) h
 
 in-tested : (ok : ℕ → Bool) (l : List ℕ) → Numbers (inTested ok l)
 unfolding inTested
-in-tested ok l = after-number l _ (λ n r. (of01 2 refl, tt))
+in-tested ok l = after-number l _ (λ n r. (refl, tt))
 
 after-tested : (ok : ℕ → Bool) (l : List ℕ) (next : ℕ → List ℕ → List Condition) → ((n : ℕ) (r : List ℕ) → Numbers (next n r)) → Numbers (afterTested ok l next)
 after-tested ok l next h = part (inTested ok l) (tested ok l) next (in-tested ok l) h
@@ -72,7 +77,7 @@ in-times (suc n) d of h l = part (of l) (d l) _ (h l) (λ x r. in-times n d of h
 in-distinct : (n limit : ℕ) (before l : List ℕ) → Numbers (inDistinct n limit before l)
 unfolding inDistinct
 in-distinct zero limit before l = tt
-in-distinct (suc n) limit before l = after-tested _ l _ (λ x r. (of01 3 refl, in-distinct n limit (x ∷ before) r))
+in-distinct (suc n) limit before l = after-tested _ l _ (λ x r. (refl, in-distinct n limit (x ∷ before) r))
 
 -- ---- the target
 in-bank : (l : List ℕ) → Numbers (inBank l)
@@ -112,12 +117,12 @@ in-target l =
 
 of-target : (t : RegInfo) → Numbers (ofTarget t)
 unfolding ofTarget
-of-target t = (of01 4 refl, (of01 5 refl, (of01 6 refl, (of01 7 refl, tt))))
+of-target t = (refl, (refl, (refl, (refl, tt))))
 
 -- ---- the function
 in-rebuilt : (t : RegInfo) (b : ℕ) (l : List ℕ) → Numbers (inRebuilt t b l)
 unfolding inRebuilt
-in-rebuilt t b l = after-tested _ l _ (λ c r. (of01 9 refl, tt))
+in-rebuilt t b l = after-tested _ l _ (λ c r. (refl, tt))
 
 in-value : (t : RegInfo) (l : List ℕ) → Numbers (inValue t l)
 unfolding inValue
@@ -135,7 +140,7 @@ in-function t l =
 in-rising : (n limit least : ℕ) (l : List ℕ) → Numbers (inRising n limit least l)
 unfolding inRising
 in-rising zero limit least l = tt
-in-rising (suc n) limit least l = after-tested _ l _ (λ u r. (of01 3 refl, in-rising n limit (u + 1) r))
+in-rising (suc n) limit least l = after-tested _ l _ (λ u r. (refl, in-rising n limit (u + 1) r))
 
 after-resolved : (a : Answer) (next : Cache → List Condition) → ((c : Cache) → Numbers (next c)) → Numbers (afterResolved a next)
 after-resolved (rules.refused k) next h = tt
@@ -144,7 +149,7 @@ after-resolved (rules.resolved es c) next h = h c
 module _ (t : RegInfo) (f : Function) where
   in-place : (l : List ℕ) → Numbers (inPlace t f l)
   unfolding inPlace
-  in-place l = after-number l _ (λ c r. (of01 2 refl, tt))
+  in-place l = after-number l _ (λ c r. (refl, tt))
 
   after-place : (l : List ℕ) (next : _ → List ℕ → List Condition) → ((p : _) (r : List ℕ) → Numbers (next p r)) → Numbers (inPlace t f l ++ afterGot (place t f l) next)
   after-place l next h = part (inPlace t f l) (place t f l) next (in-place l) h
@@ -159,14 +164,14 @@ module _ (t : RegInfo) (f : Function) where
 
   others : (a : Sorted) (e : Entry) (l : List Condition) → Numbers l → Numbers (drop 2 (entryConditions t f a e) ++ l)
   unfolding entryConditions
-  others a (move s d v) l p = (of01 9 refl, (of01 10 refl, (of01 12 refl, p)))
-  others a (remat d v) l p = (of01 9 refl, (of01 11 refl, (of01 12 refl, p)))
+  others a (move s d v) l p = (refl, (refl, (refl, (refl, p))))
+  others a (remat d v) l p = (refl, (refl, (refl, p)))
 
   in-entries : (n : ℕ) (a : Sorted) (l : List ℕ) → Numbers (inEntries t f n a l)
   unfolding inEntries
   in-entries zero a l = tt
   in-entries (suc n) a l =
-      (of01 15 refl, part (inEntry t f l) (entry t f l) _ (in-entry l) (λ e r. others a e (inEntries t f n (add t f e a) r) (in-entries n (add t f e a) r)))
+      (refl, part (inEntry t f l) (entry t f l) _ (in-entry l) (λ e r. others a e (inEntries t f n (add t f e a) r) (in-entries n (add t f e a) r)))
 
   in-patch : (l : List ℕ) → Numbers (inPatch t f l)
   unfolding inPatch
@@ -178,11 +183,11 @@ module _ (t : RegInfo) (f : Function) where
 
   of-call : (p : Patch) (c : Cache) → Numbers (ofCall t f p c)
   unfolding ofCall patchConditions
-  of-call p c = (of01 13 refl, (of01 14 refl, (of01 16 refl, (of01 17 refl, tt))))
+  of-call p c = (refl, (refl, (refl, (refl, tt))))
 
   in-patches : (n : ℕ) (c : Cache) (l : List ℕ) → Numbers (inPatches t f n c l)
   unfolding inPatches
-  in-patches zero c l = (of01 8 refl, tt)
+  in-patches zero c l = (refl, tt)
   in-patches (suc n) c l =
       part (inPatch t f l) (patch t f l) _ (in-patch l)
       (λ p r. both (ofCall t f p c) _ (of-call p c) (after-resolved (resolve t f p 1024 c) _ (λ c′. in-patches n c′ r)))
@@ -191,7 +196,7 @@ module _ (t : RegInfo) (f : Function) where
 in-opening : (l : List ℕ) → Numbers (inOpening l)
 unfolding inOpening
 in-opening l = (
-  of01 2 refl,
+  refl,
   part (inTarget l) (target l) _ (in-target l)
       (λ t r. both (ofTarget t) _ (of-target t)
       (part (inFunction t r) (function t r) _ (in-function t r) (λ f q. in-tested _ q))),
@@ -201,7 +206,7 @@ in-job : (l : List ℕ) → Numbers (jobConditions l)
 unfolding jobConditions
 in-job l = part (inOpening l) (opening l) _ (in-opening l) (λ h r. in-patches (h .target) (h .function) (h .patches) emptyCache r)
 
-at : (l : List Condition) (i : ℕ) → Numbers l → i < length l → Of01 (conditionAt l i .number)
+at : (l : List Condition) (i : ℕ) → Numbers l → i < length l → OfTable (conditionAt l i .number)
 at [] i p h = absurd (omega arith)
 at (c ∷ l) zero p h = p .0
 at (c ∷ l) (suc i) p h = at l i (p .1) (omega arith)
@@ -209,4 +214,4 @@ at (c ∷ l) (suc i) p h = at l i (p .1) (omega arith)
 pub numbered : Numbered
 numbered l n e =
     let g = refusals l .given n .0 e in
-    subst Of01 (g .number) (at (jobConditions l) (g .at) (in-job l) (g .is))
+    subst OfTable (g .number) (at (jobConditions l) (g .at) (in-job l) (g .is))

@@ -23,8 +23,8 @@ use Rattle.job_patch.specs.Patches.{patch}
 use Rattle.job.specs.Job.{Header, Done, Answers, afterRead, afterCall, afterTarget, header, opening, patches, job}
 use Rattle.job.proofs.WasRead.{unless-got, given-got}
 use Rattle.answer_text.specs.Lines.{refusalText}
-use Rattle.answer.specs.Words.{numberOf, doneText, Of01, SomePrinted}
-use Rattle.answer.proofs.Numbers.{numbered}
+use Rattle.answer.specs.Words.{numberOf, doneText, OfTable, SomePrinted}
+use Rattle.answer.proofs.Numbers.{table-bounds, numbered}
 
 -- without a refusal a patch was resolved
 abbrev Some : Answers → Type 0
@@ -68,9 +68,9 @@ refusal-line : (n : ℕ) → 1 ≤ n → 0 < length (refusalText n)
 refusal-line zero h = absurd (omega arith)
 refusal-line (suc n) h = omega arith
 
-some-line : (d : List Done) (o : Option ℕ) → (o ≡ none → 0 < length d) → ((n : ℕ) → o ≡ some n → Of01 n) → 0 < length (doneText 1 d ++ refusalText (numberOf o))
+some-line : (d : List Done) (o : Option ℕ) → (o ≡ none → 0 < length d) → ((n : ℕ) → o ≡ some n → OfTable n) → 0 < length (doneText 1 d ++ refusalText (numberOf o))
 some-line d none s h = rw (length-append (doneText 1 d) (refusalText 0)) (omega (arith, done-line d (s refl)))
-some-line d (some n) s h = rw (length-append (doneText 1 d) (refusalText n)) (omega (arith, refusal-line n (h n refl .0)))
+some-line d (some n) s h = rw (length-append (doneText 1 d) (refusalText n)) (omega (arith, refusal-line n (table-bounds n (h n refl) .0)))
 
 pub some-printed : SomePrinted
 some-printed l = some-line (job l .done) (job l .refusal) (job-some l) (numbered l)

@@ -1,9 +1,12 @@
 -- A job's answers as words, and as text.
 use Prim.Native.Nat.{ℕ, _+_, _<_, _≤_}
 use mathlib.Core.Path.{_≡_}
+use mathlib.Core.Bool.{true}
 use mathlib.Core.List.{List, [], _∷_, _++_}
 use mathlib.Core.Option.{Option, none, some}
+use lib.Dec.{eqb, leb}
 use lib.ListN.{length}
+use Rattle.entity.specs.Logic.{and, or}
 use Rattle.edit.specs.Word.{AllInRange}
 use Rattle.print.specs.Text.{patchText}
 use Rattle.answer_text.specs.Heads.{patchWords}
@@ -43,13 +46,13 @@ AllPacked (d ∷ l) = Packed d × AllPacked l
 abbrev pub JobPrinted : Type 0
 JobPrinted = (a : Answers) → AllPacked (a .done) → answerText (wordsOf (a .done)) (numberOf (a .refusal)) ≡ jobText a
 
--- 01, Refused jobs: the numbers of the table
-abbrev pub Of01 : ℕ → Type 0
-Of01 n = (1 ≤ n) × (n ≤ 17)
+-- 01, Refused jobs: the numbers of the table; 02 h: 21
+abbrev pub OfTable : ℕ → Type 0
+OfTable n = or (and (leb 1 n) (leb n 17)) (eqb n 21) ≡ true
 
 -- a job is refused by one of them
 abbrev pub Numbered : Type 0
-Numbered = (l : List ℕ) (n : ℕ) → job l .refusal ≡ some n → Of01 n
+Numbered = (l : List ℕ) (n : ℕ) → job l .refusal ≡ some n → OfTable n
 
 -- every job has a line: that of a patch, or of its refusal
 abbrev pub SomePrinted : Type 0

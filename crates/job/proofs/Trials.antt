@@ -38,6 +38,7 @@ trials = record {
   self-move = refl;
   not-rebuildable = refl;
   same-destination = refl;
+  overlapping-sources = refl;
   slot-from-N = refl;
   not-rising = refl;
   entries-128 = refl;

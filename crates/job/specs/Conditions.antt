@@ -1,5 +1,6 @@
 -- 01, Refused jobs, of a job's bytes: "1, 2, 3 as read, the total of order entries with the count that raises it; 4 to 7 rising after the
--- target; each entry 15, 2, 9, 10, 11, 12 (9 for a rebuild class when the function is read); then 13, 14, 16, 17; 8 last."
+-- target; each entry 15, 2, 9, 10, 11, 12 (9 for a rebuild class when the function is read); then 13, 14, 16, 17; 8 last." 02 h: 21 "tested
+-- straight after 12".
 -- For each part of a job, the conditions of reading it, in their order. What stands behind a part has conditions where the part was read.
 use Prim.Native.Nat.{ℕ, zero, suc, _+_, _<_, _≤_}
 use mathlib.Core.Path.{_≡_}
@@ -139,7 +140,7 @@ module _ (t : RegInfo) (f : Function) where
       (inPlace r ++ afterGot (place t f r) (λ s q. inPlace q ++ afterGot (place t f q) (λ d p. inTested (λ x. ltb x (numValues f)) p)))
       (inPlace r ++ afterGot (place t f r) (λ d q. inTested (λ x. ltb x (numValues f)) q)))
 
-  -- "each entry 15, 2, 9, 10, 11, 12": 15 "before its bytes are read", 1 and 2 as they are, then the others of its conditions
+  -- "each entry 15, 2, 9, 10, 11, 12", and 21: 15 "before its bytes are read", 1 and 2 as they are, then the others of its conditions
   unfoldable pub inEntries : ℕ → Sorted → List ℕ → List Condition
   inEntries zero a l = []
   inEntries (suc n) a l =

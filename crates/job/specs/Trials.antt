@@ -32,7 +32,7 @@ abbrev pub aClass : List ℕ
 aClass = 1 ∷ 2 ∷ 1 ∷ 2 ∷ 1 ∷ 1 ∷ 2 ∷ 3 ∷ 1 ∷ 2 ∷ 3 ∷ 1 ∷ 2 ∷ 3 ∷ 1 ∷ 2 ∷ 1 ∷ 2 ∷ 3 ∷ 1 ∷ 2 ∷ 3 ∷ 1 ∷ 2 ∷ 3 ∷ []
 
 abbrev pub anEntry : List ℕ
-anEntry = 15 ∷ 1 ∷ 2 ∷ 1 ∷ 2 ∷ 1 ∷ 2 ∷ 1 ∷ 2 ∷ 9 ∷ 10 ∷ 12 ∷ []
+anEntry = 15 ∷ 1 ∷ 2 ∷ 1 ∷ 2 ∷ 1 ∷ 2 ∷ 1 ∷ 2 ∷ 9 ∷ 10 ∷ 12 ∷ 21 ∷ []
 
 -- n moves of value 0 from r0 to r1
 unfoldable pub sameMoves : ℕ → List ℕ
@@ -89,6 +89,11 @@ pub record Trials : Type 0 where
   pub self-move : job (jobWith 1 (1 ∷ 1 ∷ 2 ∷ 0 ∷ 1 ∷ 3 ∷ 0 ∷ 0 ∷ 3 ∷ 3 ∷ 0 ∷ [])) .refusal ≡ some 10
   pub not-rebuildable : job (jobWith 1 (0 ∷ 1 ∷ 1 ∷ 3 ∷ 0 ∷ [])) .refusal ≡ some 11
   pub same-destination : job (jobWith 1 (0 ∷ 2 ∷ 0 ∷ 1 ∷ 3 ∷ 0 ∷ 0 ∷ 5 ∷ 3 ∷ 1 ∷ [])) .refusal ≡ some 12
+  -- 02 h: units 0 and 1 are r0 and r1, and the pair r3 has both
+  pub overlapping-sources :
+      job (4 ∷ 2 ∷ 2 ∷ 0 ∷ 1 ∷ 3 ∷ 2 ∷ 3 ∷ 5 ∷ 0 ∷ 0 ∷ 1 ∷ 0 ∷ 0 ∷ 0 ∷ 1 ∷ 1 ∷ 0 ∷ 0 ∷ 1 ∷ 2 ∷ 0 ∷ 1 ∷ 2 ∷ 0 ∷ 1 ∷ 0 ∷ 1 ∷ 2 ∷ 2 ∷ 3 ∷ 4 ∷ 0 ∷ 1 ∷ 3 ∷ 0 ∷ 1 ∷ 2 ∷ 3 ∷ 0 ∷ 1 ∷ 2 ∷ 0 ∷ 0 ∷ 3
+      ∷ 0 ∷ 1 ∷ 2 ∷ 3 ∷ 0 ∷ 1 ∷ 2 ∷ 1 ∷ 1 ∷ 2 ∷ 3 ∷ 4 ∷ 2 ∷ 3 ∷ 4 ∷ 1 ∷ 0 ∷ 2 ∷ 3 ∷ 4 ∷ 2 ∷ 3 ∷ 4 ∷ 2 ∷ 0 ∷ 1 ∷ 0 ∷ 0 ∷ 1 ∷ 0 ∷ 1 ∷ 0 ∷ 2 ∷ 0 ∷ 7 ∷ 9 ∷ 1 ∷ 0 ∷ 1 ∷ 3 ∷ 0 ∷ []) .refusal
+      ≡ some 21
   pub slot-from-N : job (jobWith 1 (0 ∷ 1 ∷ 0 ∷ 0 ∷ 1 ∷ 0 ∷ [])) .refusal ≡ some 2
   pub not-rising : job (jobWith 1 (2 ∷ 2 ∷ 2 ∷ swapEntries)) .refusal ≡ some 3
   -- "that same move 128 times taken, a 129th 15": also where its bytes are not there

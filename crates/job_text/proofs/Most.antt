@@ -21,13 +21,13 @@ use Rattle.job.specs.Job.{Header, Done, opening, job}
 use Rattle.job.specs.Claim.{DoneAt, OneByOne, Opened}
 use Rattle.job.proofs.Claimed.{every-job}
 use Rattle.answer.specs.Words.{wordsOf, numberOf, doneText, AllPacked, Packed}
-use Rattle.answer.proofs.Numbers.{numbered}
+use Rattle.answer.proofs.Numbers.{table-bounds, numbered}
 use Rattle.answer.proofs.Bytes.{leaves-got, patch-leaves}
 use Rattle.answer.proofs.MostWords.{opens}
 use Rattle.job_text.specs.Most.{WordsFit, TextFits}
 
 -- ---- lines
-refusal-short : (k : ℕ) → k ≤ 17 → length (refusalText k) ≤ 36
+refusal-short : (k : ℕ) → k ≤ 21 → length (refusalText k) ≤ 36
 refusal-short zero h = omega arith
 refusal-short (suc k) h = omega (arith, refused-short (suc k) (omega arith))
 
@@ -78,7 +78,7 @@ module _ (t : RegInfo) (f : Function) where
 -- ---- the whole job
 refusal-fits : (l : List ℕ) (o : Option ℕ) → job l .refusal ≡ o → length (refusalText (numberOf o)) ≤ 36
 refusal-fits l none e = omega arith
-refusal-fits l (some k) e = refusal-short k (numbered l k e .1)
+refusal-fits l (some k) e = refusal-short k (table-bounds k (numbered l k e) .1)
 
 module _ (l : List ℕ) where
   abbrev done : List Done

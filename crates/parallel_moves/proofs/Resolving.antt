@@ -60,6 +60,7 @@ same-sorted t f e w known ok =
       remats = λ i h. same-ok t f true _ (ok .sorted .remats i h);
       rematsWithScratch = λ i h. same-ok t f false _ (ok .sorted .rematsWithScratch i h);
       apart = ok .sorted .apart;
+      sources = ok .sorted .sources;
     }
 
 module _ (t f cache e w list : List ℕ) (known : Checked t f) (ok : EntriesOk t f e w) (cached : CacheOk f cache) (free : List Bool) where

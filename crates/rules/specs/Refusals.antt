@@ -19,7 +19,7 @@ ranOut none = true
 ranOut (some k) = false
 
 module _ (t : RegInfo) (f : Function) where
-  -- "each entry 15, 2, 9, 10, 11, 12", over what the entries before it became
+  -- "each entry 15, 2, 9, 10, 11, 12", and 21, over what the entries before it became
   unfoldable pub entriesConditions : List Entry → Sorted → List Condition
   entriesConditions [] a = []
   entriesConditions (e ∷ l) a = entryConditions t f a e ++ entriesConditions l (add t f e a)

@@ -88,9 +88,9 @@ module _ (t : RegInfo) (f : Function) (ms : List KeptMove) where
   unfolding cycleMoveSources
   cycle-sources u = any-same (λ (m : KeptMove). has u (unitsOf t (m .source))) (λ (m : KeptMove). has u (unitsOfReg t f (m .source))) ms (λ m. ap (has u) (sym (units-same (m .source))))
 
-kept-writer : (t : RegInfo) (f : Function) (a : Sorted) (w : List ℕ) → Tracked t f a w → (u : ℕ) → keptWriter w u ≡ writerFrom t f (a .moves) 0 (a .moves) u
+kept-writer : (t : RegInfo) (f : Function) (a : Sorted) (e w : List ℕ) → Tracked t f a e w → (u : ℕ) → keptWriter w u ≡ writerFrom t f (a .moves) 0 (a .moves) u
 unfolding writerOf
-kept-writer t f a w ok u = ap (λ (g : ℕ → Option ℕ). keptOnly (g u)) (ok .map) ∙ kept-from t f (a .moves) 0 (a .moves) u _ (omega (arith, ok .few, ok .most))
+kept-writer t f a e w ok u = ap (λ (g : ℕ → Option ℕ). keptOnly (g u)) (ok .map) ∙ kept-from t f (a .moves) 0 (a .moves) u _ (omega (arith, ok .few, ok .most))
 
 -- a table of entries of a checked target and function, with its map
 pub ready : (t f e w : List ℕ) → Checked t f → EntriesOk t f e w → Ready (regInfoOf t) e w
@@ -107,7 +107,7 @@ ready t f e w known ok =
             dests = λ i h. writable t f known _ (ok .sorted .moves i h .dest-named);
           };
       linked = ok .linked;
-      writer = λ g u. kept-writer (regInfoOf t) (functionOf f) (sortedOf e) w ok u ∙ writer-same (regInfoOf t) (functionOf f) (sortedOf e .moves) g 0 (sortedOf e .moves) u;
+      writer = λ g u. kept-writer (regInfoOf t) (functionOf f) (sortedOf e) e w ok u ∙ writer-same (regInfoOf t) (functionOf f) (sortedOf e .moves) g 0 (sortedOf e .moves) u;
     }
 
 pub few-remats : (t f e w : List ℕ) → EntriesOk t f e w → (length (rematsOf e) ≤ 128) × (length (rematsWithScratchOf e) ≤ 128)
