@@ -104,7 +104,7 @@ impl Memory {
             words: vec![0; MOST_WORDS],
             list: vec![0; 1024],
             free_units: vec![0; 512],
-            entries: vec![0xa5a5; 1540],
+            entries: vec![0xa5a5; 1541],
             writers: vec![0xa5a5; 6657],
             available: vec![0; 512],
             sources: vec![0; 512],

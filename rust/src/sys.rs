@@ -14,7 +14,7 @@ type SlotCache = [u16; 65_600];
 /// A set of register units.
 type RegUnitSet = [bool; 512];
 /// A patch under construction.
-type Entries = [u16; 1540];
+type Entries = [u16; 1541];
 /// The writer of each unit.
 type SparseMap = [u16; 6657];
 /// Edits in the making, backwards.

@@ -150,7 +150,7 @@ impl Ours {
             cache: shorts(65_600),
             list: longs(MOST_EDITS),
             free_units: flags(512),
-            entries: shorts(1540),
+            entries: shorts(1541),
             writers: shorts(6657),
             available: flags(512),
             sources: flags(512),

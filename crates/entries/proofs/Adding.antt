@@ -285,11 +285,10 @@ module _ (t f e w : List ℕ) (ok : Checked t f) (kept : EntriesOk t f e w) wher
       unfolding add
       added-kept h g e′ w′ done =
           let is : add T F (move (placeAt s) (placeAt d) v) a ≡ withMove (keptMove s d v) a = rw (q, same-there s d v dest-writable, new h) in
-          let reads = writable t f ok (placeAt s) (p .source-named) in
           taken (move (placeAt s) (placeAt d) v) e′ w′ (kept-conditions ∙ rw (h, new h, g)) (done .sorted ∙ sym is)
           (λ o. rw is
               (tracked-move T F a (placeAt d) (overlaps-is (placeAt d) ∙ h) e e′ w w′ kept (p .less) (dest-writable .few) (placeAt s) v (done .noted) (rw is at o)
-              (indexed-kept T F e w e′ w′ s d v (reads .known) (reads .few) (kept .indexed) done (rw is at o))))
+              (indexed-kept T F e w e′ w′ s d v (omega (arith, kept .few, p .less)) (kept .indexed) done (rw is at o))))
 
     -- a move that is rebuilt
     pub added-instead : (b : Bool) → becomesRemat T F (placeAt s) (placeAt d) v ≡ true → needsScratch T F (placeAt d) v ≡ b → (e′ w′ : List ℕ) (r : Option ℕ) → RebuiltAs e w e′ w′ (placeUnits T (placeAt d)) b (rebuiltAs d v) r

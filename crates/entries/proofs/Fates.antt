@@ -8,13 +8,13 @@ use native.Mathlib.Omega.{arith}
 use lib.Dec.{ltb}
 use lib.ListN.{getD}
 use borrow.Author.Tests.{ltb-true}
-use Rattle.entity.specs.Logic.{pick, and, or, no, has}
+use Rattle.entity.specs.Logic.{pick, and, or, no, has, twice}
 use Rattle.entity.specs.Place.{Place, reg, slot, names, placeAt, readPlace, codeOf}
 use Rattle.entity.proofs.Laws.{and-true, has-where, code-there}
 use Rattle.reginfo.specs.RegInfo.{RegInfo, numRegs, numClasses, isMemory, inClass}
 use Rattle.reginfo.specs.Known.{KnownMembers}
 use Rattle.reginfo.specs.Table.{regInfoOf}
-use Rattle.reginfo.proofs.Accepted.{regs-fit, width-fits, unit-low, known-place, known-members}
+use Rattle.reginfo.proofs.Accepted.{regs-fit, width-fits, unit-low, units-once, known-place, known-members}
 use Rattle.function.specs.Function.{Function, numValues, rematCost}
 use Rattle.function.specs.Known.{KnownValue}
 use Rattle.function.specs.Table.{functionOf}
@@ -49,7 +49,7 @@ module _ (t f : List ℕ) (ok : Checked t f) where
 
   -- the units of a named place can be looked up
   pub writable : (p : Place) → namesPlace T F p ≡ true → Writable T p
-  unfolding has
+  unfolding has twice
   writable (reg r) h =
       let l : r < numRegs T = ltb-true r (numRegs T) h in
       record {
@@ -57,6 +57,7 @@ module _ (t f : List ℕ) (ok : Checked t f) where
         some = omega (arith, width-fits T (ok .target) r l .0);
         few = width-fits T (ok .target) r l .1;
         low = λ u e. omega (arith, unit-low T (ok .target) r l u e);
+        once = units-once T (ok .target) r l;
       }
   writable (slot s) h =
       let l : s < F .slots = ltb-true s (F .slots) h in
@@ -65,6 +66,7 @@ module _ (t f : List ℕ) (ok : Checked t f) where
         some = omega arith;
         few = omega arith;
         low = λ u e. (let k = has-where u ((512 + s) ∷ []) e in only (k .0) (k .1) u (k .2) (omega (arith, slots-fit)));
+        once = refl;
       }
     where
       only : (k : ℕ) → k < 1 → (u : ℕ) → getD ((512 + s) ∷ []) k 0 ≡ u → s < 4096 → u < 4608

@@ -22,8 +22,8 @@ use Rattle.rules.specs.Order.{KeptMove, noMove}
 use Rattle.rules.specs.Patch.{Sorted, overlapsSource}
 use Rattle.rules.specs.Sorted.{SortedOk}
 use Rattle.rules.proofs.Accepted.{same-self, same-is}
-use Rattle.entries.specs.Table.{moveAt, sortedOf, countedOne, storedMove, indexed, sourceIndexed, keptMove, withMove}
-use Rattle.entries.specs.Known.{Noted, clashesAt, Tells, Points, Indexed, Sourced, SameIndex, EntriesOk}
+use Rattle.entries.specs.Table.{moveAt, sortedOf, stampOf, countedOne, storedMove, indexed, sourceIndexed, keptMove, withMove}
+use Rattle.entries.specs.Known.{Noted, clashesAt, Points, Indexed, Sourced, SameIndex, EntriesOk}
 use Rattle.entries.specs.Answers.{KeptAs}
 use Rattle.entries.proofs.Lists.{both-ways, any-true, any-where, any-same, any-swap, meets-any}
 use Rattle.entries.proofs.Table.{kept-count, remats-count, scratch-count, kept-is, low-same, counted-index, move-index, kept-done}
@@ -57,67 +57,57 @@ end-is [] x d = refl
 end-is (y ∷ l) x d = end-is l x d
 
 -- ---- the cells written
-pub indexed-length : (e us : List ℕ) (m j : ℕ) → length (indexed e us m j) ≡ length e
+pub indexed-low : (e us : List ℕ) (x y : ℕ) → y < 1028 → getD (indexed e us x) y 0 ≡ getD e y 0
 unfolding indexed
-indexed-length e [] m j = refl
-indexed-length e (u ∷ us) m j = indexed-length (set e (1028 + u) (m * 8 + j)) us m (j + 1) ∙ length-set e (1028 + u) (m * 8 + j)
+indexed-low e [] x y h = refl
+indexed-low e (u ∷ us) x y h = indexed-low (set e (1028 + u) x) us x y h ∙ getD-set-other e (1028 + u) y x 0 (λ q. omega arith)
 
-pub indexed-low : (e us : List ℕ) (m j x : ℕ) → x < 1028 → getD (indexed e us m j) x 0 ≡ getD e x 0
-unfolding indexed
-indexed-low e [] m j x h = refl
-indexed-low e (u ∷ us) m j x h = indexed-low (set e (1028 + u) (m * 8 + j)) us m (j + 1) x h ∙ getD-set-other e (1028 + u) x (m * 8 + j) 0 (λ q. omega arith)
-
-indexed-other : (e us : List ℕ) (m j u : ℕ) → has u us ≡ false → getD (indexed e us m j) (1028 + u) 0 ≡ getD e (1028 + u) 0
+indexed-other : (e us : List ℕ) (x u : ℕ) → has u us ≡ false → getD (indexed e us x) (1028 + u) 0 ≡ getD e (1028 + u) 0
 unfolding indexed has
-indexed-other e [] m j u h = refl
-indexed-other e (y ∷ us) m j u h =
+indexed-other e [] x u h = refl
+indexed-other e (y ∷ us) x u h =
     let p = or-false (eqb u y) (has u us) h in
-    indexed-other (set e (1028 + y) (m * 8 + j)) us m (j + 1) u (p .1)
-    ∙ getD-set-other e (1028 + y) (1028 + u) (m * 8 + j) 0 (λ q. eqb-false u y (p .0) (omega arith))
+    indexed-other (set e (1028 + y) x) us x u (p .1) ∙ getD-set-other e (1028 + y) (1028 + u) x 0 (λ q. eqb-false u y (p .0) (omega arith))
 
-indexed-cell : (e us : List ℕ) (m j u : ℕ) → length e ≡ 1540 → ((k : ℕ) → k < length us → getD us k 0 < 512) → has u us ≡ true
-    → (k : ℕ) × (k < length us) × (getD us k 0 ≡ u) × (getD (indexed e us m j) (1028 + u) 0 ≡ m * 8 + (j + k))
+indexed-cell : (e us : List ℕ) (x u : ℕ) → 1028 + u < length e → has u us ≡ true → getD (indexed e us x) (1028 + u) 0 ≡ x
 unfolding indexed has
-indexed-cell e [] m j u long low h = absurd (false≢true h)
-indexed-cell e (y ∷ us) m j u long low h =
-    go (has u us) refl h (indexed-cell (set e (1028 + y) (m * 8 + j)) us m (j + 1) u (length-set e (1028 + y) (m * 8 + j) ∙ long) (λ k l. low (suc k) (omega arith)))
+indexed-cell e [] x u low h = absurd (false≢true h)
+indexed-cell e (y ∷ us) x u low h = go (has u us) refl h (indexed-cell (set e (1028 + y) x) us x u (simp length-set (omega arith)))
   where
-    go : (b : Bool) → has u us ≡ b → or (eqb u y) b ≡ true
-        → (has u us ≡ true → (k : ℕ) × (k < length us) × (getD us k 0 ≡ u) × (getD (indexed (set e (1028 + y) (m * 8 + j)) us m (j + 1)) (1028 + u) 0 ≡ m * 8 + (j + 1 + k)))
-        → (k : ℕ) × (k < length (y ∷ us)) × (getD (y ∷ us) k 0 ≡ u) × (getD (indexed (set e (1028 + y) (m * 8 + j)) us m (j + 1)) (1028 + u) 0 ≡ m * 8 + (j + k))
-    go true q z on =
-        let w = on q in
-        (suc (w .0), omega (arith, w .1), w .2, omega (arith, w .3))
+    go : (b : Bool) → has u us ≡ b → or (eqb u y) b ≡ true → (has u us ≡ true → getD (indexed (set e (1028 + y) x) us x) (1028 + u) 0 ≡ x) → getD (indexed (set e (1028 + y) x) us x) (1028 + u) 0 ≡ x
+    go true q z on = on q
     go false q z on =
         let same : u ≡ y = eqb-true u y (or-first (eqb u y) z) in
-        let low0 : y < 512 = low 0 (omega arith) in
-        let here : getD (set e (1028 + y) (m * 8 + j)) (1028 + u) 0 ≡ m * 8 + j = rw same (getD-set-same e (1028 + y) (m * 8 + j) 0 (omega arith)) in
-        (0, omega arith, sym same, omega (arith, indexed-other (set e (1028 + y) (m * 8 + j)) us m (j + 1) u q))
+        indexed-other (set e (1028 + y) x) us x u q ∙ rw (← same) (getD-set-same e (1028 + u) x 0 low)
 
-pub indexed-step : (e us : List ℕ) (m j : ℕ) → j < length us → indexed e (drop j us) m j ≡ indexed (set e (1028 + getD us j 0) (m * 8 + j)) (drop (j + 1) us) m (j + 1)
+pub indexed-step : (e us : List ℕ) (x j : ℕ) → j < length us → indexed e (drop j us) x ≡ indexed (set e (1028 + getD us j 0) x) (drop (j + 1) us) x
 unfolding indexed
-indexed-step e us m j h = ap (λ (l : List ℕ). indexed e l m j) (drop-step us j 0 h)
+indexed-step e us x j h = ap (λ (l : List ℕ). indexed e l x) (drop-step us j 0 h)
 
 module _ (t : RegInfo) where
   -- what is below the index stays
-  pub source-low : (e : List ℕ) (p : Place) (m x : ℕ) → x < 1028 → getD (sourceIndexed t e p m) x 0 ≡ getD e x 0
-  source-low e (reg r) m x h = indexed-low e (regUnits t r) m 0 x h
-  source-low e (slot s) m x h = refl
+  source-low : (e : List ℕ) (p : Place) (m y : ℕ) → y < 1028 → getD (sourceIndexed t e p m) y 0 ≡ getD e y 0
+  source-low e (reg r) m y h = indexed-low e (regUnits t r) (stampOf e * 128 + m) y h
+  source-low e (slot s) m y h = refl
 
-  pub source-told : (e : List ℕ) (p : Place) (m u : ℕ) → length e ≡ 1540 → KnownPlace t p → u < 512 → has u (placeUnits t p) ≡ true → Tells t (sourceIndexed t e p m) u p m
+  source-told : (e : List ℕ) (p : Place) (m u : ℕ) → length e ≡ 1541 → u < 512 → has u (placeUnits t p) ≡ true → getD (sourceIndexed t e p m) (1028 + u) 0 ≡ stampOf e * 128 + m
   unfolding has
-  source-told e (reg r) m u long known low h =
-      let w = indexed-cell e (regUnits t r) m 0 u long (λ k l. known .low _ (has-getD (regUnits t r) k l)) h in
-      (w .0, w .1, w .2, w .3 ∙ omega arith)
-  source-told e (slot s) m u long known low h = absurd (slot-high (eqb u (512 + s)) refl h)
+  source-told e (reg r) m u long low h = indexed-cell e (regUnits t r) (stampOf e * 128 + m) u (omega arith) h
+  source-told e (slot s) m u long low h = absurd (slot-high (eqb u (512 + s)) refl h)
     where
       slot-high : (b : Bool) → eqb u (512 + s) ≡ b → or b false ≡ true → ⊥
       slot-high true q z = let w : u ≡ 512 + s = eqb-true u (512 + s) q in omega arith
       slot-high false q z = false≢true z
 
-  pub source-others : (e : List ℕ) (p : Place) (m u : ℕ) → has u (placeUnits t p) ≡ false → getD (sourceIndexed t e p m) (1028 + u) 0 ≡ getD e (1028 + u) 0
-  source-others e (reg r) m u h = indexed-other e (regUnits t r) m 0 u h
+  source-others : (e : List ℕ) (p : Place) (m u : ℕ) → has u (placeUnits t p) ≡ false → getD (sourceIndexed t e p m) (1028 + u) 0 ≡ getD e (1028 + u) 0
+  source-others e (reg r) m u h = indexed-other e (regUnits t r) (stampOf e * 128 + m) u h
   source-others e (slot s) m u h = refl
+
+  -- the stamp is no unit's cell
+  source-stamp : (e : List ℕ) (p : Place) (m : ℕ) → KnownPlace t p → getD (sourceIndexed t e p m) 1540 0 ≡ getD e 1540 0
+  source-stamp e (reg r) m known =
+      indexed-other e (regUnits t r) (stampOf e * 128 + m) 512 (never-true (has 512 (regUnits t r)) (λ h. let l : 512 < 512 = known .low 512 h in omega arith))
+  source-stamp e (slot s) m known = refl
 
   -- ---- 21 by the cells
   -- unit by unit
@@ -159,55 +149,50 @@ module _ (t : RegInfo) (e : List ℕ) (so : Sourced t e) (r u : ℕ) (low : u < 
   abbrev clash : Bool
   clash = clashesAt t (sortedOf e) (reg r) u
 
-  found : clash ≡ true → (p : Place) × Points t (sortedOf e) e u p × (samePlace p (reg r) ≡ false)
+  found : clash ≡ true → (p : Place) × Points t (sortedOf e) e u p × (samePlace p (reg r) ≡ false) × (has u (placeUnits t p) ≡ true)
   unfolding clashesAt
   found h =
       let k = any-where (λ (m : KeptMove). and (has u (placeUnits t (m .source))) (no (samePlace (m .source) (reg r)))) (sortedOf e .moves) noMove h in
       let p = getD (sortedOf e .moves) (k .0) noMove .source in
       let w = and-true (has u (placeUnits t p)) (no (samePlace p (reg r))) (k .2) in
-      (p, so .indexed (k .0) u (k .1) low (w .0), no-true (samePlace p (reg r)) (w .1))
+      (p, so .indexed (k .0) u (k .1) low (w .0), no-true (samePlace p (reg r)) (w .1), w .0)
 
-  pub none-kept : getD e 1024 0 ≤ cell / 8 → clash ≡ false
+  -- a cell of another patch
+  pub older : (cell / 128 ≡ stampOf e → ⊥) → clash ≡ false
+  older h = never-true clash (λ c. let p = found c in h (p .1 .stamp))
+
+  pub none-kept : getD e 1024 0 ≤ cell % 128 → clash ≡ false
   none-kept h = never-true clash (λ c. let p = found c in omega (arith, p .1 .kept, kept-count e))
 
-  module _ (q : Place) (there : placeAt (getD e (cell / 8 * 4) 0) ≡ q) (kept : cell / 8 < getD e 1024 0) where
-    told-source : getD (sortedOf e .moves) (cell / 8) noMove .source ≡ q
-    told-source = source-is e (cell / 8) (rw (kept-count e) kept) ∙ there
+  module _ (q : Place) (there : placeAt (getD e (cell % 128 * 4) 0) ≡ q) (kept : cell % 128 < getD e 1024 0) where
+    told-source : getD (sortedOf e .moves) (cell % 128) noMove .source ≡ q
+    told-source = source-is e (cell % 128) (rw (kept-count e) kept) ∙ there
 
     pub equal-there : q ≡ reg r → clash ≡ false
     equal-there is =
         never-true clash
         (λ c. let p = found c in true≢false (sym (same-self (reg r)) ∙ ap (λ (x : Place). samePlace x (reg r)) (sym is ∙ sym told-source ∙ p .1 .source) ∙ p .2))
 
-    pub other-there : samePlace q (reg r) ≡ false → clash ≡ and (ltb (cell % 8) (length (placeUnits t q))) (eqb (getD (placeUnits t q) (cell % 8) 0) u)
+    pub other-there : samePlace q (reg r) ≡ false → clash ≡ has u (placeUnits t q)
     unfolding clashesAt
     other-there differ =
-        both-ways clash (and (ltb (cell % 8) (length (placeUnits t q))) (eqb (getD (placeUnits t q) (cell % 8) 0) u))
-        (λ c. let p = found c in
-            let is : p .0 ≡ q = sym (p .1 .source) ∙ told-source in
-            let l : cell % 8 < length (placeUnits t q) = rw is at (p .1 .listed) in
-            let g : getD (placeUnits t q) (cell % 8) 0 ≡ u = rw is at (p .1 .there) in
-            rw (lt-ltb (cell % 8) (length (placeUnits t q)) l, eq-eqb (getD (placeUnits t q) (cell % 8) 0) u g))
-        (λ c. let w = and-true (ltb (cell % 8) (length (placeUnits t q))) (eqb (getD (placeUnits t q) (cell % 8) 0) u) c in
-            let l = ltb-true (cell % 8) (length (placeUnits t q)) (w .0) in
-            let on : has u (placeUnits t q) ≡ true = rw (eqb-true (getD (placeUnits t q) (cell % 8) 0) u (w .1)) at (has-getD (placeUnits t q) (cell % 8) l) in
-            any-true (λ (m : KeptMove). and (has u (placeUnits t (m .source))) (no (samePlace (m .source) (reg r)))) (sortedOf e .moves) (cell / 8) noMove (rw (kept-count e) kept) (rw (told-source, on, differ)))
+        both-ways clash (has u (placeUnits t q))
+        (λ c. let p = found c in rw (sym (p .1 .source) ∙ told-source) at (p .3))
+        (λ on. any-true (λ (m : KeptMove). and (has u (placeUnits t (m .source))) (no (samePlace (m .source) (reg r)))) (sortedOf e .moves) (cell % 128) noMove (rw (kept-count e) kept) (rw (told-source, on, differ)))
 
     pub slot-there : (s : ℕ) → q ≡ slot s → clash ≡ false
     unfolding has
     slot-there s is =
-        other-there (rw is)
-        ∙ never-true (and (ltb (cell % 8) (length (placeUnits t q))) (eqb (getD (placeUnits t q) (cell % 8) 0) u))
-        (λ c. let w = and-true (ltb (cell % 8) (length (placeUnits t q))) (eqb (getD (placeUnits t q) (cell % 8) 0) u) c in
-            let l : cell % 8 < 1 = rw is at (ltb-true (cell % 8) (length (placeUnits t q)) (w .0)) in
-            let z : cell % 8 ≡ 0 = omega arith in
-            let g : 512 + s ≡ u = rw (is, z) at (eqb-true (getD (placeUnits t q) (cell % 8) 0) u (w .1)) in
-            omega arith)
+        other-there (rw is) ∙ rw is (high (eqb u (512 + s)) refl)
+      where
+        high : (b : Bool) → eqb u (512 + s) ≡ b → or b false ≡ false
+        high true q = let w : u ≡ 512 + s = eqb-true u (512 + s) q in absurd (omega arith)
+        high false q = refl
 
 -- ---- one entry more
 -- the stores of a kept move, one after the other
 pub kept-as : (t : RegInfo) (e e₁ e₂ e₃ w w′ : List ℕ) (s d v : ℕ) → KnownPlace t (placeAt s) → getD e 1024 0 + (getD e 1025 0 + getD e 1026 0) < 128
-    → e₁ ≡ storedMove e (getD e 1024 0) s d v → length e₁ ≡ 1540 → e₂ ≡ countedOne e₁ → length e₂ ≡ 1540 → e₃ ≡ sourceIndexed t e₂ (placeAt s) (getD e 1024 0)
+    → e₁ ≡ storedMove e (getD e 1024 0) s d v → length e₁ ≡ 1541 → e₂ ≡ countedOne e₁ → length e₂ ≡ 1541 → e₃ ≡ sourceIndexed t e₂ (placeAt s) (getD e 1024 0)
     → Noted w w′ (placeUnits t (placeAt d)) (getD e 1024 0) → KeptAs t e w e₃ w′ s d v
 kept-as t e e₁ e₂ e₃ w w′ s d v known few p long₁ q long₂ i noted =
     let done : sortedOf e₂ ≡ withMove (keptMove s d v) (sortedOf e) = kept-done e few e₁ e₂ long₁ q s d v p in
@@ -215,22 +200,24 @@ kept-as t e e₁ e₂ e₃ w w′ s d v known few p long₁ q long₂ i noted =
     let kept : getD e₂ 1024 0 ≤ 128 = omega (arith, kept-count e₂, ap (λ (a : Sorted). length (a .moves)) done, more, kept-count e) in
     let remats : getD e₂ 1025 0 ≤ 128 = omega (arith, remats-count e₂, ap (λ (a : Sorted). length (a .remats)) done, remats-count e) in
     let scratch : getD e₂ 1026 0 ≤ 128 = omega (arith, scratch-count e₂, ap (λ (a : Sorted). length (a .rematsWithScratch)) done, scratch-count e) in
-    let stayed : SameIndex e e₂ = λ u. rw (q, p) (counted-index (storedMove e (getD e 1024 0) s d v) u ∙ move-index e s d v (omega arith) u) in
+    let stayed : SameIndex e e₂ = λ x h. rw (q, p) (counted-index (storedMove e (getD e 1024 0) s d v) x h ∙ move-index e s d v (omega arith) x h) in
     record {
       sorted = rw i (low-same e₂ (sourceIndexed t e₂ (placeAt s) (getD e 1024 0)) (source-low t e₂ (placeAt s) (getD e 1024 0)) kept remats scratch) ∙ done;
       noted = rw (kept-count e) noted;
-      told = λ u low on. rw (i, kept-count e) (source-told t e₂ (placeAt s) (getD e 1024 0) u long₂ known low on);
-      others = λ u low off. rw i (source-others t e₂ (placeAt s) (getD e 1024 0) u off ∙ stayed u);
+      stamp = rw i (source-stamp t e₂ (placeAt s) (getD e 1024 0) known ∙ stayed 1540 (omega arith));
+      told = λ u low on. rw (i, kept-count e, ← stayed 1540 (omega arith)) (source-told t e₂ (placeAt s) (getD e 1024 0) u long₂ low on);
+      others = λ u low off. rw i (source-others t e₂ (placeAt s) (getD e 1024 0) u off ∙ stayed (1028 + u) (omega arith));
     }
 
 -- a rebuild or a dropped move
 pub indexed-same : (t : RegInfo) (a b : Sorted) (e e′ : List ℕ) → b .moves ≡ a .moves → SameIndex e e′ → Indexed t a e → Indexed t b e′
 indexed-same t a b e e′ same cells h k u l low on =
     let p = h k u (rw same at l) low (rw same at on) in
-    rw same record { kept = rw (cells u) (p .kept); source = rw (cells u) (p .source); listed = rw (cells u) (p .listed); there = rw (cells u) (p .there) }
+    let c = cells (1028 + u) (omega arith) in
+    rw same record { stamp = rw (c, cells 1540 (omega arith)) (p .stamp); kept = rw c (p .kept); source = rw c (p .source) }
 
 -- a move that is kept
-module _ (t : RegInfo) (f : Function) (e w e′ w′ : List ℕ) (s d v : ℕ) (known : KnownPlace t (placeAt s)) (few : length (placeUnits t (placeAt s)) ≤ 8) (old : Indexed t (sortedOf e) e) (done : KeptAs t e w e′ w′ s d v)
+module _ (t : RegInfo) (f : Function) (e w e′ w′ : List ℕ) (s d v : ℕ) (few : length (sortedOf e .moves) < 128) (old : Indexed t (sortedOf e) e) (done : KeptAs t e w e′ w′ s d v)
     (ok : SortedOk t f (withMove (keptMove s d v) (sortedOf e))) where
   abbrev l : List KeptMove
   l = sortedOf e .moves
@@ -251,16 +238,15 @@ module _ (t : RegInfo) (f : Function) (e w e′ w′ : List ℕ) (s d v : ℕ) (
   new-points : (u : ℕ) → u < 512 → has u (placeUnits t (placeAt s)) ≡ true → Points t a e′ u (placeAt s)
   new-points u low on =
       let w = done .told u low on in
-      let z : getD e′ (1028 + u) 0 / 8 ≡ length l = omega (arith, w .3, w .1) in
-      let y : getD e′ (1028 + u) 0 % 8 ≡ w .0 = omega (arith, w .3, w .1) in
-      record { kept = omega (arith, more); source = rw z last-source; listed = rw y (w .1); there = rw y (w .2) }
+      let z : getD e′ (1028 + u) 0 % 128 ≡ length l = omega (arith, w) in
+      record { stamp = rw (done .stamp) (omega (arith, w)); kept = omega (arith, more); source = rw z last-source }
 
   -- a unit of an older source alone
   old-points : (k u : ℕ) → k < length l → u < 512 → has u (placeUnits t (getD l k noMove .source)) ≡ true → has u (placeUnits t (placeAt s)) ≡ false → Points t a e′ u (getD l k noMove .source)
   old-points k u h low on off =
       let p = old k u h low on in
       let c = done .others u low off in
-      record { kept = rw c (omega (arith, p .kept, more)); source = rw c (ap (λ (m : KeptMove). m .source) (first-source _ (p .kept)) ∙ p .source); listed = rw c (p .listed); there = rw c (p .there) }
+      record { stamp = rw (c, done .stamp) (p .stamp); kept = rw c (omega (arith, p .kept, more)); source = rw c (ap (λ (m : KeptMove). m .source) (first-source _ (p .kept)) ∙ p .source) }
 
   -- an older source that has a unit of the new one is equal to it
   equal-source : (k u : ℕ) → k < length l → has u (placeUnits t (getD l k noMove .source)) ≡ true → has u (placeUnits t (placeAt s)) ≡ true → getD l k noMove .source ≡ placeAt s

@@ -83,7 +83,7 @@ low-same e u cell few few-remats few-scratch =
     (cell 1027 (omega arith))
 
 -- no entry
-module _ (e : List ℕ) (long : length e ≡ 1540) where
+module _ (e : List ℕ) (long : length e ≡ 1541) where
   pub emptied : sortedOf (set (set (set (set e 1024 0) 1025 0) 1026 0) 1027 0) ≡ nothingSorted
   unfolding sortedOf indices
   emptied =
@@ -117,7 +117,7 @@ remat-count e base counter d v high below less =
     getD-set-other b counter 1027 (i + 1) 0 (λ q. omega arith) ∙ getD-set-other a (base + 1 + i * 2) 1027 v 0 (λ q. omega arith) ∙ getD-set-other e (base + i * 2) 1027 d 0 (λ q. omega arith)
 
 -- stores below the count of all entries
-module _ (e : List ℕ) (long : length e ≡ 1540) (few : getD e 1024 0 ≤ 128) (few-remats : getD e 1025 0 ≤ 128) (few-scratch : getD e 1026 0 ≤ 128) where
+module _ (e : List ℕ) (long : length e ≡ 1541) (few : getD e 1024 0 ≤ 128) (few-remats : getD e 1025 0 ≤ 128) (few-scratch : getD e 1026 0 ≤ 128) where
   dropped-one : sortedOf (countedOne e) ≡ withDropped (sortedOf e)
   unfolding sortedOf
   dropped-one =
@@ -234,43 +234,43 @@ module _ (e : List ℕ) (long : length e ≡ 1540) (few : getD e 1024 0 ≤ 128)
       (third-all 768 1026 d v (omega arith) (omega arith) (omega arith) (omega arith) less)
 
 -- neither store nor count writes the index
-pub counted-index : (e : List ℕ) (u : ℕ) → getD (countedOne e) (1028 + u) 0 ≡ getD e (1028 + u) 0
-counted-index e u = getD-set-other e 1027 (1028 + u) _ 0 (λ q. omega arith)
+pub counted-index : (e : List ℕ) → SameIndex e (countedOne e)
+counted-index e x h = getD-set-other e 1027 x _ 0 (λ q. omega arith)
 
-remat-index : (e : List ℕ) (base counter d v : ℕ) → base ≤ 768 → counter < 1028 → getD e counter 0 < 128 → (u : ℕ) → getD (storedRemat e base counter (getD e counter 0) d v) (1028 + u) 0 ≡ getD e (1028 + u) 0
-remat-index e base counter d v high below less u =
+remat-index : (e : List ℕ) (base counter d v : ℕ) → base ≤ 768 → counter < 1028 → getD e counter 0 < 128 → SameIndex e (storedRemat e base counter (getD e counter 0) d v)
+remat-index e base counter d v high below less x h =
     let i = getD e counter 0 in
     let a = set e (base + i * 2) d in
     let b = set a (base + 1 + i * 2) v in
-    getD-set-other b counter (1028 + u) (i + 1) 0 (λ q. omega arith) ∙ getD-set-other a (base + 1 + i * 2) (1028 + u) v 0 (λ q. omega arith) ∙ getD-set-other e (base + i * 2) (1028 + u) d 0 (λ q. omega arith)
+    getD-set-other b counter x (i + 1) 0 (λ q. omega arith) ∙ getD-set-other a (base + 1 + i * 2) x v 0 (λ q. omega arith) ∙ getD-set-other e (base + i * 2) x d 0 (λ q. omega arith)
 
 pub remat-done-index : (e e₁ e₂ : List ℕ) (base counter d v : ℕ) → base ≤ 768 → counter < 1028 → getD e counter 0 < 128 → e₁ ≡ storedRemat e base counter (getD e counter 0) d v → e₂ ≡ countedOne e₁ → SameIndex e e₂
-remat-done-index e e₁ e₂ base counter d v high below less p q u = rw (q, p) (counted-index (storedRemat e base counter (getD e counter 0) d v) u ∙ remat-index e base counter d v high below less u)
+remat-done-index e e₁ e₂ base counter d v high below less p q x h = rw (q, p) (counted-index (storedRemat e base counter (getD e counter 0) d v) x h ∙ remat-index e base counter d v high below less x h)
 
-pub move-index : (e : List ℕ) (s d v : ℕ) → getD e 1024 0 < 128 → (u : ℕ) → getD (storedMove e (getD e 1024 0) s d v) (1028 + u) 0 ≡ getD e (1028 + u) 0
-move-index e s d v less u =
+pub move-index : (e : List ℕ) (s d v : ℕ) → getD e 1024 0 < 128 → SameIndex e (storedMove e (getD e 1024 0) s d v)
+move-index e s d v less x h =
     let m = getD e 1024 0 in
     let a = set e (m * 4) s in
     let b = set a (1 + m * 4) d in
     let c = set b (2 + m * 4) v in
-    getD-set-other c 1024 (1028 + u) (m + 1) 0 (λ q. omega arith) ∙ getD-set-other b (2 + m * 4) (1028 + u) v 0 (λ q. omega arith) ∙ getD-set-other a (1 + m * 4) (1028 + u) d 0 (λ q. omega arith) ∙ getD-set-other e (m * 4) (1028 + u) s 0 (λ q. omega arith)
+    getD-set-other c 1024 x (m + 1) 0 (λ q. omega arith) ∙ getD-set-other b (2 + m * 4) x v 0 (λ q. omega arith) ∙ getD-set-other a (1 + m * 4) x d 0 (λ q. omega arith) ∙ getD-set-other e (m * 4) x s 0 (λ q. omega arith)
 
 -- the stores of the code, one after the other
-module _ (e : List ℕ) (few : getD e 1024 0 + (getD e 1025 0 + getD e 1026 0) < 128) (e₁ e₂ : List ℕ) (long : length e₁ ≡ 1540) (counted : e₂ ≡ countedOne e₁) where
+module _ (e : List ℕ) (few : getD e 1024 0 + (getD e 1025 0 + getD e 1026 0) < 128) (e₁ e₂ : List ℕ) (long : length e₁ ≡ 1541) (counted : e₂ ≡ countedOne e₁) where
   pub kept-done : (s d v : ℕ) → e₁ ≡ storedMove e (getD e 1024 0) s d v → sortedOf e₂ ≡ withMove (keptMove s d v) (sortedOf e)
   kept-done s d v p =
-      let l : length e ≡ 1540 = simp length-set at (rw p at long) in
+      let l : length e ≡ 1541 = simp length-set at (rw p at long) in
       rw (counted, p) (kept-one e l (omega arith) (omega arith) (omega arith) s d v (omega arith))
 
   pub rebuilt-done : (d v : ℕ) → e₁ ≡ storedRemat e 512 1025 (getD e 1025 0) d v → sortedOf e₂ ≡ withRemat false (rebuiltAs d v) (sortedOf e)
   rebuilt-done d v p =
-      let l : length e ≡ 1540 = simp length-set at (rw p at long) in
+      let l : length e ≡ 1541 = simp length-set at (rw p at long) in
       rw (counted, p) (rebuilt-one e l (omega arith) (omega arith) (omega arith) d v (omega arith))
 
   pub scratch-done : (d v : ℕ) → e₁ ≡ storedRemat e 768 1026 (getD e 1026 0) d v → sortedOf e₂ ≡ withRemat true (rebuiltAs d v) (sortedOf e)
   scratch-done d v p =
-      let l : length e ≡ 1540 = simp length-set at (rw p at long) in
+      let l : length e ≡ 1541 = simp length-set at (rw p at long) in
       rw (counted, p) (rebuilt-with-scratch e l (omega arith) (omega arith) (omega arith) d v (omega arith))
 
-pub dropped-done : (e : List ℕ) → getD e 1024 0 + (getD e 1025 0 + getD e 1026 0) < 128 → (e₂ : List ℕ) → length e ≡ 1540 → e₂ ≡ countedOne e → sortedOf e₂ ≡ withDropped (sortedOf e)
+pub dropped-done : (e : List ℕ) → getD e 1024 0 + (getD e 1025 0 + getD e 1026 0) < 128 → (e₂ : List ℕ) → length e ≡ 1541 → e₂ ≡ countedOne e → sortedOf e₂ ≡ withDropped (sortedOf e)
 dropped-done e few e₂ long counted = rw counted (dropped-one e long (omega arith) (omega arith) (omega arith))

@@ -1,5 +1,5 @@
 -- The writer of each unit, as entries are added.
-use Prim.Native.Nat.{ℕ, suc, _+_, _<_, _≤_}
+use Prim.Native.Nat.{ℕ, zero, suc, _+_, _<_, _≤_}
 use mathlib.Core.Path.{_≡_, refl, sym, ap, _∙_, fun-ext}
 use mathlib.Core.Bool.{Bool, true, false, true≢false}
 use mathlib.Core.List.{List, [], _∷_, _++_, map}
@@ -7,9 +7,10 @@ use mathlib.Core.Option.{Option, none, some}
 use native.Mathlib.Omega.{arith}
 use lib.Dec.{eqb}
 use lib.ListN.{getD, length, drop, length-append}
-use Rattle.entity.specs.Logic.{pick, or, any, has}
+use borrow.Author.Tests.{eqb-false, ne-eqb}
+use Rattle.entity.specs.Logic.{pick, or, any, has, twice}
 use Rattle.entity.specs.Place.{Place}
-use Rattle.entity.proofs.Laws.{any-has, meets-comm, drop-step}
+use Rattle.entity.proofs.Laws.{or-false, any-has, meets-comm, drop-step}
 use Rattle.reginfo.specs.RegInfo.{RegInfo, placeUnits, overlap}
 use Rattle.function.specs.Function.{Function}
 use Rattle.rules.specs.Order.{KeptMove, Remat, writerFrom}
@@ -19,7 +20,7 @@ use Rattle.sparse.specs.Map.{mapOf, known, updated, foundOf, emptyMap, Emptied}
 use Rattle.sparse.specs.declared.Found.{Found}
 use Rattle.entries.specs.Table.{withMove, withRemat}
 use Rattle.entries.specs.Known.{noted, Noted, orRebuilt, rebuilds, writerOf, places, Indexed, SameIndex, Tracked}
-use Rattle.entries.proofs.Lists.{or-none, or-right, or-assoc, any-append, any-end, any-map, any-same, any-swap, meets-any}
+use Rattle.entries.proofs.Lists.{or-none, or-right, or-assoc, any-append, any-end, any-step, any-map, any-same, any-swap, meets-any}
 use Rattle.entries.proofs.Sources.{indexed-same}
 
 -- what holds of the answer that a look-up found
@@ -159,6 +160,26 @@ module _ (t : RegInfo) (f : Function) where
 pub noted-step : (g : ℕ → Option ℕ) (us : List ℕ) (x j : ℕ) → j < length us → noted g (drop j us) x ≡ noted (updated g (getD us j 0) x) (drop (j + 1) us) x
 unfolding noted
 noted-step g us x j h = ap (λ (l : List ℕ). noted g l x) (drop-step us j 0 h)
+
+-- a unit that had no writer gets one, and those behind it have none yet
+twice-at : (us : List ℕ) (j : ℕ) → twice us ≡ false → j < length us → has (getD us j 0) (drop (j + 1) us) ≡ false
+unfolding twice
+twice-at [] j e h = absurd (omega arith)
+twice-at (u ∷ us) zero e h = or-false (has u us) (twice us) e .0
+twice-at (u ∷ us) (suc j) e h = let z : suc j + 1 ≡ suc (j + 1) = omega arith in rw z (twice-at us j (or-false (has u us) (twice us) e .1) (omega arith))
+
+any-updated : (g : ℕ → Option ℕ) (u x : ℕ) (l : List ℕ) → has u l ≡ false → any (λ v. known (updated g u x v)) l ≡ any (λ v. known (g v)) l
+unfolding any has updated
+any-updated g u x [] h = refl
+any-updated g u x (v ∷ l) h =
+    let p = or-false (eqb u v) (has u l) h in
+    rw (ne-eqb v u (λ q. eqb-false u v (p .0) (sym q)), any-updated g u x l (p .1))
+
+pub unwritten-step : (g : ℕ → Option ℕ) (us : List ℕ) (x j : ℕ) → twice us ≡ false → j < length us → any (λ u. known (g u)) (drop j us) ≡ false
+    → (g (getD us j 0) ≡ none) × (any (λ u. known (updated g (getD us j 0) x u)) (drop (j + 1) us) ≡ false)
+unwritten-step g us x j once h e =
+    let p = or-false (known (g (getD us j 0))) (any (λ u. known (g u)) (drop (j + 1) us)) (sym (any-step (λ u. known (g u)) us j 0 h) ∙ e) in
+    (known-none (g (getD us j 0)) (p .0), any-updated g (getD us j 0) x (drop (j + 1) us) (twice-at us j once h) ∙ p .1)
 
 -- no entry and no writer
 pub tracked-none : (t : RegInfo) (f : Function) (a : Sorted) (e v w : List ℕ) → a ≡ nothingSorted → Emptied v w → Tracked t f a e w

@@ -1,5 +1,5 @@
 -- What the enums of the code stand for, and what adding an entry leaves.
-use Prim.Native.Nat.{ℕ, _+_, _<_}
+use Prim.Native.Nat.{ℕ, _+_, _*_, _<_}
 use mathlib.Core.Path.{_≡_}
 use mathlib.Core.Bool.{Bool, true, false}
 use mathlib.Core.List.{List}
@@ -17,8 +17,8 @@ use Rattle.entries.specs.declared.Added as A
 use Rattle.entries.specs.declared.Added.{Added}
 use Rattle.entries.specs.declared.Fate as F
 use Rattle.entries.specs.declared.Fate.{Fate}
-use Rattle.entries.specs.Table.{sortedOf, keptMove, withMove, withRemat}
-use Rattle.entries.specs.Known.{isWritten, Noted, Tells, SameIndex, EntriesOk}
+use Rattle.entries.specs.Table.{sortedOf, stampOf, keptMove, withMove, withRemat}
+use Rattle.entries.specs.Known.{isWritten, Noted, SameIndex, EntriesOk}
 
 -- the number by which an entry or a patch is refused
 abbrev pub addedOf : Added → Option ℕ
@@ -40,7 +40,8 @@ pub record AddedAs (t f e w e′ w′ : List ℕ) (x : Entry) (r : Option ℕ) :
 pub record KeptAs (t : RegInfo) (e w e′ w′ : List ℕ) (s d v : ℕ) : Type 0 where
   pub sorted : sortedOf e′ ≡ withMove (keptMove s d v) (sortedOf e)
   pub noted : Noted w w′ (placeUnits t (placeAt d)) (length (sortedOf e .moves))
-  pub told : (u : ℕ) → u < 512 → has u (placeUnits t (placeAt s)) ≡ true → Tells t e′ u (placeAt s) (length (sortedOf e .moves))
+  pub stamp : getD e′ 1540 0 ≡ getD e 1540 0
+  pub told : (u : ℕ) → u < 512 → has u (placeUnits t (placeAt s)) ≡ true → getD e′ (1028 + u) 0 ≡ stampOf e * 128 + length (sortedOf e .moves)
   pub others : (u : ℕ) → u < 512 → has u (placeUnits t (placeAt s)) ≡ false → getD e′ (1028 + u) 0 ≡ getD e (1028 + u) 0
 
 -- a rebuild added, unless one of the units us is written already

@@ -6,7 +6,7 @@ use mathlib.Core.List.{List, [], _∷_}
 use mathlib.Core.Option.{Option, none, some}
 use lib.Dec.{ltb}
 use lib.ListN.{length, getD}
-use Rattle.entity.specs.Logic.{pick, and, or, no, any, has}
+use Rattle.entity.specs.Logic.{pick, and, or, no, any, has, twice}
 use Rattle.entity.specs.Place.{Place, reg, samePlace, placeAt}
 use Rattle.reginfo.specs.RegInfo.{RegInfo, includesSpillslots, lastInOrder, placeUnits, overlap, ofBank}
 use Rattle.reginfo.specs.Known.{KnownPlace}
@@ -18,7 +18,7 @@ use Rattle.rules.specs.Patch.{Sorted, namesPlace}
 use Rattle.rules.specs.Sorted.{SortedOk}
 use Rattle.small_set.specs.Set.{setOf}
 use Rattle.sparse.specs.Map.{mapOf, keysOf, known, updated, Linked}
-use Rattle.entries.specs.Table.{sortedOf}
+use Rattle.entries.specs.Table.{sortedOf, stampOf}
 
 -- a place whose units can be looked up
 pub record Writable (t : RegInfo) (p : Place) : Type 0 where
@@ -26,6 +26,7 @@ pub record Writable (t : RegInfo) (p : Place) : Type 0 where
   pub some : 0 < length (placeUnits t p)
   pub few : length (placeUnits t p) ≤ 8
   pub low : (u : ℕ) → has u (placeUnits t p) ≡ true → u < 4608
+  pub once : twice (placeUnits t p) ≡ false
 
 -- the unit has a writer
 abbrev pub isWritten : List ℕ → ℕ → Bool
@@ -62,16 +63,11 @@ module _ (t : RegInfo) where
   unfoldable pub clashesAt : Sorted → Place → ℕ → Bool
   clashesAt a s u = any (λ (m : KeptMove). and (has u (placeUnits t (m .source))) (no (samePlace (m .source) s))) (a .moves)
 
-  -- the cell of unit u tells move m, and where in its source p the unit stands
-  abbrev pub Tells : List ℕ → ℕ → Place → ℕ → Type 0
-  Tells e u p m = (j : ℕ) × (j < length (placeUnits t p)) × (getD (placeUnits t p) j 0 ≡ u) × (getD e (1028 + u) 0 ≡ m * 8 + j)
-
-  -- it tells a kept move whose source is p
+  -- the cell of unit u is of this patch, and tells a kept move whose source is p
   pub record Points (a : Sorted) (e : List ℕ) (u : ℕ) (p : Place) : Type 0 where
-    pub kept : getD e (1028 + u) 0 / 8 < length (a .moves)
-    pub source : getD (a .moves) (getD e (1028 + u) 0 / 8) noMove .source ≡ p
-    pub listed : getD e (1028 + u) 0 % 8 < length (placeUnits t p)
-    pub there : getD (placeUnits t p) (getD e (1028 + u) 0 % 8) 0 ≡ u
+    pub stamp : getD e (1028 + u) 0 / 128 ≡ stampOf e
+    pub kept : getD e (1028 + u) 0 % 128 < length (a .moves)
+    pub source : getD (a .moves) (getD e (1028 + u) 0 % 128) noMove .source ≡ p
 
   -- the cell of every register unit of a kept source does
   abbrev pub Indexed : Sorted → List ℕ → Type 0
@@ -85,9 +81,9 @@ module _ (t : RegInfo) where
     pub known : (m : ℕ) → m < getD e 1024 0 → KnownPlace t (placeAt (getD e (m * 4) 0))
     pub indexed : Indexed (sortedOf e) e
 
--- the index was not written
+-- neither the index nor the stamp was written
 abbrev pub SameIndex : List ℕ → List ℕ → Type 0
-SameIndex e e′ = (u : ℕ) → getD e′ (1028 + u) 0 ≡ getD e (1028 + u) 0
+SameIndex e e′ = (x : ℕ) → 1028 ≤ x → getD e′ x 0 ≡ getD e x 0
 
 -- a kept move, else 128 where a rebuild writes the unit
 abbrev pub orRebuilt : Option ℕ → Bool → Option ℕ

@@ -1,7 +1,8 @@
 -- The patch under construction as one table of numbers: kept move m at 4 m: source, destination, value; rebuild i at 512 + 2 i and rebuild
 -- with scratch i at 768 + 2 i: destination, value; 1024: how many are kept, rebuilt, rebuilt with scratch; 1027: how many entries were added.
--- 1028 + u, the index of sources: where kept move m has register unit u as its source's unit j, 8 m + j of such a move; else any number.
-use Prim.Native.Nat.{ℕ, suc, _+_, _*_}
+-- 1028 + u, the index of sources: where a kept move's source has register unit u, the patch's stamp times 128 and the number of such a move; else
+-- any number. 1540: the stamp, by 512.
+use Prim.Native.Nat.{ℕ, suc, _+_, _*_, _%_}
 use mathlib.Core.Bool.{Bool, true, false}
 use mathlib.Core.List.{List, [], _∷_, _++_, map}
 use mathlib.Core.Option.{Option, none, some}
@@ -42,14 +43,18 @@ storedMove e m s d v = set (set (set (set e (m * 4) s) (1 + m * 4) d) (2 + m * 4
 abbrev pub storedRemat : List ℕ → ℕ → ℕ → ℕ → ℕ → ℕ → List ℕ
 storedRemat e base counter i d v = set (set (set e (base + i * 2) d) (base + 1 + i * 2) v) counter (i + 1)
 
--- the cells of the units us tell move m, from unit j of its source on
-unfoldable pub indexed : List ℕ → List ℕ → ℕ → ℕ → List ℕ
-indexed e [] m j = e
-indexed e (u ∷ us) m j = indexed (set e (1028 + u) (m * 8 + j)) us m (j + 1)
+-- what tells the cells of a patch from those of the patches before it, most of them
+abbrev pub stampOf : List ℕ → ℕ
+stampOf e = getD e 1540 0 % 512
 
--- the same of a place that is a register: a slot has no cell
+-- the cells of the units us hold x
+unfoldable pub indexed : List ℕ → List ℕ → ℕ → List ℕ
+indexed e [] x = e
+indexed e (u ∷ us) x = indexed (set e (1028 + u) x) us x
+
+-- the cells of a source tell that kept move m reads it; a slot has no cell
 abbrev pub sourceIndexed : RegInfo → List ℕ → Place → ℕ → List ℕ
-sourceIndexed t e (reg r) m = indexed e (regUnits t r) m 0
+sourceIndexed t e (reg r) m = indexed e (regUnits t r) (stampOf e * 128 + m)
 sourceIndexed t e (slot s) m = e
 
 -- m is a kept move that has these codes and this value

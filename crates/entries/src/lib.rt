@@ -21,7 +21,7 @@ ghost use mathlib.Core.Path.{_≡_};
 ghost use mathlib.Core.Bool.{true, false};
 ghost use mathlib.Core.List.{List};
 ghost use mathlib.Core.Option.{none, some};
-ghost use Prim.Native.Nat.{ℕ, _+_, _*_, _<_, _≤_};
+ghost use Prim.Native.Nat.{ℕ, _+_, _*_, _%_, _<_, _≤_};
 ghost use lib.Dec.{eqb, ltb, leb};
 ghost use lib.ListN.{length, getD};
 ghost use Rattle.entity.specs.Logic.{pick, and, no, any, has};
@@ -36,12 +36,12 @@ ghost use Rattle.rules.specs.Patch.{move, remat, namesPlace, becomesRemat, need
 ghost use Rattle.rules.specs.Sorted.{RematOk, SortedOk};
 ghost use Rattle.small_set.specs.Set.{setOf};
 ghost use Rattle.sparse.specs.Map.{mapOf, keysOf, Linked};
-ghost use Rattle.entries.specs.Table.{sortedOf, countedOne, storedMove, storedRemat, indexed, sourceIndexed, isMove, isMoveOf, keptMove, rebuiltAs, withMove, withRemat};
+ghost use Rattle.entries.specs.Table.{sortedOf, countedOne, storedMove, storedRemat, stampOf, indexed, sourceIndexed, isMove, isMoveOf, keptMove, rebuiltAs, withMove, withRemat};
 ghost use Rattle.function.specs.Known.{Checked};
 ghost use Rattle.entries.specs.Known.{Writable, isWritten, Noted, Roomy, isFree, lastClashes, clashesAt, Indexed, Sourced, SameIndex, NamedRemat, NamedMove, PassedMove, EntriesOk};
 ghost use Rattle.entries.specs.Answers.{addedOf, rebuiltOf, KeptAs, AddedAs, RebuiltAs};
 
-pub type Entries = [u16; 1540];
+pub type Entries = [u16; 1541];
 
 // An entry's or a patch's answer; the number is 01's.
 pub enum Added {
@@ -56,17 +56,19 @@ enum Fate {
 }
 
 // It does nothing: a call tells the length of the table that is passed.
-fn told(e: [u16; 1540]) -> bool
-    ensures { λ _. ⌜ length e ≡ 1540 ⌝ }
+fn told(e: [u16; 1541]) -> bool
+    ensures { λ _. ⌜ length e ≡ 1541 ⌝ }
 {
     true
 }
 
-// A patch with no entry. What the tables held does not matter.
+// A patch with no entry, and with a stamp that the patch before it had not. What the tables held does not matter.
 pub fn new_parallel_move(e: &mut Entries, w: &mut SparseMap)
     ensures { λ _. ⌜ (sortedOf (now (e .exit)) ≡ nothingSorted) × ((t f : List ℕ) → EntriesOk t f (now (e .exit)) (now (w .exit))) ⌝ }
 {
     told(*e);
+    let next = stamp(e) + 1;
+    e[1540] = narrow(next);
     e[1024] = 0;
     e[1025] = 0;
     e[1026] = 0;
@@ -100,9 +102,9 @@ fn is_written(t: &RegInfo, w: &SparseMap, p: Allocation) -> bool
     false
 }
 
-// Notes x as the writer of each unit of the place.
+// Notes x as the writer of each unit of the place, none of which has one.
 fn note_writes(t: &RegInfo, w: &mut SparseMap, p: Allocation, x: u16)
-    requires { ⌜ Linked (now w) × Writable (regInfoOf (now t)) (placeAt (p .0)) × (length (keysOf (now w)) ≤ 1016) ⌝ }
+    requires { ⌜ Linked (now w) × Writable (regInfoOf (now t)) (placeAt (p .0)) × (length (keysOf (now w)) ≤ 1016) × (any (isWritten (now w)) (placeUnits (regInfoOf (now t)) (placeAt (p .0))) ≡ false) ⌝ }
     ensures { λ _. ⌜ Noted (now (w .entry)) (now (w .exit)) (placeUnits (regInfoOf (now (t .entry))) (placeAt (p .0))) x ⌝ }
 {
     let n = reginfo::num_place_units(t, p);
@@ -151,7 +153,7 @@ fn is_dropped(
 // Counts an entry.
 fn count_entry(e: &mut Entries)
     requires { ⌜ getD (now e) 1027 0 < 128 ⌝ }
-    ensures { λ _. ⌜ (now (e .exit) ≡ countedOne (now (e .entry))) × (length (now (e .entry)) ≡ 1540) ⌝ }
+    ensures { λ _. ⌜ (now (e .exit) ≡ countedOne (now (e .entry))) × (length (now (e .entry)) ≡ 1541) ⌝ }
 {
     told(*e);
     let n = wide(e[1027]);
@@ -181,25 +183,18 @@ fn store_remat(e: &mut Entries, base: usize, counter: usize, dest: Allocation, v
     e[counter] = narrow(i + 1);
 }
 
-// Whether unit j of a register is u.
-fn lists_at(t: &RegInfo, r: PhysReg, j: usize, u: RegUnit) -> bool
-    requires { ⌜ KnownUnits (regInfoOf (now t)) (r .0) ⌝ }
-    ensures { λ o. ⌜ o ≡ and (ltb j (length (regUnits (regInfoOf (now (t .entry))) (r .0)))) (eqb (getD (regUnits (regInfoOf (now (t .entry))) (r .0)) j 0) (u .0)) ⌝ }
+// What tells the cells of this patch from those of the patches before it, most of them.
+fn stamp(e: &Entries) -> usize
+    ensures { λ r. ⌜ r ≡ stampOf (now (e .entry)) ⌝ }
 {
-    if reginfo::num_reg_units(t, r) <= j {
-        return false;
-    }
-    let v = reginfo::reg_unit(t, r, j);
-    v.0 == u.0
+    wide(e[1540]) % 512
 }
 
-// Whether a kept move whose source is not r has the unit in it: the cell of the unit tells which may.
-fn unit_clashes(t: &RegInfo, e: &Entries, r: PhysReg, u: RegUnit) -> bool
-    requires { ⌜ Sourced (regInfoOf (now t)) (now e) × (u .0 < 512) ⌝ }
+// The same of the move that the cell tells, which need not be kept, nor have the unit.
+fn told_clashes(t: &RegInfo, e: &Entries, r: PhysReg, u: RegUnit, m: usize) -> bool
+    requires { ⌜ Sourced (regInfoOf (now t)) (now e) × (u .0 < 512) × (m ≡ getD (now e) (1028 + u .0) 0 % 128) ⌝ }
     ensures { λ o. ⌜ o ≡ clashesAt (regInfoOf (now (t .entry))) (sortedOf (now (e .entry))) (reg (r .0)) (u .0) ⌝ }
 {
-    let c = wide(e[1028 + wide(u.0)]);
-    let m = c / 8;
     if wide(e[1024]) <= m {
         return false;
     }
@@ -209,10 +204,22 @@ fn unit_clashes(t: &RegInfo, e: &Entries, r: PhysReg, u: RegUnit) -> bool
             if q.0 == r.0 {
                 return false;
             }
-            lists_at(t, q, c % 8, u)
+            reginfo::has_unit(t, q, u)
         }
         AllocationKind::SpillSlot(_) => false,
     }
+}
+
+// Whether a kept move whose source is not r has the unit in it: the cell of the unit tells which may.
+fn unit_clashes(t: &RegInfo, e: &Entries, r: PhysReg, u: RegUnit) -> bool
+    requires { ⌜ Sourced (regInfoOf (now t)) (now e) × (u .0 < 512) ⌝ }
+    ensures { λ o. ⌜ o ≡ clashesAt (regInfoOf (now (t .entry))) (sortedOf (now (e .entry))) (reg (r .0)) (u .0) ⌝ }
+{
+    let c = wide(e[1028 + wide(u.0)]);
+    if c / 128 != stamp(e) {
+        return false;
+    }
+    told_clashes(t, e, r, u, c % 128)
 }
 
 fn reg_clashes(t: &RegInfo, e: &Entries, r: PhysReg) -> bool
@@ -241,16 +248,15 @@ fn overlaps_source(t: &RegInfo, e: &Entries, source: Allocation) -> bool
     }
 }
 
-fn index_reg(t: &RegInfo, e: &mut Entries, r: PhysReg, m: u16)
-    requires { ⌜ KnownUnits (regInfoOf (now t)) (r .0) × (m < 128) ⌝ }
-    ensures { λ _. ⌜ (now (e .exit) ≡ indexed (now (e .entry)) (regUnits (regInfoOf (now (t .entry))) (r .0)) m 0) × (length (now (e .entry)) ≡ 1540) ⌝ }
+fn index_reg(t: &RegInfo, e: &mut Entries, r: PhysReg, x: u16)
+    requires { ⌜ KnownUnits (regInfoOf (now t)) (r .0) ⌝ }
+    ensures { λ _. ⌜ now (e .exit) ≡ indexed (now (e .entry)) (regUnits (regInfoOf (now (t .entry))) (r .0)) x ⌝ }
 {
-    told(*e);
     let n = reginfo::num_reg_units(t, r);
     let mut j: usize = 0;
     while j < n {
         let u = reginfo::reg_unit(t, r, j);
-        e[1028 + wide(u.0)] = narrow(wide(m) * 8 + j);
+        e[1028 + wide(u.0)] = x;
         j += 1;
     }
 }
@@ -258,11 +264,14 @@ fn index_reg(t: &RegInfo, e: &mut Entries, r: PhysReg, m: u16)
 // Notes in the index that kept move m reads the place.
 fn index_source(t: &RegInfo, e: &mut Entries, source: Allocation, m: u16)
     requires { ⌜ KnownPlace (regInfoOf (now t)) (placeAt (source .0)) × (m < 128) ⌝ }
-    ensures { λ _. ⌜ (now (e .exit) ≡ sourceIndexed (regInfoOf (now (t .entry))) (now (e .entry)) (placeAt (source .0)) m) × (length (now (e .entry)) ≡ 1540) ⌝ }
+    ensures { λ _. ⌜ (now (e .exit) ≡ sourceIndexed (regInfoOf (now (t .entry))) (now (e .entry)) (placeAt (source .0)) m) × (length (now (e .entry)) ≡ 1541) ⌝ }
 {
     told(*e);
     match source.kind() {
-        AllocationKind::PhysReg(r) => index_reg(t, e, r, m),
+        AllocationKind::PhysReg(r) => {
+            let x = narrow(stamp(e) * 128 + wide(m));
+            index_reg(t, e, r, x);
+        }
         AllocationKind::SpillSlot(_) => {}
     }
 }
@@ -276,7 +285,7 @@ fn keep(
     dest: Allocation,
     v: Value,
 )
-    requires { ⌜ Roomy (now e) (now w) × KnownPlace (regInfoOf (now t)) (placeAt (source .0)) × Writable (regInfoOf (now t)) (placeAt (dest .0)) ⌝ }
+    requires { ⌜ Roomy (now e) (now w) × KnownPlace (regInfoOf (now t)) (placeAt (source .0)) × Writable (regInfoOf (now t)) (placeAt (dest .0)) × (any (isWritten (now w)) (placeUnits (regInfoOf (now t)) (placeAt (dest .0))) ≡ false) ⌝ }
     ensures { λ _. ⌜ KeptAs (regInfoOf (now (t .entry))) (now (e .entry)) (now (w .entry)) (now (e .exit)) (now (w .exit)) (source .0) (dest .0) (v .0) ⌝ }
 {
     let m = e[1024];

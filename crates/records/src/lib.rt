@@ -91,7 +91,7 @@ pub fn put_text(job: &[u8], out: &mut [u8]) -> usize
     let mut f = [0u16; 16387];
     let mut cache = [0u16; 65600];
     let mut free = [false; 512];
-    let mut e = [0u16; 1540];
+    let mut e = [0u16; 1541];
     let mut w = [0u16; 6657];
     let mut available = [false; 512];
     let mut sources = [false; 512];

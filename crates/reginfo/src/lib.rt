@@ -180,7 +180,7 @@ pub fn class_has_reg(t: &RegInfo, c: RegClass, r: PhysReg) -> bool
 }
 
 // Whether a register has a unit.
-fn has_unit(t: &RegInfo, r: PhysReg, u: RegUnit) -> bool
+pub fn has_unit(t: &RegInfo, r: PhysReg, u: RegUnit) -> bool
     requires { ⌜ KnownReg (regInfoOf (now t)) (r .0) × (length (regUnits (regInfoOf (now t)) (r .0)) ≤ 8) ⌝ }
     ensures { λ h. ⌜ h ≡ has (u .0) (regUnits (regInfoOf (now (t .entry))) (r .0)) ⌝ }
 {

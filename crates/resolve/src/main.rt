@@ -260,7 +260,7 @@ fn main() {
     let mut cache = [0u16; 65600];
     let mut list = [0u64; 1024];
     let mut free = [false; 512];
-    let mut e = [0u16; 1540];
+    let mut e = [0u16; 1541];
     let mut w = [0u16; 6657];
     let mut available = [false; 512];
     let mut sources = [false; 512];

@@ -13,7 +13,7 @@ use lib.Arith.{lt-of-le-ne}
 use lib.Dec.{eqb}
 use borrow.Author.Tests.{eqb-true, eqb-false, eq-eqb, ne-eqb}
 use Rattle.entity.specs.Logic.{pick, or, has, twice}
-use Rattle.sparse.specs.Map.{countOf, keyAt, valueAt, mapFrom, mapOf, emptyMap, updated, keysFrom, keysOf, grown, known, Linked, Absent, Placed, Emptied, Inserted}
+use Rattle.sparse.specs.Map.{countOf, keyAt, valueAt, mapFrom, mapOf, emptyMap, updated, keysFrom, keysOf, known, Linked, Absent, Placed, Emptied, Inserted}
 
 -- ---- maps
 pub updated-same : (f : ℕ → Option ℕ) (k v : ℕ) → updated f k v k ≡ some v
@@ -33,10 +33,6 @@ known-updated f k v x = by (eqb x k)
     by false = refl
 
 -- ---- the keys, as a list
-pub length-grown : (o : Option ℕ) (keys : List ℕ) (k : ℕ) → length (grown o keys k) ≤ length keys + 1
-length-grown none keys k = omega (arith, length-append keys (k ∷ []))
-length-grown (some v) keys k = omega arith
-
 length-from : (t : List ℕ) (n : ℕ) → length (keysFrom t n) ≡ n
 unfolding keysFrom
 length-from t zero = refl
@@ -67,6 +63,15 @@ map-miss : (t : List ℕ) (k n : ℕ) → ((j : ℕ) → j < n → keyAt t j ≡
 unfolding mapFrom
 map-miss t k zero h = refl
 map-miss t k (suc n) h = rw (ne-eqb (keyAt t n) k (h n (lt-suc-self n)), map-miss t k n (λ j l. h j (omega arith)))
+
+miss-none : (t : List ℕ) (k n : ℕ) → mapFrom t n k ≡ none → (j : ℕ) → j < n → keyAt t j ≡ k → ⊥
+unfolding mapFrom
+miss-none t k zero e j h q = omega arith
+miss-none t k (suc n) e j h q = go (eqb (keyAt t n) k) refl e (miss-none t k n)
+  where
+    go : (b : Bool) → eqb (keyAt t n) k ≡ b → pick b (some (valueAt t n)) (mapFrom t n k) ≡ none → (mapFrom t n k ≡ none → (j : ℕ) → j < n → keyAt t j ≡ k → ⊥) → ⊥
+    go true p o on = let z : _≡_ {A = ℕ} 0 1 = cc in omega arith
+    go false p o on = on o j (lt-of-le-ne (omega arith) (λ r. eqb-false (keyAt t n) k p (rw (← r) q))) q
 
 -- k is among the first n at i and nowhere else
 record At (t : List ℕ) (k n i : ℕ) : Type 0 where
@@ -215,35 +220,6 @@ emptied : (t u : List ℕ) → countOf u ≡ 0 → u ≡ set t 6656 0 → Emptie
 unfolding mapOf mapFrom emptyMap keysOf keysFrom
 emptied t u e s = record { map = rw e; keys = rw e; linked = record { few = omega arith; back = λ j h. absurd (omega arith) }; rest = s }
 
--- ---- a value stored where the key stands
-record Over (t u : List ℕ) (i v : ℕ) : Type 0 where
-  pub count : countOf u ≡ countOf t
-  pub keys : (j : ℕ) → keyAt u j ≡ keyAt t j
-  pub cells : (x : ℕ) → x < 4608 → getD u x 0 ≡ getD t x 0
-  pub value : valueAt u i ≡ v
-  pub others : (j : ℕ) → (j ≡ i → ⊥) → valueAt u j ≡ valueAt t j
-
-module _ (t u : List ℕ) (k v i : ℕ) (o : Over t u i v) (ok : Linked t) (p : Placed t k i) (h : i < countOf t) where
-  over-linked : Linked u
-  over-linked = record {
-    few = rw (o .count) (ok .few);
-    back = λ j l. (let b = ok .back j (rw (o .count) at l) in rw (o .keys j) (b .0, o .cells (keyAt t j) (b .0) ∙ b .1));
-  }
-
-  over-at : (x : ℕ) (b : Bool) → eqb x k ≡ b → mapFrom u (countOf t) x ≡ pick b (some v) (mapFrom t (countOf t) x)
-  over-at x true e =
-      let a = at-place t k ok i p h in
-      rw (eqb-true x k e, map-hit u k (countOf t) i (record { below = h; key = o .keys i ∙ a .key; only = λ j l q. a .only j l (sym (o .keys j) ∙ q) }), o .value)
-  over-at x false e = map-same t u x (countOf t) (λ j l. o .keys j) (λ j l q. o .others j (λ r. eqb-false x k e (sym q ∙ rw r (p .here h))))
-
-  over : Inserted t u k v
-  unfolding mapOf keysOf updated
-  over = record {
-    map = rw (o .count) (fun-ext (λ x. over-at x (eqb x k) refl));
-    keys = rw (got-some t k ok i p h, o .count) (keys-same t u (countOf t) (λ j l. o .keys j));
-    linked = over-linked;
-  }
-
 -- ---- a new key at the end
 record Push (t u : List ℕ) (k v : ℕ) : Type 0 where
   pub count : countOf u ≡ countOf t + 1
@@ -274,7 +250,7 @@ module _ (t u : List ℕ) (k v : ℕ) (o : Push t u k v) (ok : Linked t) (new : 
   unfolding mapOf keysOf keysFrom updated
   push = record {
     map = rw (o .count, add-one (countOf t)) (fun-ext (λ x. push-at x (eqb x k) refl));
-    keys = rw (map-miss t k (countOf t) new, o .count, add-one (countOf t), o .key, keys-same t u (countOf t) (o .keys));
+    keys = rw (o .count, add-one (countOf t), o .key, keys-same t u (countOf t) (o .keys));
     linked = push-linked;
   }
 
@@ -282,15 +258,6 @@ module _ (t u : List ℕ) (k v : ℕ) (o : Push t u k v) (ok : Linked t) (new : 
 module _ (t : List ℕ) (long : length t ≡ 6657) where
   pub forgotten : Emptied t (set t 6656 0)
   forgotten = emptied t (set t 6656 0) (getD-set-same t 6656 0 0 (omega arith)) refl
-
-  stored-over : (i v : ℕ) → i < 1024 → Over t (set t (4609 + i * 2) v) i v
-  stored-over i v h = record {
-    count = getD-set-other t (4609 + i * 2) 6656 v 0 (λ e. omega arith);
-    keys = λ j. getD-set-other t (4609 + i * 2) (4608 + j * 2) v 0 (λ e. omega arith);
-    cells = λ x l. getD-set-other t (4609 + i * 2) x v 0 (λ e. omega arith);
-    value = getD-set-same t (4609 + i * 2) v 0 (omega arith);
-    others = λ j n. getD-set-other t (4609 + i * 2) (4609 + j * 2) v 0 (λ e. n (omega arith));
-  }
 
   -- the value, the sparse cell, the key and the count of a new key, one after the other
   module _ (k v n : ℕ) (low : k < 4608) (room : n < 1024) where
@@ -315,19 +282,14 @@ module _ (t : List ℕ) (long : length t ≡ 6657) where
     stored-push : n ≡ countOf t → Push t counted k v
     stored-push is = record {
       count = getD-set-same keyed 6656 (n + 1) 0 (simp length-set (omega arith)) ∙ ap (λ (m : ℕ). m + 1) is;
-      keys = λ j l. kept-all (4608 + j * 2) (λ e. omega arith) (λ e. omega arith) (λ e. omega arith) ∙ stored-over n v room .keys j;
-      values = λ j l. kept-all (4609 + j * 2) (λ e. omega arith) (λ e. omega arith) (λ e. omega arith) ∙ stored-over n v room .others j (λ e. omega arith);
-      cells = λ x l m. kept-all x (λ e. omega arith) (λ e. omega arith) m ∙ stored-over n v room .cells x l;
+      keys = λ j l. kept-all (4608 + j * 2) (λ e. omega arith) (λ e. omega arith) (λ e. omega arith) ∙ getD-set-other t (4609 + n * 2) (4608 + j * 2) v 0 (λ e. omega arith);
+      values = λ j l. kept-all (4609 + j * 2) (λ e. omega arith) (λ e. omega arith) (λ e. omega arith) ∙ getD-set-other t (4609 + n * 2) (4609 + j * 2) v 0 (λ e. omega arith);
+      cells = λ x l m. kept-all x (λ e. omega arith) (λ e. omega arith) m ∙ getD-set-other t (4609 + n * 2) x v 0 (λ e. omega arith);
       key = rw (← is) (getD-set-other keyed 6656 (4608 + n * 2) (n + 1) 0 (λ e. omega arith) ∙ getD-set-same celled (4608 + n * 2) k 0 (simp length-set (omega arith)));
-      value = rw (← is) (kept-all (4609 + n * 2) (λ e. omega arith) (λ e. omega arith) (λ e. omega arith) ∙ stored-over n v room .value);
+      value = rw (← is) (kept-all (4609 + n * 2) (λ e. omega arith) (λ e. omega arith) (λ e. omega arith) ∙ getD-set-same t (4609 + n * 2) v 0 (omega arith));
       cell = kept k (λ e. omega arith) (λ e. omega arith) ∙ getD-set-same valued k n 0 (simp length-set (omega arith)) ∙ is;
     }
 
-  module _ (k v i : ℕ) (ok : Linked t) (p : Placed t k i) where
-    pub stored : i < countOf t → Inserted t (set t (4609 + i * 2) v) k v
-    stored h = over t (set t (4609 + i * 2) v) k v i (stored-over i v (omega (arith, ok .few))) ok p h
-
-    pub pushed : (n : ℕ) → n ≡ countOf t → k < 4608 → n < 1024 → n ≤ i → Inserted t (set (set (set (set t (4609 + i * 2) v) k n) (4608 + n * 2) k) 6656 (n + 1)) k v
-    pushed n is low room h =
-        let e : i ≡ n = omega (arith, p .most) in
-        rw e (push t (counted k v n low room) k v (stored-push k v n low room is) ok (p .gone (omega arith)) low (omega arith))
+  pub inserted : (k v n : ℕ) → Linked t → mapOf t k ≡ none → n ≡ countOf t → k < 4608 → n < 1024 → Inserted t (set (set (set (set t (4609 + n * 2) v) k n) (4608 + n * 2) k) 6656 (n + 1)) k v
+  unfolding mapOf
+  inserted k v n ok new is low room = push t (counted k v n low room) k v (stored-push k v n low room is) ok (miss-none t k (countOf t) new) low (omega arith)

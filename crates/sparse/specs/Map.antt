@@ -45,11 +45,6 @@ keysFrom t (suc n) = keysFrom t n ++ (keyAt t n ∷ [])
 unfoldable pub keysOf : List ℕ → List ℕ
 keysOf t = keysFrom t (countOf t)
 
--- the keys once k is put in, of which the look-up gave o: k comes last where it was new
-abbrev pub grown : Option ℕ → List ℕ → ℕ → List ℕ
-grown none keys k = keys ++ (k ∷ [])
-grown (some v) keys k = keys
-
 -- a look-up gave something
 abbrev pub known : Option ℕ → Bool
 known none = false
@@ -77,10 +72,10 @@ pub record Emptied (t u : List ℕ) : Type 0 where
   pub linked : Linked u
   pub rest : u ≡ set t 6656 0
 
--- k put in at v
+-- k, which was not there, put in at v: it comes last
 pub record Inserted (t u : List ℕ) (k v : ℕ) : Type 0 where
   pub map : mapOf u ≡ updated (mapOf t) k v
-  pub keys : keysOf u ≡ grown (mapOf t k) (keysOf t) k
+  pub keys : keysOf u ≡ keysOf t ++ (k ∷ [])
   pub linked : Linked u
 
 -- what the enum of the code stands for

@@ -1,5 +1,6 @@
 // 01: "the writer of each unit". A sparse map from units to numbers, in one lent table that may hold anything before it is cleared.
 ghost use mathlib.Core.Path.{_≡_};
+ghost use mathlib.Core.Option.{none};
 ghost use Prim.Native.Nat.{_<_};
 ghost use lib.ListN.{length, getD};
 ghost use Rattle.sparse.specs.Map.{mapOf, keysOf, foundOf, Linked, Placed, Emptied, Inserted};
@@ -74,19 +75,15 @@ pub fn get(t: &SparseMap, u: AllocationUnit) -> Found
     Found::Value(t[4609 + i * 2])
 }
 
-// A key is put in, or its value replaced.
+// A key that is not there is put in.
 pub fn insert(t: &mut SparseMap, u: AllocationUnit, v: u16)
-    requires { ⌜ Linked (now t) × (u .0 < 4608) × (length (keysOf (now t)) < 1024) ⌝ }
+    requires { ⌜ Linked (now t) × (u .0 < 4608) × (length (keysOf (now t)) < 1024) × (mapOf (now t) (u .0) ≡ none) ⌝ }
     ensures { λ _. ⌜ Inserted (now (t .entry)) (now (t .exit)) (u .0) v ⌝ }
 {
     told(*t);
     let k = u.0 as usize;
     let n = wide(t[6656]);
-    let i = place_of(t, k);
-    t[4609 + i * 2] = v;
-    if i < n {
-        return;
-    }
+    t[4609 + n * 2] = v;
     t[k] = narrow(n);
     t[4608 + n * 2] = u.0;
     t[6656] = narrow(n + 1);

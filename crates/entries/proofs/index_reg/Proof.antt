@@ -1,9 +1,9 @@
--- `index_reg` meets its contract: the table with each cell told equals this one with those from here on told.
+-- `index_reg` meets its contract: the table with each cell written equals this one with those from here on written.
 use Prim.Native.Nat.{ℕ, _≤_, _-_}
 use mathlib.Core.Path.{_≡_, refl, sym, ap, _∙_}
 use mathlib.Core.List.{List}
 use native.Mathlib.Omega.{arith}
-use lib.ListN.{length, drop, length-set, drop-of-length-le}
+use lib.ListN.{length, drop, drop-of-length-le}
 use Rattle.entity.proofs.Laws.{has-getD}
 use Rattle.reginfo.specs.RegInfo.{regUnits}
 use Rattle.reginfo.specs.Table.{regInfoOf}
@@ -14,37 +14,22 @@ use Rattle.entries.proofs.index_reg.Statement.{statement}
 use Rattle.entries.proofs.index_reg.Tie as tie
 
 abbrev Inv-loop : tie.InvT-loop
-Inv-loop t e₀ r m n j₀ e j = (indexed e₀ (regUnits (regInfoOf t) (r .0)) m 0 ≡ indexed e (drop j (regUnits (regInfoOf t) (r .0))) m j) × (j ≤ length (regUnits (regInfoOf t) (r .0))) × (length e ≡ 1540)
+Inv-loop t e₀ r x n j₀ e j = (indexed e₀ (regUnits (regInfoOf t) (r .0)) x ≡ indexed e (drop j (regUnits (regInfoOf t) (r .0))) x) × (j ≤ length (regUnits (regInfoOf t) (r .0)))
 
 abbrev μ-loop : tie.MeasureT-loop
-μ-loop t e₀ r m n j₀ e j = length (regUnits (regInfoOf t) (r .0)) - j
-
-told-requires : tie.Need-told-requires Inv-loop μ-loop
-told-requires c κs = search needs
+μ-loop t e₀ r x n j₀ e j = length (regUnits (regInfoOf t) (r .0)) - j
 
 num-reg-units-requires : tie.Need-num-reg-units-requires Inv-loop μ-loop
-num-reg-units-requires c κs = search needs
+num-reg-units-requires c κs = c .pre .known
 
 loop-holds : tie.Need-loop-holds Inv-loop μ-loop
-loop-holds c = search needs
+loop-holds c = (refl, omega arith)
 
 reg-unit-requires : tie.Need-reg-unit-requires Inv-loop μ-loop
-reg-unit-requires c κs = search needs
+reg-unit-requires c κs = let s = c .before .before .before in (s .pre .known, omega arith, omega (arith, s .pre .few))
 
 wide-requires : tie.Need-wide-requires Inv-loop μ-loop
 wide-requires c κs = search needs
-
-mul-narrow : tie.Need-mul-narrow Inv-loop μ-loop
-mul-narrow c = search needs
-
-add-narrow : tie.Need-add-narrow Inv-loop μ-loop
-add-narrow c = search needs
-
-narrow-requires : tie.Need-narrow-requires Inv-loop μ-loop
-narrow-requires c κs = search needs
-
-wide-requires-2 : tie.Need-wide-requires-2 Inv-loop μ-loop
-wide-requires-2 c κs = search needs
 
 add-e : tie.Need-add-e Inv-loop μ-loop
 add-e c = search needs
@@ -54,9 +39,9 @@ mul-e c = search needs
 
 element-write-e : tie.Need-element-write-e Inv-loop μ-loop
 element-write-e c =
-    let s = c .before .before .before .before .before .before .before .before .before in
+    let s = c .before .before .before .before .before in
     let us = regUnits (regInfoOf (s .args .t .now)) (s .args .r .0) in
-    omega (arith, s .pre .0 .low _ (has-getD us (c .before .before .before .before .before .loop .j) (omega arith)), c .before .before .before .reg-unit .ensures)
+    omega (arith, s .pre .low _ (has-getD us (c .before .before .before .loop .j) (omega arith)), c .before .reg-unit .ensures)
 
 add-j : tie.Need-add-j Inv-loop μ-loop
 add-j c = search needs
@@ -66,17 +51,17 @@ loop-less c = search needs
 
 loop-again : tie.Need-loop-again Inv-loop μ-loop
 loop-again c =
-    let s = c .before .before .before .before .before .before .before .before .before in
-    let l = c .before .before .before .before .before .loop in
+    let s = c .before .before .before .before .before in
+    let l = c .before .before .before .loop in
     let us = regUnits (regInfoOf (s .args .t .now)) (s .args .r .0) in
-    (l .inv .0 ∙ indexed-step (l .e) us (s .args .m) (l .j) (omega arith) ∙ rw (c .wide2 .ensures .0, c .before .before .before .reg-unit .ensures, c .before .narrow .ensures, c .before .before .wide .ensures .0), omega arith, length-set (l .e) _ _ ∙ l .inv .2)
+    (l .inv .0 ∙ indexed-step (l .e) us (s .args .x) (l .j) (omega arith) ∙ rw (c .wide .ensures .0, c .before .reg-unit .ensures), omega arith)
 
 returns : tie.Need-returns Inv-loop μ-loop
 unfolding indexed
 returns c =
-    let s = c .before .before .before .before .before in
+    let s = c .before .before .before in
     let l = c .before .loop in
-    (sym (l .inv .0 ∙ ap (λ (k : List ℕ). indexed (l .e) k (s .args .m) (l .j)) (drop-of-length-le (regUnits (regInfoOf (s .args .t .now)) (s .args .r .0)) {i = l .j} (omega arith))), c .before .before .before .told .ensures)
+    sym (l .inv .0 ∙ ap (λ (k : List ℕ). indexed (l .e) k (s .args .x)) (drop-of-length-le (regUnits (regInfoOf (s .args .t .now)) (s .args .r .0)) {i = l .j} (omega arith)))
 
 pub index-reg-spec : {M : Type 1} → statement M
 index-reg-spec =
@@ -84,15 +69,10 @@ index-reg-spec =
     (tie.spec
     Inv-loop
     μ-loop
-    told-requires
     num-reg-units-requires
     loop-holds
     reg-unit-requires
     wide-requires
-    mul-narrow
-    add-narrow
-    narrow-requires
-    wide-requires-2
     add-e
     mul-e
     element-write-e

@@ -29,7 +29,7 @@ returns c =
     refused-21 _ _ _ _ (s .pre .0) (s .pre .1) _ _ _ (s .pre .2) (fate-kept _ _ _ _ _ (sym (ap rebuiltOf (c .before .before .before .before .before .before .enum-told .given .1)) ∙ c .before .before .before .before .before .before .before .before .move-fate .ensures)) (sym (c .before .before .before .before .is-written .ensures) ∙ not-true _ (c .before .before .before .if1 .taken)) (sym (c .before .overlaps-source .ensures) ∙ c .if2 .taken)
 
 keep-requires : tie.Need-keep-requires
-keep-requires c κs = let s = c .before .before .before .before .before .before .before .before .before .before .before in (roomy _ _ _ _ (s .pre .1) (rw entries-count at (s .pre .2 .less)), writable _ _ (s .pre .0) (placeAt (s .args .source .0)) (s .pre .2 .source-named) .known, writable _ _ (s .pre .0) _ (s .pre .2 .dest-named))
+keep-requires c κs = let s = c .before .before .before .before .before .before .before .before .before .before .before in (roomy _ _ _ _ (s .pre .1) (rw entries-count at (s .pre .2 .less)), writable _ _ (s .pre .0) (placeAt (s .args .source .0)) (s .pre .2 .source-named) .known, writable _ _ (s .pre .0) _ (s .pre .2 .dest-named), sym (c .before .before .before .before .before .before .is-written .ensures) ∙ not-true _ (c .before .before .before .before .before .if1 .taken))
 
 returns-2 : tie.Need-returns-2
 returns-2 c =
@@ -46,7 +46,7 @@ returns-3 : tie.Need-returns-3
 returns-3 c =
     let s = c .before .before .before .before .before .before .before .before .before .before .before .before in
     let e = s .args .e .now in
-    added-dropped _ _ _ _ (s .pre .0) (s .pre .1) _ _ _ (s .pre .2) (fate-kept _ _ _ _ _ (sym (ap rebuiltOf (c .before .before .before .before .before .before .before .before .before .enum-told .given .1)) ∙ c .before .before .before .before .before .before .before .before .before .before .before .move-fate .ensures)) (sym (c .before .before .before .before .before .before .before .is-written .ensures) ∙ not-false _ (c .before .before .before .before .before .before .if1 .left)) (sym (c .before .before .before .is-dropped .ensures) ∙ c .before .before .if3 .taken) _ (dropped-done e (roomy _ _ _ _ (s .pre .1) (rw entries-count at (s .pre .2 .less)) .few) _ (c .count-entry .ensures .1) (c .count-entry .ensures .0)) (λ u. rw (c .count-entry .ensures .0) (counted-index e u))
+    added-dropped _ _ _ _ (s .pre .0) (s .pre .1) _ _ _ (s .pre .2) (fate-kept _ _ _ _ _ (sym (ap rebuiltOf (c .before .before .before .before .before .before .before .before .before .enum-told .given .1)) ∙ c .before .before .before .before .before .before .before .before .before .before .before .move-fate .ensures)) (sym (c .before .before .before .before .before .before .before .is-written .ensures) ∙ not-false _ (c .before .before .before .before .before .before .if1 .left)) (sym (c .before .before .before .is-dropped .ensures) ∙ c .before .before .if3 .taken) _ (dropped-done e (roomy _ _ _ _ (s .pre .1) (rw entries-count at (s .pre .2 .less)) .few) _ (c .count-entry .ensures .1) (c .count-entry .ensures .0)) (λ x h. rw (c .count-entry .ensures .0) (counted-index e x h))
 
 enum-known-scratch : tie.Need-enum-known-scratch
 enum-known-scratch c = search needs

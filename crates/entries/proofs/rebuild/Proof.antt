@@ -15,7 +15,7 @@ put-remat-requires : tie.Need-put-remat-requires
 put-remat-requires c κs = search needs
 
 note-writes-requires : tie.Need-note-writes-requires
-note-writes-requires c κs = search needs
+note-writes-requires c κs = let s = c .before .before .before .before .before .before in (s .pre .0 .linked, s .pre .1, s .pre .0 .keys, sym (c .before .before .before .before .is-written .ensures) ∙ c .before .before .before .if1 .left)
 
 returns-2 : tie.Need-returns-2
 returns-2 c = rebuild-taken _ _ _ _ _ _ _ (sym (c .before .before .before .before .before .is-written .ensures) ∙ c .before .before .before .before .if1 .left) (c .before .before .put-remat .ensures) (c .note-writes .ensures)

@@ -1,7 +1,7 @@
--- `insert` meets its contract: the value is replaced, or the new key goes to the end.
+-- `insert` meets its contract: the new key goes to the end.
 use native.Mathlib.Omega.{arith}
+use Rattle.sparse.proofs.Laws.{length-keys, inserted}
 use borrow.Author.Needs.{needs}
-use Rattle.sparse.proofs.Laws.{length-keys, stored, pushed}
 use Rattle.sparse.proofs.insert.Statement.{statement}
 use Rattle.sparse.proofs.insert.Tie as tie
 
@@ -17,9 +17,6 @@ element-copy-out-wide c = search needs
 wide-requires : tie.Need-wide-requires
 wide-requires c κs = search needs
 
-place-of-requires : tie.Need-place-of-requires
-place-of-requires c κs = search needs
-
 mul-t : tie.Need-mul-t
 mul-t c = search needs
 
@@ -30,13 +27,7 @@ mul-t-2 : tie.Need-mul-t-2
 mul-t-2 c = search needs
 
 element-write-t : tie.Need-element-write-t
-element-write-t c = omega (arith, length-keys (c .before .before .before .before .before .before .before .args .t .now))
-
-returns : tie.Need-returns
-returns c =
-    let s = c .before .before .before .before .before .before .before .before in
-    let p = c .before .place-of in
-    stored (s .args .t .now) (c .before .before .before .before .before .before .told .ensures) (s .args .u .0) (s .args .v) (p .result) (s .pre .0) (p .ensures) (omega arith)
+element-write-t c = omega (arith, length-keys (c .before .before .before .before .before .args .t .now))
 
 narrow-requires : tie.Need-narrow-requires
 narrow-requires c κs = search needs
@@ -68,14 +59,12 @@ narrow-requires-2 c κs = search needs
 element-write-t-4 : tie.Need-element-write-t-4
 element-write-t-4 c = search needs
 
-returns-2 : tie.Need-returns-2
-returns-2 c =
-    let s = c .before .before .before .before .before .before .before .before .before .before in
+returns : tie.Need-returns
+returns c =
+    let s = c .before .before .before .before .before .before .before in
     let t = s .args .t .now in
-    let p = c .before .before .before .place-of in
-    let n = c .before .before .before .before .before .wide in
-    rw (c .narrow2 .ensures, c .before .narrow .ensures)
-    (pushed t (c .before .before .before .before .before .before .before .before .told .ensures) (s .args .u .0) (s .args .v) (p .result) (s .pre .0) (p .ensures) (n .result) (n .ensures .0) (s .pre .1) (omega (arith, length-keys t)) (c .before .before .if1 .left))
+    let n = c .before .before .wide in
+    rw (c .narrow2 .ensures, c .before .narrow .ensures) (inserted t (c .before .before .before .before .before .told .ensures) (s .args .u .0) (s .args .v) (n .result) (s .pre .0) (s .pre .3) (n .ensures .0) (s .pre .1) (omega (arith, length-keys t)))
 
 pub insert-spec : {M : Type 1} → statement M
 insert-spec =
@@ -85,12 +74,10 @@ insert-spec =
     cast-k
     element-copy-out-wide
     wide-requires
-    place-of-requires
     mul-t
     add-t
     mul-t-2
     element-write-t
-    returns
     narrow-requires
     mul-t-3
     element-write-t-2
@@ -101,4 +88,4 @@ insert-spec =
     add-narrow
     narrow-requires-2
     element-write-t-4
-    returns-2)
+    returns)
