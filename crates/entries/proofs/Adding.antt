@@ -24,9 +24,9 @@ use Rattle.sparse.specs.Map.{mapOf, known}
 use Rattle.entries.specs.Table.{moveAt, sortedOf, isMoveOf, keptMove, rebuiltAs, withMove, withRemat, withDropped}
 use Rattle.function.specs.Known.{Checked}
 use Rattle.entries.specs.Known.{Writable, NamedRemat, NamedMove, isWritten, Noted, Roomy, orRebuilt, writerOf, SameIndex, Tracked, PassedMove, EntriesOk}
-use Rattle.entries.specs.Answers.{KeptAs, AddedAs, RebuiltAs}
+use Rattle.entries.specs.Answers.{IndexedAs, KeptAs, AddedAs, RebuiltAs}
 use Rattle.entries.proofs.Lists.{both-ways, pick-none, any-true, any-where, any-only, meets-any}
-use Rattle.entries.proofs.Table.{kept-count, remats-count, scratch-count, entries-count, kept-is}
+use Rattle.entries.proofs.Table.{kept-count, remats-count, scratch-count, entries-count, kept-is, low-same}
 use Rattle.entries.proofs.Writers.{known-none, known-from, overlaps-written, tracked-move, tracked-remat}
 use Rattle.entries.proofs.Fates.{writable}
 use Rattle.entries.proofs.Sources.{indexed-same, indexed-kept}
@@ -60,6 +60,11 @@ roomy t f e w ok less =
       keys = omega (arith, ok .few, ok .room, entries-count e);
       linked = ok .linked;
     }
+
+-- the index does not count
+pub roomy-low : (e e′ w : List ℕ) → Roomy e w → ((y : ℕ) → y < 1028 → getD e′ y 0 ≡ getD e y 0) → Roomy e′ w
+roomy-low e e′ w r low =
+    record { few = rw (low 1024 (omega arith), low 1025 (omega arith), low 1026 (omega arith)) (r .few); count = rw (low 1027 (omega arith)) (r .count); keys = r .keys; linked = r .linked }
 
 -- a rebuild refused, and one taken
 pub rebuild-refused : (e w us : List ℕ) (b : Bool) (x : Remat) → any (isWritten w) us ≡ true → RebuiltAs e w e w us b x (some 12)
@@ -176,7 +181,7 @@ module _ (t f e w : List ℕ) (ok : Checked t f) (kept : EntriesOk t f e w) wher
 
   -- a refused entry, and one that is taken
   refused-by : (x : Entry) (n : ℕ) → firstOf (entryConditions T F a x) ≡ some n → AddedAs t f e w e w x (some n)
-  refused-by x n h = record { is = sym h; yes = λ q. (let z : _≡_ {A = ℕ} 0 1 = cc in absurd (omega arith)); no = λ m q. (refl, refl) }
+  refused-by x n h = record { is = sym h; yes = λ q. (let z : _≡_ {A = ℕ} 0 1 = cc in absurd (omega arith)); no = λ m q. (refl, refl, kept) }
 
   -- 15 and 2
   pub refused-15 : (x : Entry) → 128 ≤ a .count → AddedAs t f e w e w x (some 15)
@@ -235,7 +240,7 @@ module _ (t f e w : List ℕ) (ok : Checked t f) (kept : EntriesOk t f e w) wher
             let ok = rw q at (sorted-add T F x a (kept .sorted) (given ∙ sym (done .is) ∙ z)) in
             let apart = overlaps-is (placeAt d) ∙ pick-none (any (isWritten w) (placeUnits T (placeAt d))) 12 (sym z ∙ done .is) in
             (m .0 ∙ sym q, rw (m .0) (tracked-remat T F a (placeAt d) apart e e′ w w′ kept less (writes .few) b v (m .1) ok (m .2))));
-        no = done .no;
+        no = λ n z. (let q = done .no n z in rw (q .0, q .1) (refl, refl, kept));
       }
 
   -- an entry that asks for a rebuild
@@ -271,8 +276,14 @@ module _ (t f e w : List ℕ) (ok : Checked t f) (kept : EntriesOk t f e w) wher
       new : written ≡ false → there ≡ false
       new h = rw (known-none (mapOf w (getD (placeUnits T (placeAt d)) 0 0)) (any-has (isWritten w) (placeUnits T (placeAt d)) _ h (has-getD (placeUnits T (placeAt d)) 0 (dest-writable .some))))
 
-      pub refused-21 : written ≡ false → overlapsSource T a (placeAt s) ≡ true → AddedAs t f e w e w (move (placeAt s) (placeAt d) v) (some 21)
-      refused-21 h g = refused-by (move (placeAt s) (placeAt d) v) 21 (kept-conditions ∙ rw (h, new h, g))
+      pub refused-21 : written ≡ false → (e′ : List ℕ) → IndexedAs T e e′ (placeAt s) true → AddedAs t f e w e′ w (move (placeAt s) (placeAt d) v) (some 21)
+      refused-21 h e′ i =
+          let same = low-same e e′ (i .low) (omega (arith, kept .few, p .less, kept-count e)) (omega (arith, kept .few, p .less, remats-count e)) (omega (arith, kept .few, p .less, scratch-count e)) in
+          record {
+            is = sym (kept-conditions ∙ rw (h, new h, sym (i .is)));
+            yes = λ q. (let z : _≡_ {A = ℕ} 0 1 = cc in absurd (omega arith));
+            no = λ m q. (same, refl, rw same record { sorted = kept .sorted; few = kept .few; most = kept .most; map = kept .map; linked = kept .linked; room = kept .room; indexed = i .no refl });
+          }
 
       pub added-dropped : written ≡ true → there ≡ true → (e′ : List ℕ) → sortedOf e′ ≡ withDropped a → SameIndex e e′ → AddedAs t f e w e′ w (move (placeAt s) (placeAt d) v) none
       unfolding add writerOf
@@ -287,8 +298,8 @@ module _ (t f e w : List ℕ) (ok : Checked t f) (kept : EntriesOk t f e w) wher
           let is : add T F (move (placeAt s) (placeAt d) v) a ≡ withMove (keptMove s d v) a = rw (q, same-there s d v dest-writable, new h) in
           taken (move (placeAt s) (placeAt d) v) e′ w′ (kept-conditions ∙ rw (h, new h, g)) (done .sorted ∙ sym is)
           (λ o. rw is
-              (tracked-move T F a (placeAt d) (overlaps-is (placeAt d) ∙ h) e e′ w w′ kept (p .less) (dest-writable .few) (placeAt s) v (done .noted) (rw is at o)
-              (indexed-kept T F e w e′ w′ s d v (omega (arith, kept .few, p .less)) (kept .indexed) done (rw is at o))))
+          (tracked-move T F a (placeAt d) (overlaps-is (placeAt d) ∙ h) e e′ w w′ kept (p .less) (dest-writable .few) (placeAt s) v (done .noted) (rw is at o)
+          (indexed-kept T F e w e′ w′ s d v (omega (arith, kept .few, p .less)) (kept .indexed) done (rw is at o))))
 
     -- a move that is rebuilt
     pub added-instead : (b : Bool) → becomesRemat T F (placeAt s) (placeAt d) v ≡ true → needsScratch T F (placeAt d) v ≡ b → (e′ w′ : List ℕ) (r : Option ℕ) → RebuiltAs e w e′ w′ (placeUnits T (placeAt d)) b (rebuiltAs d v) r

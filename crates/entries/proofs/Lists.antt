@@ -6,8 +6,8 @@ use mathlib.Core.List.{List, [], _∷_, _++_, map}
 use mathlib.Core.Option.{none, some}
 use native.Mathlib.Omega.{arith}
 use lib.ListN.{getD, length, drop}
-use Rattle.entity.specs.Logic.{pick, or, any, has, meets}
-use Rattle.entity.proofs.Laws.{never-true, drop-step}
+use Rattle.entity.specs.Logic.{pick, or, any, has, meets, twice}
+use Rattle.entity.proofs.Laws.{or-false, never-true, drop-step}
 
 pub or-none : (a : Bool) → or a false ≡ a
 or-none true = refl
@@ -103,3 +103,10 @@ pub meets-any : (l m : List ℕ) → meets l m ≡ any (λ u. has u m) l
 unfolding meets any
 meets-any [] m = refl
 meets-any (x ∷ l) m = ap (or (has x m)) (meets-any l m)
+
+-- what stands at j does not stand behind it
+pub twice-at : (us : List ℕ) (j : ℕ) → twice us ≡ false → j < length us → has (getD us j 0) (drop (j + 1) us) ≡ false
+unfolding twice
+twice-at [] j e h = absurd (omega arith)
+twice-at (u ∷ us) zero e h = or-false (has u us) (twice us) e .0
+twice-at (u ∷ us) (suc j) e h = let z : suc j + 1 ≡ suc (j + 1) = omega arith in rw z (twice-at us j (or-false (has u us) (twice us) e .1) (omega arith))

@@ -3,14 +3,15 @@ use Prim.Native.Nat.{ℕ, zero, suc, _+_, _*_, _/_, _%_, _<_, _≤_}
 use mathlib.Core.Path.{_≡_, refl, sym, ap, _∙_}
 use mathlib.Core.Bool.{Bool, true, false, true≢false, false≢true}
 use mathlib.Core.List.{List, [], _∷_, _++_}
+use mathlib.Core.Logic.{_⊎_, inl, inr}
 use native.Mathlib.Omega.{arith}
 use lib.Dec.{eqb, ltb}
-use lib.ListN.{getD, length, drop, set, length-set, length-append, List·getD-append}
+use lib.ListN.{getD, length, drop, set, length-set, length-append, drop-of-length-le, List·getD-append}
 use lib.Seq.{getD-set-same, getD-set-other}
 use borrow.Author.Tests.{eqb-true, eqb-false, eq-eqb, ne-eqb, lt-ltb, ltb-true, ltb-false}
-use Rattle.entity.specs.Logic.{and, or, no, any, has}
+use Rattle.entity.specs.Logic.{and, or, no, any, has, twice}
 use Rattle.entity.specs.Place.{Place, reg, slot, samePlace, placeAt}
-use Rattle.entity.proofs.Laws.{or-false, and-true, no-false, never-true, any-has, has-getD, meets-comm, drop-step}
+use Rattle.entity.proofs.Laws.{or-false, and-true, never-true, any-at, any-has, has-getD, meets-comm, drop-step}
 use Rattle.reginfo.specs.RegInfo.{RegInfo, regUnits, placeUnits, overlap}
 use Rattle.reginfo.specs.Known.{KnownUnits, KnownPlace}
 use Rattle.reginfo.specs.Table.{regInfoOf}
@@ -23,9 +24,9 @@ use Rattle.rules.specs.Patch.{Sorted, overlapsSource}
 use Rattle.rules.specs.Sorted.{SortedOk}
 use Rattle.rules.proofs.Accepted.{same-self, same-is}
 use Rattle.entries.specs.Table.{moveAt, sortedOf, stampOf, countedOne, storedMove, indexed, sourceIndexed, keptMove, withMove}
-use Rattle.entries.specs.Known.{Noted, clashesAt, Points, Indexed, Sourced, SameIndex, EntriesOk}
-use Rattle.entries.specs.Answers.{KeptAs}
-use Rattle.entries.proofs.Lists.{both-ways, any-true, any-where, any-same, any-swap, meets-any}
+use Rattle.entries.specs.Known.{Noted, clashesAt, Points, Indexed, SourcedAt, Sourced, SameIndex, EntriesOk}
+use Rattle.entries.specs.Answers.{IndexedAs, KeptAs}
+use Rattle.entries.proofs.Lists.{or-right, both-ways, any-step, any-true, any-where, any-same, any-swap, meets-any, twice-at}
 use Rattle.entries.proofs.Table.{kept-count, remats-count, scratch-count, kept-is, low-same, counted-index, move-index, kept-done}
 use Rattle.entries.proofs.Fates.{writable}
 
@@ -57,7 +58,12 @@ end-is [] x d = refl
 end-is (y ∷ l) x d = end-is l x d
 
 -- ---- the cells written
-pub indexed-low : (e us : List ℕ) (x y : ℕ) → y < 1028 → getD (indexed e us x) y 0 ≡ getD e y 0
+indexed-length : (e us : List ℕ) (x : ℕ) → length (indexed e us x) ≡ length e
+unfolding indexed
+indexed-length e [] x = refl
+indexed-length e (u ∷ us) x = indexed-length (set e (1028 + u) x) us x ∙ length-set e (1028 + u) x
+
+indexed-low : (e us : List ℕ) (x y : ℕ) → y < 1028 → getD (indexed e us x) y 0 ≡ getD e y 0
 unfolding indexed
 indexed-low e [] x y h = refl
 indexed-low e (u ∷ us) x y h = indexed-low (set e (1028 + u) x) us x y h ∙ getD-set-other e (1028 + u) y x 0 (λ q. omega arith)
@@ -80,7 +86,7 @@ indexed-cell e (y ∷ us) x u low h = go (has u us) refl h (indexed-cell (set e 
         let same : u ≡ y = eqb-true u y (or-first (eqb u y) z) in
         indexed-other (set e (1028 + y) x) us x u q ∙ rw (← same) (getD-set-same e (1028 + u) x 0 low)
 
-pub indexed-step : (e us : List ℕ) (x j : ℕ) → j < length us → indexed e (drop j us) x ≡ indexed (set e (1028 + getD us j 0) x) (drop (j + 1) us) x
+indexed-step : (e us : List ℕ) (x j : ℕ) → j < length us → indexed e (drop j us) x ≡ indexed (set e (1028 + getD us j 0) x) (drop (j + 1) us) x
 unfolding indexed
 indexed-step e us x j h = ap (λ (l : List ℕ). indexed e l x) (drop-step us j 0 h)
 
@@ -89,6 +95,10 @@ module _ (t : RegInfo) where
   source-low : (e : List ℕ) (p : Place) (m y : ℕ) → y < 1028 → getD (sourceIndexed t e p m) y 0 ≡ getD e y 0
   source-low e (reg r) m y h = indexed-low e (regUnits t r) (stampOf e * 128 + m) y h
   source-low e (slot s) m y h = refl
+
+  source-length : (e : List ℕ) (p : Place) (m : ℕ) → length (sourceIndexed t e p m) ≡ 1541 → length e ≡ 1541
+  source-length e (reg r) m h = sym (indexed-length e (regUnits t r) (stampOf e * 128 + m)) ∙ h
+  source-length e (slot s) m h = h
 
   source-told : (e : List ℕ) (p : Place) (m u : ℕ) → length e ≡ 1541 → u < 512 → has u (placeUnits t p) ≡ true → getD (sourceIndexed t e p m) (1028 + u) 0 ≡ stampOf e * 128 + m
   unfolding has
@@ -123,26 +133,50 @@ module _ (t : RegInfo) where
   slot-clear a s known =
       never-true (overlapsSource t a (slot s))
       (λ h. let k = any-where (λ (m : KeptMove). and (overlap t (m .source) (slot s)) (no (samePlace (m .source) (slot s)))) (a .moves) noMove h in
-          let p = getD (a .moves) (k .0) noMove .source in
-          false≢true (sym (rw (overlap-slot t p s (known (k .0) (k .1))) (and-not (samePlace p (slot s)))) ∙ k .2))
+      let p = getD (a .moves) (k .0) noMove .source in
+      false≢true (sym (rw (overlap-slot t p s (known (k .0) (k .1))) (and-not (samePlace p (slot s)))) ∙ k .2))
 
 source-is : (e : List ℕ) (m : ℕ) → m < length (sortedOf e .moves) → getD (sortedOf e .moves) m noMove .source ≡ placeAt (getD e (m * 4) 0)
 unfolding moveAt
 source-is e m h = ap (λ (k : KeptMove). k .source) (kept-is e m h)
 
-pub sourced : (t f e w : List ℕ) → Checked t f → EntriesOk t f e w → Sourced (regInfoOf t) e
-sourced t f e w ok kept =
+pub sourced : (t f e w : List ℕ) → Checked t f → EntriesOk t f e w → sortedOf e .count < 128 → Sourced (regInfoOf t) e
+sourced t f e w ok kept less =
     record {
-      few = omega (arith, kept .few, kept .most, kept-count e);
+      few = omega (arith, kept .few, kept-count e, remats-count e, scratch-count e);
       known = λ m h. (let l : m < length (sortedOf e .moves) = rw (kept-count e) h in rw (source-is e m l) at (writable t f ok (getD (sortedOf e .moves) m noMove .source) (kept .sorted .moves m l .source-named) .known));
       indexed = kept .indexed;
+      apart = kept .sorted .sources;
     }
 
-pub sources-known : (t : RegInfo) (e : List ℕ) → Sourced t e → (k : ℕ) → k < length (sortedOf e .moves) → KnownPlace t (getD (sortedOf e .moves) k noMove .source)
+sources-known : (t : RegInfo) (e : List ℕ) → Sourced t e → (k : ℕ) → k < length (sortedOf e .moves) → KnownPlace t (getD (sortedOf e .moves) k noMove .source)
 sources-known t e so k h = rw (source-is e k h) (so .known k (rw (kept-count e) at h))
 
+not-both : (b : Bool) → no b ≡ false → b ≡ true
+not-both true e = refl
+not-both false e = absurd (true≢false e)
+
+-- a kept source that has a unit at which nothing clashes is register r
+equal-at : (t : RegInfo) (a : Sorted) (r v : ℕ) → clashesAt t a (reg r) v ≡ false → (k : ℕ) → k < length (a .moves) → has v (placeUnits t (getD (a .moves) k noMove .source)) ≡ true → getD (a .moves) k noMove .source ≡ reg r
+unfolding clashesAt
+equal-at t a r v off k l on =
+    let p = getD (a .moves) k noMove .source in
+    same-is p (reg r) (not-both (samePlace p (reg r)) (rw on at (any-at (λ (m : KeptMove). and (has v (placeUnits t (m .source))) (no (samePlace (m .source) (reg r)))) (a .moves) k noMove off l)))
+
+-- where a kept source is register r, nothing that has a unit of it clashes
+no-clash : (t : RegInfo) (a : Sorted) (r u : ℕ) → has u (regUnits t r) ≡ true
+    → ((i k : ℕ) → i < length (a .moves) → k < length (a .moves) → samePlace (getD (a .moves) i noMove .source) (getD (a .moves) k noMove .source) ≡ false → overlap t (getD (a .moves) i noMove .source) (getD (a .moves) k noMove .source) ≡ false)
+    → (k : ℕ) → k < length (a .moves) → getD (a .moves) k noMove .source ≡ reg r → clashesAt t a (reg r) u ≡ true → ⊥
+unfolding clashesAt
+no-clash t a r u on apart k l is h =
+    let i = any-where (λ (m : KeptMove). and (has u (placeUnits t (m .source))) (no (samePlace (m .source) (reg r)))) (a .moves) noMove h in
+    let p = getD (a .moves) (i .0) noMove .source in
+    let w = and-true (has u (placeUnits t p)) (no (samePlace p (reg r))) (i .2) in
+    let o : overlap t p (reg r) ≡ false = rw is at (apart (i .0) k (i .1) l (rw is (no-true (samePlace p (reg r)) (w .1)))) in
+    true≢false (sym on ∙ any-has (λ v. has v (regUnits t r)) (placeUnits t p) u (sym (meets-any (placeUnits t p) (regUnits t r)) ∙ o) (w .0))
+
 -- 21 at unit u, for a source that is register r: by what the cell of the unit tells
-module _ (t : RegInfo) (e : List ℕ) (so : Sourced t e) (r u : ℕ) (low : u < 512) where
+module _ (t : RegInfo) (e : List ℕ) (r u : ℕ) (low : u < 512) (so : SourcedAt t e u) where
   abbrev cell : ℕ
   cell = getD e (1028 + u) 0
 
@@ -155,7 +189,7 @@ module _ (t : RegInfo) (e : List ℕ) (so : Sourced t e) (r u : ℕ) (low : u < 
       let k = any-where (λ (m : KeptMove). and (has u (placeUnits t (m .source))) (no (samePlace (m .source) (reg r)))) (sortedOf e .moves) noMove h in
       let p = getD (sortedOf e .moves) (k .0) noMove .source in
       let w = and-true (has u (placeUnits t p)) (no (samePlace p (reg r))) (k .2) in
-      (p, so .indexed (k .0) u (k .1) low (w .0), no-true (samePlace p (reg r)) (w .1), w .0)
+      (p, so .indexed (k .0) (k .1) (w .0), no-true (samePlace p (reg r)) (w .1), w .0)
 
   -- a cell of another patch
   pub older : (cell / 128 ≡ stampOf e → ⊥) → clash ≡ false
@@ -189,24 +223,139 @@ module _ (t : RegInfo) (e : List ℕ) (so : Sourced t e) (r u : ℕ) (low : u < 
         high true q = let w : u ≡ 512 + s = eqb-true u (512 + s) q in absurd (omega arith)
         high false q = refl
 
+-- ---- the cells of a register, one after the other
+module _ (t : RegInfo) (e₀ : List ℕ) (r x : ℕ) where
+  abbrev us : List ℕ
+  us = regUnits t r
+
+  abbrev at : ℕ → Bool
+  at = clashesAt t (sortedOf e₀) (reg r)
+
+  -- before unit j: none so far clashes, and only their cells are written
+  pub record Indexing (e : List ℕ) (j : ℕ) : Type 0 where
+    pub within : j ≤ length us
+    pub clash : any at us ≡ any at (drop j us)
+    pub all : indexed e₀ us x ≡ indexed e (drop j us) x
+    pub low : (y : ℕ) → y < 1028 → getD e y 0 ≡ getD e₀ y 0
+    pub stamp : getD e 1540 0 ≡ getD e₀ 1540 0
+    pub next : (u : ℕ) → has u (drop j us) ≡ true → getD e (1028 + u) 0 ≡ getD e₀ (1028 + u) 0
+    pub written : (u : ℕ) → (getD e (1028 + u) 0 ≡ getD e₀ (1028 + u) 0) ⊎ ((has u us ≡ true) × (at u ≡ false))
+
+  pub indexing-start : Indexing e₀ 0
+  indexing-start = record { within = omega arith; clash = refl; all = refl; low = λ y h. refl; stamp = refl; next = λ u h. refl; written = λ u. inl refl }
+
+  module _ (so : Sourced t e₀) (known : KnownUnits t r) (once : twice (regUnits t r) ≡ false) (e : List ℕ) (j : ℕ) (i : Indexing e j) where
+    same-sorted : sortedOf e ≡ sortedOf e₀
+    same-sorted = low-same e₀ e (i .low) (omega (arith, so .few)) (omega (arith, so .few)) (omega (arith, so .few))
+
+    module _ (below : j < length us) where
+      abbrev u : ℕ
+      u = getD us j 0
+
+      here : has u (drop j us) ≡ true
+      unfolding has
+      here = rw (drop-step us j 0 below, eq-eqb u u refl)
+
+      pub unit-low : u < 512
+      unit-low = known .low u (has-getD us j below)
+
+      pub looked-at : SourcedAt t e u
+      looked-at =
+          let c = i .next u here in
+          record {
+            few = rw (i .low 1024 (omega arith)) (omega (arith, so .few));
+            known = λ m h. (let l : m < getD e₀ 1024 0 = rw (i .low 1024 (omega arith)) at h in rw (i .low (m * 4) (omega (arith, so .few))) (so .known m l));
+            indexed =
+                rw same-sorted
+                (λ k h on. (let p = so .indexed k u h unit-low on in record { stamp = rw (c, i .stamp) (p .stamp); kept = rw c (p .kept); source = rw c (p .source) }));
+          }
+
+      at-is : (o : Bool) → o ≡ clashesAt t (sortedOf e) (reg r) u → at u ≡ o
+      at-is o h = sym (rw same-sorted at h)
+
+      -- the unit clashes: none of the cells written is a kept source's
+      pub indexing-clash : true ≡ clashesAt t (sortedOf e) (reg r) u → IndexedAs t e₀ e (reg r) true
+      indexing-clash h =
+          let hit = at-is true h in
+          record {
+            is = sym (clashes-all t (sortedOf e₀) (reg r) ∙ i .clash ∙ any-step at us j 0 below ∙ rw hit);
+            low = i .low;
+            yes = λ q. absurd (true≢false q);
+            no = λ q. λ k v l m on. (let p = so .indexed k v l m on in by k v l on p (i .written v) hit);
+          }
+        where
+          by : (k v : ℕ) → k < length (sortedOf e₀ .moves) → has v (placeUnits t (getD (sortedOf e₀ .moves) k noMove .source)) ≡ true → Points t (sortedOf e₀) e₀ v (getD (sortedOf e₀ .moves) k noMove .source)
+              → (getD e (1028 + v) 0 ≡ getD e₀ (1028 + v) 0) ⊎ ((has v us ≡ true) × (at v ≡ false)) → at u ≡ true → Points t (sortedOf e₀) e v (getD (sortedOf e₀ .moves) k noMove .source)
+          by k v l on p (inl c) hit = record { stamp = rw (c, i .stamp) (p .stamp); kept = rw c (p .kept); source = rw c (p .source) }
+          by k v l on p (inr z) hit = absurd (no-clash t (sortedOf e₀) r u (has-getD us j below) (so .apart) k l (equal-at t (sortedOf e₀) r v (z .1) k l on) hit)
+
+      -- it does not
+      pub indexing-next : false ≡ clashesAt t (sortedOf e) (reg r) u → Indexing (set e (1028 + u) x) (j + 1)
+      unfolding has
+      indexing-next h =
+          let miss = at-is false h in
+          record {
+            within = omega arith;
+            clash = i .clash ∙ any-step at us j 0 below ∙ rw miss;
+            all = i .all ∙ indexed-step e us x j below;
+            low = λ y l. getD-set-other e (1028 + u) y x 0 (λ q. omega arith) ∙ i .low y l;
+            stamp = getD-set-other e (1028 + u) 1540 x 0 (λ q. omega (arith, unit-low)) ∙ i .stamp;
+            next = λ v l. getD-set-other e (1028 + u) (1028 + v) x 0 (λ q. another v l (omega arith)) ∙ i .next v (later v l);
+            written = λ v. cell v (eqb v u) refl miss;
+          }
+        where
+          another : (v : ℕ) → has v (drop (j + 1) us) ≡ true → v ≡ u → ⊥
+          another v l q = true≢false (sym l ∙ rw q (twice-at us j once below))
+
+          later : (v : ℕ) → has v (drop (j + 1) us) ≡ true → has v (drop j us) ≡ true
+          later v l = rw (drop-step us j 0 below) (or-right (eqb v u) (has v (drop (j + 1) us)) l)
+
+          cell : (v : ℕ) (b : Bool) → eqb v u ≡ b → at u ≡ false → (getD (set e (1028 + u) x) (1028 + v) 0 ≡ getD e₀ (1028 + v) 0) ⊎ ((has v us ≡ true) × (at v ≡ false))
+          cell v true q miss = let z : v ≡ u = eqb-true v u q in inr (rw z (has-getD us j below, miss))
+          cell v false q miss = over (getD-set-other e (1028 + u) (1028 + v) x 0 (λ z. eqb-false v u q (omega arith))) (i .written v)
+            where
+              over : getD (set e (1028 + u) x) (1028 + v) 0 ≡ getD e (1028 + v) 0 → (getD e (1028 + v) 0 ≡ getD e₀ (1028 + v) 0) ⊎ ((has v us ≡ true) × (at v ≡ false))
+                  → (getD (set e (1028 + u) x) (1028 + v) 0 ≡ getD e₀ (1028 + v) 0) ⊎ ((has v us ≡ true) × (at v ≡ false))
+              over c (inl d) = inl (c ∙ d)
+              over c (inr d) = inr d
+
+    -- all are written
+    pub indexing-done : length us ≤ j → x ≡ stampOf e₀ * 128 + getD e₀ 1024 0 → IndexedAs t e₀ e (reg r) false
+    unfolding indexed any
+    indexing-done end is =
+        let gone = drop-of-length-le us {i = j} end in
+        record {
+          is = sym (clashes-all t (sortedOf e₀) (reg r) ∙ i .clash ∙ rw gone);
+          low = i .low;
+          yes = λ q. rw (← is) (sym (i .all ∙ rw gone));
+          no = λ q. absurd (true≢false (sym q));
+        }
+
+-- a slot has no cell
+pub slot-indexed : (t : RegInfo) (e : List ℕ) (s : ℕ) → Sourced t e → IndexedAs t e e (slot s) false
+slot-indexed t e s so = record { is = sym (slot-clear t (sortedOf e) s (sources-known t e so)); low = λ y h. refl; yes = λ q. refl; no = λ q. absurd (true≢false (sym q)) }
+
 -- ---- one entry more
--- the stores of a kept move, one after the other
-pub kept-as : (t : RegInfo) (e e₁ e₂ e₃ w w′ : List ℕ) (s d v : ℕ) → KnownPlace t (placeAt s) → getD e 1024 0 + (getD e 1025 0 + getD e 1026 0) < 128
-    → e₁ ≡ storedMove e (getD e 1024 0) s d v → length e₁ ≡ 1541 → e₂ ≡ countedOne e₁ → length e₂ ≡ 1541 → e₃ ≡ sourceIndexed t e₂ (placeAt s) (getD e 1024 0)
-    → Noted w w′ (placeUnits t (placeAt d)) (getD e 1024 0) → KeptAs t e w e₃ w′ s d v
-kept-as t e e₁ e₂ e₃ w w′ s d v known few p long₁ q long₂ i noted =
-    let done : sortedOf e₂ ≡ withMove (keptMove s d v) (sortedOf e) = kept-done e few e₁ e₂ long₁ q s d v p in
-    let more : length (sortedOf e .moves ++ (keptMove s d v ∷ [])) ≡ length (sortedOf e .moves) + 1 = simp length-append in
-    let kept : getD e₂ 1024 0 ≤ 128 = omega (arith, kept-count e₂, ap (λ (a : Sorted). length (a .moves)) done, more, kept-count e) in
-    let remats : getD e₂ 1025 0 ≤ 128 = omega (arith, remats-count e₂, ap (λ (a : Sorted). length (a .remats)) done, remats-count e) in
-    let scratch : getD e₂ 1026 0 ≤ 128 = omega (arith, scratch-count e₂, ap (λ (a : Sorted). length (a .rematsWithScratch)) done, scratch-count e) in
-    let stayed : SameIndex e e₂ = λ x h. rw (q, p) (counted-index (storedMove e (getD e 1024 0) s d v) x h ∙ move-index e s d v (omega arith) x h) in
+-- the index, then the stores of a kept move, one after the other
+pub kept-as : (t : RegInfo) (e e₁ e₂ w w′ : List ℕ) (s d v : ℕ) → KnownPlace t (placeAt s) → Sourced t e → IndexedAs t e e₁ (placeAt s) false
+    → e₂ ≡ countedOne (storedMove e₁ (getD e₁ 1024 0) s d v) → length e₂ ≡ 1541 → Noted w w′ (placeUnits t (placeAt d)) (getD e₁ 1024 0) → KeptAs t e w e₂ w′ s d v
+kept-as t e e₁ e₂ w w′ s d v known so i q long noted =
+    let few : getD e₁ 1024 0 + (getD e₁ 1025 0 + getD e₁ 1026 0) < 128 = rw (i .low 1024 (omega arith), i .low 1025 (omega arith), i .low 1026 (omega arith)) (so .few) in
+    let m : getD e₁ 1024 0 ≡ getD e 1024 0 = i .low 1024 (omega arith) in
+    let first : sortedOf e₁ ≡ sortedOf e = low-same e e₁ (i .low) (omega (arith, so .few)) (omega (arith, so .few)) (omega (arith, so .few)) in
+    let stored = storedMove e₁ (getD e₁ 1024 0) s d v in
+    let long₀ : length e₁ ≡ 1541 = simp length-set at (rw q at long) in
+    let long₁ : length stored ≡ 1541 = simp length-set long₀ in
+    let long₂ : length e ≡ 1541 = source-length t e (placeAt s) (getD e 1024 0) (rw (i .yes refl) at long₀) in
+    let done : sortedOf e₂ ≡ withMove (keptMove s d v) (sortedOf e₁) = kept-done e₁ few stored e₂ long₁ q s d v refl in
+    let stayed : SameIndex e₁ e₂ = λ x h. rw q (counted-index stored x h ∙ move-index e₁ s d v (omega arith) x h) in
+    let told : SameIndex (sourceIndexed t e (placeAt s) (getD e 1024 0)) e₂ = rw (i .yes refl) at stayed in
     record {
-      sorted = rw i (low-same e₂ (sourceIndexed t e₂ (placeAt s) (getD e 1024 0)) (source-low t e₂ (placeAt s) (getD e 1024 0)) kept remats scratch) ∙ done;
-      noted = rw (kept-count e) noted;
-      stamp = rw i (source-stamp t e₂ (placeAt s) (getD e 1024 0) known ∙ stayed 1540 (omega arith));
-      told = λ u low on. rw (i, kept-count e, ← stayed 1540 (omega arith)) (source-told t e₂ (placeAt s) (getD e 1024 0) u long₂ low on);
-      others = λ u low off. rw i (source-others t e₂ (placeAt s) (getD e 1024 0) u off ∙ stayed (1028 + u) (omega arith));
+      sorted = rw first at done;
+      noted = rw (kept-count e, ← m) noted;
+      stamp = told 1540 (omega arith) ∙ source-stamp t e (placeAt s) (getD e 1024 0) known;
+      told = λ u low on. told (1028 + u) (omega arith) ∙ rw (kept-count e) (source-told t e (placeAt s) (getD e 1024 0) u long₂ low on);
+      others = λ u low off. told (1028 + u) (omega arith) ∙ source-others t e (placeAt s) (getD e 1024 0) u off;
     }
 
 -- a rebuild or a dropped move

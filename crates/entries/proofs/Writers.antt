@@ -1,5 +1,5 @@
 -- The writer of each unit, as entries are added.
-use Prim.Native.Nat.{ℕ, zero, suc, _+_, _<_, _≤_}
+use Prim.Native.Nat.{ℕ, suc, _+_, _<_, _≤_}
 use mathlib.Core.Path.{_≡_, refl, sym, ap, _∙_, fun-ext}
 use mathlib.Core.Bool.{Bool, true, false, true≢false}
 use mathlib.Core.List.{List, [], _∷_, _++_, map}
@@ -20,7 +20,7 @@ use Rattle.sparse.specs.Map.{mapOf, known, updated, foundOf, emptyMap, Emptied}
 use Rattle.sparse.specs.declared.Found.{Found}
 use Rattle.entries.specs.Table.{withMove, withRemat}
 use Rattle.entries.specs.Known.{noted, Noted, orRebuilt, rebuilds, writerOf, places, Indexed, SameIndex, Tracked}
-use Rattle.entries.proofs.Lists.{or-none, or-right, or-assoc, any-append, any-end, any-step, any-map, any-same, any-swap, meets-any}
+use Rattle.entries.proofs.Lists.{or-none, or-right, or-assoc, any-append, any-end, any-step, twice-at, any-map, any-same, any-swap, meets-any}
 use Rattle.entries.proofs.Sources.{indexed-same}
 
 -- what holds of the answer that a look-up found
@@ -162,12 +162,6 @@ unfolding noted
 noted-step g us x j h = ap (λ (l : List ℕ). noted g l x) (drop-step us j 0 h)
 
 -- a unit that had no writer gets one, and those behind it have none yet
-twice-at : (us : List ℕ) (j : ℕ) → twice us ≡ false → j < length us → has (getD us j 0) (drop (j + 1) us) ≡ false
-unfolding twice
-twice-at [] j e h = absurd (omega arith)
-twice-at (u ∷ us) zero e h = or-false (has u us) (twice us) e .0
-twice-at (u ∷ us) (suc j) e h = let z : suc j + 1 ≡ suc (j + 1) = omega arith in rw z (twice-at us j (or-false (has u us) (twice us) e .1) (omega arith))
-
 any-updated : (g : ℕ → Option ℕ) (u x : ℕ) (l : List ℕ) → has u l ≡ false → any (λ v. known (updated g u x v)) l ≡ any (λ v. known (g v)) l
 unfolding any has updated
 any-updated g u x [] h = refl

@@ -6,19 +6,19 @@ use mathlib.Core.List.{List}
 use mathlib.Core.Option.{Option, none, some}
 use lib.ListN.{getD, length}
 use Rattle.entity.specs.Logic.{pick, any, has}
-use Rattle.entity.specs.Place.{placeAt}
+use Rattle.entity.specs.Place.{Place, placeAt}
 use Rattle.reginfo.specs.RegInfo.{RegInfo, placeUnits}
 use Rattle.reginfo.specs.Refused.{firstOf}
 use Rattle.reginfo.specs.Table.{regInfoOf}
 use Rattle.function.specs.Table.{functionOf}
 use Rattle.rules.specs.Order.{Remat}
-use Rattle.rules.specs.Patch.{Entry, entryConditions, add}
+use Rattle.rules.specs.Patch.{Entry, overlapsSource, entryConditions, add}
 use Rattle.entries.specs.declared.Added as A
 use Rattle.entries.specs.declared.Added.{Added}
 use Rattle.entries.specs.declared.Fate as F
 use Rattle.entries.specs.declared.Fate.{Fate}
-use Rattle.entries.specs.Table.{sortedOf, stampOf, keptMove, withMove, withRemat}
-use Rattle.entries.specs.Known.{isWritten, Noted, SameIndex, EntriesOk}
+use Rattle.entries.specs.Table.{sortedOf, stampOf, sourceIndexed, keptMove, withMove, withRemat}
+use Rattle.entries.specs.Known.{isWritten, Noted, Indexed, SameIndex, EntriesOk}
 
 -- the number by which an entry or a patch is refused
 abbrev pub addedOf : Added → Option ℕ
@@ -34,7 +34,15 @@ rebuiltOf (F.the-variants.Rebuilt b) = some b
 pub record AddedAs (t f e w e′ w′ : List ℕ) (x : Entry) (r : Option ℕ) : Type 0 where
   pub is : r ≡ firstOf (entryConditions (regInfoOf t) (functionOf f) (sortedOf e) x)
   pub yes : r ≡ none → (sortedOf e′ ≡ add (regInfoOf t) (functionOf f) x (sortedOf e)) × EntriesOk t f e′ w′
-  pub no : (n : ℕ) → r ≡ some n → (e′ ≡ e) × (w′ ≡ w)
+  -- what it stands for is as it was, and entries can still be added; of its cells only those of the index may differ
+  pub no : (n : ℕ) → r ≡ some n → (sortedOf e′ ≡ sortedOf e) × (w′ ≡ w) × EntriesOk t f e′ w′
+
+-- a source put into the index for the move that is kept next, unless 21 holds of it
+pub record IndexedAs (t : RegInfo) (e e′ : List ℕ) (p : Place) (o : Bool) : Type 0 where
+  pub is : o ≡ overlapsSource t (sortedOf e) p
+  pub low : (y : ℕ) → y < 1028 → getD e′ y 0 ≡ getD e y 0
+  pub yes : o ≡ false → e′ ≡ sourceIndexed t e p (getD e 1024 0)
+  pub no : o ≡ true → Indexed t (sortedOf e) e′
 
 -- a move kept: the index tells it for the units of its source, and is otherwise as it was
 pub record KeptAs (t : RegInfo) (e w e′ w′ : List ℕ) (s d v : ℕ) : Type 0 where

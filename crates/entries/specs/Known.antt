@@ -75,11 +75,21 @@ module _ (t : RegInfo) where
       (k u : ℕ) → k < length (a .moves) → u < 512 → has u (placeUnits t (getD (a .moves) k noMove .source)) ≡ true
       → Points a e u (getD (a .moves) k noMove .source)
 
-  -- what a look at the index needs
-  pub record Sourced (e : List ℕ) : Type 0 where
+  -- what a look at the cell of unit u needs
+  pub record SourcedAt (e : List ℕ) (u : ℕ) : Type 0 where
     pub few : getD e 1024 0 ≤ 128
     pub known : (m : ℕ) → m < getD e 1024 0 → KnownPlace t (placeAt (getD e (m * 4) 0))
+    pub indexed : (k : ℕ) → k < length (sortedOf e .moves) → has u (placeUnits t (getD (sortedOf e .moves) k noMove .source)) ≡ true → Points (sortedOf e) e u (getD (sortedOf e .moves) k noMove .source)
+
+  -- what a source that is put into the index needs
+  pub record Sourced (e : List ℕ) : Type 0 where
+    pub few : getD e 1024 0 + (getD e 1025 0 + getD e 1026 0) < 128
+    pub known : (m : ℕ) → m < getD e 1024 0 → KnownPlace t (placeAt (getD e (m * 4) 0))
     pub indexed : Indexed (sortedOf e) e
+    pub apart :
+        (i k : ℕ) → i < length (sortedOf e .moves) → k < length (sortedOf e .moves)
+        → samePlace (getD (sortedOf e .moves) i noMove .source) (getD (sortedOf e .moves) k noMove .source) ≡ false
+        → overlap t (getD (sortedOf e .moves) i noMove .source) (getD (sortedOf e .moves) k noMove .source) ≡ false
 
 -- neither the index nor the stamp was written
 abbrev pub SameIndex : List ℕ → List ℕ → Type 0

@@ -24,7 +24,7 @@ ghost use mathlib.Core.Option.{none, some};
 ghost use Prim.Native.Nat.{ℕ, _+_, _*_, _%_, _<_, _≤_};
 ghost use lib.Dec.{eqb, ltb, leb};
 ghost use lib.ListN.{length, getD};
-ghost use Rattle.entity.specs.Logic.{pick, and, no, any, has};
+ghost use Rattle.entity.specs.Logic.{pick, and, no, any, has, twice};
 ghost use Rattle.entity.specs.Place.{reg, placeAt};
 ghost use Rattle.reginfo.specs.RegInfo.{numClasses, regUnits, inClass, placeUnits};
 ghost use Rattle.reginfo.specs.Refused.{Accepted, firstOf};
@@ -32,14 +32,14 @@ ghost use Rattle.reginfo.specs.Known.{KnownUnits, KnownPlace, KnownMembers};
 ghost use Rattle.reginfo.specs.Table.{regInfoOf};
 ghost use Rattle.function.specs.Function.{numValues, rematClass};
 ghost use Rattle.function.specs.Table.{functionOf};
-ghost use Rattle.rules.specs.Patch.{move, remat, namesPlace, becomesRemat, needsScratch, nothingSorted, overlapsSource, bound, lastOverlaps, patchConditions, Patch};
+ghost use Rattle.rules.specs.Patch.{move, remat, namesPlace, becomesRemat, needsScratch, nothingSorted, bound, lastOverlaps, patchConditions, Patch};
 ghost use Rattle.rules.specs.Sorted.{RematOk, SortedOk};
 ghost use Rattle.small_set.specs.Set.{setOf};
 ghost use Rattle.sparse.specs.Map.{mapOf, keysOf, Linked};
-ghost use Rattle.entries.specs.Table.{sortedOf, countedOne, storedMove, storedRemat, stampOf, indexed, sourceIndexed, isMove, isMoveOf, keptMove, rebuiltAs, withMove, withRemat};
+ghost use Rattle.entries.specs.Table.{sortedOf, countedOne, storedMove, storedRemat, stampOf, isMove, isMoveOf, keptMove, rebuiltAs, withMove, withRemat};
 ghost use Rattle.function.specs.Known.{Checked};
-ghost use Rattle.entries.specs.Known.{Writable, isWritten, Noted, Roomy, isFree, lastClashes, clashesAt, Indexed, Sourced, SameIndex, NamedRemat, NamedMove, PassedMove, EntriesOk};
-ghost use Rattle.entries.specs.Answers.{addedOf, rebuiltOf, KeptAs, AddedAs, RebuiltAs};
+ghost use Rattle.entries.specs.Known.{Writable, isWritten, Noted, Roomy, isFree, lastClashes, clashesAt, SourcedAt, Sourced, SameIndex, NamedRemat, NamedMove, PassedMove, EntriesOk};
+ghost use Rattle.entries.specs.Answers.{addedOf, rebuiltOf, IndexedAs, AddedAs, RebuiltAs};
 
 pub type Entries = [u16; 1541];
 
@@ -192,7 +192,7 @@ fn stamp(e: &Entries) -> usize
 
 // The same of the move that the cell tells, which need not be kept, nor have the unit.
 fn told_clashes(t: &RegInfo, e: &Entries, r: PhysReg, u: RegUnit, m: usize) -> bool
-    requires { ⌜ Sourced (regInfoOf (now t)) (now e) × (u .0 < 512) × (m ≡ getD (now e) (1028 + u .0) 0 % 128) ⌝ }
+    requires { ⌜ SourcedAt (regInfoOf (now t)) (now e) (u .0) × (u .0 < 512) × (m ≡ getD (now e) (1028 + u .0) 0 % 128) ⌝ }
     ensures { λ o. ⌜ o ≡ clashesAt (regInfoOf (now (t .entry))) (sortedOf (now (e .entry))) (reg (r .0)) (u .0) ⌝ }
 {
     if wide(e[1024]) <= m {
@@ -212,7 +212,7 @@ fn told_clashes(t: &RegInfo, e: &Entries, r: PhysReg, u: RegUnit, m: usize) -> b
 
 // Whether a kept move whose source is not r has the unit in it: the cell of the unit tells which may.
 fn unit_clashes(t: &RegInfo, e: &Entries, r: PhysReg, u: RegUnit) -> bool
-    requires { ⌜ Sourced (regInfoOf (now t)) (now e) × (u .0 < 512) ⌝ }
+    requires { ⌜ SourcedAt (regInfoOf (now t)) (now e) (u .0) × (u .0 < 512) ⌝ }
     ensures { λ o. ⌜ o ≡ clashesAt (regInfoOf (now (t .entry))) (sortedOf (now (e .entry))) (reg (r .0)) (u .0) ⌝ }
 {
     let c = wide(e[1028 + wide(u.0)]);
@@ -222,61 +222,38 @@ fn unit_clashes(t: &RegInfo, e: &Entries, r: PhysReg, u: RegUnit) -> bool
     told_clashes(t, e, r, u, c % 128)
 }
 
-fn reg_clashes(t: &RegInfo, e: &Entries, r: PhysReg) -> bool
-    requires { ⌜ Sourced (regInfoOf (now t)) (now e) × KnownUnits (regInfoOf (now t)) (r .0) ⌝ }
-    ensures { λ o. ⌜ o ≡ any (clashesAt (regInfoOf (now (t .entry))) (sortedOf (now (e .entry))) (reg (r .0))) (regUnits (regInfoOf (now (t .entry))) (r .0)) ⌝ }
+fn index_reg(t: &RegInfo, e: &mut Entries, r: PhysReg) -> bool
+    requires { ⌜ Sourced (regInfoOf (now t)) (now e) × KnownUnits (regInfoOf (now t)) (r .0) × (twice (regUnits (regInfoOf (now t)) (r .0)) ≡ false) ⌝ }
+    ensures { λ o. ⌜ IndexedAs (regInfoOf (now (t .entry))) (now (e .entry)) (now (e .exit)) (reg (r .0)) o ⌝ }
 {
+    told(*e);
+    let x = narrow(stamp(e) * 128 + wide(e[1024]));
     let n = reginfo::num_reg_units(t, r);
     let mut j: usize = 0;
     while j < n {
-        if unit_clashes(t, e, r, reginfo::reg_unit(t, r, j)) {
+        let u = reginfo::reg_unit(t, r, j);
+        if unit_clashes(t, e, r, u) {
             return true;
         }
+        e[1028 + wide(u.0)] = x;
         j += 1;
     }
     false
 }
 
-// 21: whether a kept move has an unequal source that overlaps this one. Slots overlap only if they are equal.
-fn overlaps_source(t: &RegInfo, e: &Entries, source: Allocation) -> bool
-    requires { ⌜ Sourced (regInfoOf (now t)) (now e) × KnownPlace (regInfoOf (now t)) (placeAt (source .0)) ⌝ }
-    ensures { λ o. ⌜ o ≡ overlapsSource (regInfoOf (now (t .entry))) (sortedOf (now (e .entry))) (placeAt (source .0)) ⌝ }
+// 21: whether a kept move has an unequal source that overlaps this one. If none has, the index tells that the next move reads it. Slots overlap
+// only if they are equal.
+fn index_source(t: &RegInfo, e: &mut Entries, source: Allocation) -> bool
+    requires { ⌜ Sourced (regInfoOf (now t)) (now e) × Writable (regInfoOf (now t)) (placeAt (source .0)) ⌝ }
+    ensures { λ o. ⌜ IndexedAs (regInfoOf (now (t .entry))) (now (e .entry)) (now (e .exit)) (placeAt (source .0)) o ⌝ }
 {
     match source.kind() {
-        AllocationKind::PhysReg(r) => reg_clashes(t, e, r),
+        AllocationKind::PhysReg(r) => index_reg(t, e, r),
         AllocationKind::SpillSlot(_) => false,
     }
 }
 
-fn index_reg(t: &RegInfo, e: &mut Entries, r: PhysReg, x: u16)
-    requires { ⌜ KnownUnits (regInfoOf (now t)) (r .0) ⌝ }
-    ensures { λ _. ⌜ now (e .exit) ≡ indexed (now (e .entry)) (regUnits (regInfoOf (now (t .entry))) (r .0)) x ⌝ }
-{
-    let n = reginfo::num_reg_units(t, r);
-    let mut j: usize = 0;
-    while j < n {
-        let u = reginfo::reg_unit(t, r, j);
-        e[1028 + wide(u.0)] = x;
-        j += 1;
-    }
-}
-
-// Notes in the index that kept move m reads the place.
-fn index_source(t: &RegInfo, e: &mut Entries, source: Allocation, m: u16)
-    requires { ⌜ KnownPlace (regInfoOf (now t)) (placeAt (source .0)) × (m < 128) ⌝ }
-    ensures { λ _. ⌜ (now (e .exit) ≡ sourceIndexed (regInfoOf (now (t .entry))) (now (e .entry)) (placeAt (source .0)) m) × (length (now (e .entry)) ≡ 1541) ⌝ }
-{
-    told(*e);
-    match source.kind() {
-        AllocationKind::PhysReg(r) => {
-            let x = narrow(stamp(e) * 128 + wide(m));
-            index_reg(t, e, r, x);
-        }
-        AllocationKind::SpillSlot(_) => {}
-    }
-}
-
-// Keeps a move.
+// Keeps a move that the index tells.
 fn keep(
     t: &RegInfo,
     e: &mut Entries,
@@ -285,13 +262,12 @@ fn keep(
     dest: Allocation,
     v: Value,
 )
-    requires { ⌜ Roomy (now e) (now w) × KnownPlace (regInfoOf (now t)) (placeAt (source .0)) × Writable (regInfoOf (now t)) (placeAt (dest .0)) × (any (isWritten (now w)) (placeUnits (regInfoOf (now t)) (placeAt (dest .0))) ≡ false) ⌝ }
-    ensures { λ _. ⌜ KeptAs (regInfoOf (now (t .entry))) (now (e .entry)) (now (w .entry)) (now (e .exit)) (now (w .exit)) (source .0) (dest .0) (v .0) ⌝ }
+    requires { ⌜ Roomy (now e) (now w) × Writable (regInfoOf (now t)) (placeAt (dest .0)) × (any (isWritten (now w)) (placeUnits (regInfoOf (now t)) (placeAt (dest .0))) ≡ false) ⌝ }
+    ensures { λ _. ⌜ (now (e .exit) ≡ countedOne (storedMove (now (e .entry)) (getD (now (e .entry)) 1024 0) (source .0) (dest .0) (v .0))) × (length (now (e .exit)) ≡ 1541) × Noted (now (w .entry)) (now (w .exit)) (placeUnits (regInfoOf (now (t .entry))) (placeAt (dest .0))) (getD (now (e .entry)) 1024 0) ⌝ }
 {
     let m = e[1024];
     store_move(e, source, dest, v);
     count_entry(e);
-    index_source(t, e, source, m);
     note_writes(t, w, dest, m);
 }
 
@@ -373,7 +349,7 @@ fn place_move(
     match move_fate(t, f, source, dest, v) {
         Fate::Kept => {
             if !is_written(t, w, dest) {
-                if overlaps_source(t, e, source) {
+                if index_source(t, e, source) {
                     return Added::Refused(21);
                 }
                 keep(t, e, w, source, dest, v);
@@ -447,7 +423,7 @@ pub fn is_full(e: &Entries) -> bool
     128 <= wide(e[1027])
 }
 
-// Adds a move, or answers the number by which it is refused and leaves the tables as they were.
+// Adds a move, or answers the number by which it is refused and leaves what the tables stand for.
 pub fn add_move(
     t: &RegInfo,
     f: &Function,

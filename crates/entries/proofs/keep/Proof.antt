@@ -1,7 +1,8 @@
--- `keep` meets its contract: the move is stored, counted and indexed, and its writes noted.
+-- `keep` meets its contract: the move is stored and counted, and its writes noted.
+use mathlib.Core.Path.{_∙_}
 use native.Mathlib.Omega.{arith}
+use lib.ListN.{length-set}
 use Rattle.entries.proofs.Table.{move-count}
-use Rattle.entries.proofs.Sources.{kept-as}
 use borrow.Author.Needs.{needs}
 use Rattle.entries.proofs.keep.Statement.{statement}
 use Rattle.entries.proofs.keep.Tie as tie
@@ -17,16 +18,11 @@ count-entry-requires c κs =
     let s = c .before .before .before .before in
     rw (c .before .store-move .ensures, move-count (s .args .e .now) (s .args .source .0) (s .args .dest .0) (s .args .v .0) (omega arith)) (s .pre .0 .count)
 
-index-source-requires : tie.Need-index-source-requires
-index-source-requires c κs = search needs
-
 note-writes-requires : tie.Need-note-writes-requires
-note-writes-requires c κs = search needs
+note-writes-requires c κs = let s = c .before .before .before .before .before .before in (s .pre .0 .linked, s .pre .1, s .pre .0 .keys, s .pre .2)
 
 returns : tie.Need-returns
-returns c =
-    let s = c .before .before .before .before .before .before .before .before .before in
-    kept-as _ (s .args .e .now) _ _ _ _ _ (s .args .source .0) (s .args .dest .0) (s .args .v .0) (s .pre .1) (s .pre .0 .few) (c .before .before .before .before .before .before .store-move .ensures) (c .before .before .before .before .count-entry .ensures .1) (c .before .before .before .before .count-entry .ensures .0) (c .before .before .index-source .ensures .1) (c .before .before .index-source .ensures .0) (c .note-writes .ensures)
+returns c = (rw (← c .before .before .before .before .store-move .ensures) (c .before .before .count-entry .ensures .0), rw (c .before .before .count-entry .ensures .0) (simp length-set (c .before .before .count-entry .ensures .1)), c .note-writes .ensures)
 
 pub keep-spec : {M : Type 1} → statement M
 keep-spec =
@@ -35,6 +31,5 @@ keep-spec =
     element-copy-out-m
     store-move-requires
     count-entry-requires
-    index-source-requires
     note-writes-requires
     returns)

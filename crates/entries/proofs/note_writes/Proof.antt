@@ -37,8 +37,7 @@ insert-requires : tie.Need-insert-requires Inv-loop μ-loop
 insert-requires c κs =
     let s = c .before .before .before .before .before in
     let l = c .before .before .before .loop in
-    let us = placeUnits (regInfoOf (s .args .t .now)) (placeAt (s .args .p .0)) in
-    (
+    let us = placeUnits (regInfoOf (s .args .t .now)) (placeAt (s .args .p .0)) in (
       l .inv .3,
       rw (c .place-unit .ensures) (s .pre .1 .low _ (has-getD us (l .j) (omega arith))),
       omega (arith, s .pre .1 .few),

@@ -5,8 +5,8 @@ use Rattle.entity.specs.Place.{placeAt}
 use Rattle.entries.specs.Answers.{rebuiltOf}
 use Rattle.entries.proofs.Table.{entries-count, counted-index, dropped-done}
 use Rattle.entries.proofs.Fates.{writable, fate-kept, fate-rebuilt}
-use Rattle.entries.proofs.Sources.{sourced}
-use Rattle.entries.proofs.Adding.{roomy, refused-12, refused-21, added-dropped, added-kept, added-instead}
+use Rattle.entries.proofs.Sources.{sourced, kept-as}
+use Rattle.entries.proofs.Adding.{roomy, roomy-low, refused-12, refused-21, added-dropped, added-kept, added-instead}
 use borrow.Author.Needs.{needs}
 use Rattle.entries.proofs.place_move.Statement.{statement}
 use Rattle.entries.proofs.place_move.Tie as tie
@@ -18,26 +18,28 @@ enum-told : tie.Need-enum-told
 enum-told c = search needs
 
 is-written-requires : tie.Need-is-written-requires
-is-written-requires c κs = let s = c .before .before .before .before in (s .pre .1 .linked, writable _ _ (s .pre .0) _ (s .pre .2 .dest-named))
+is-written-requires c κs = let s = c .before .before .before .before in (s .pre .1 .linked, writable _ _ (s .pre .0) (placeAt (s .args .dest .0)) (s .pre .2 .dest-named))
 
-overlaps-source-requires : tie.Need-overlaps-source-requires
-overlaps-source-requires c κs = let s = c .before .before .before .before .before .before .before in (sourced _ _ _ _ (s .pre .0) (s .pre .1), writable _ _ (s .pre .0) (placeAt (s .args .source .0)) (s .pre .2 .source-named) .known)
+index-source-requires : tie.Need-index-source-requires
+index-source-requires c κs = let s = c .before .before .before .before .before .before .before in ((sourced _ _ _ _ (s .pre .0) (s .pre .1) (s .pre .2 .less)), writable _ _ (s .pre .0) (placeAt (s .args .source .0)) (s .pre .2 .source-named))
 
 returns : tie.Need-returns
 returns c =
     let s = c .before .before .before .before .before .before .before .before .before in
-    refused-21 _ _ _ _ (s .pre .0) (s .pre .1) _ _ _ (s .pre .2) (fate-kept _ _ _ _ _ (sym (ap rebuiltOf (c .before .before .before .before .before .before .enum-told .given .1)) ∙ c .before .before .before .before .before .before .before .before .move-fate .ensures)) (sym (c .before .before .before .before .is-written .ensures) ∙ not-true _ (c .before .before .before .if1 .taken)) (sym (c .before .overlaps-source .ensures) ∙ c .if2 .taken)
+    refused-21 _ _ _ _ (s .pre .0) (s .pre .1) _ _ _ (s .pre .2) (fate-kept _ _ _ _ _ (sym (ap rebuiltOf (c .before .before .before .before .before .before .enum-told .given .1)) ∙ c .before .before .before .before .before .before .before .before .move-fate .ensures)) (sym (c .before .before .before .before .is-written .ensures) ∙ not-true _ (c .before .before .before .if1 .taken)) _ (rw (c .if2 .taken) at (c .before .index-source .ensures))
 
 keep-requires : tie.Need-keep-requires
-keep-requires c κs = let s = c .before .before .before .before .before .before .before .before .before .before .before in (roomy _ _ _ _ (s .pre .1) (rw entries-count at (s .pre .2 .less)), writable _ _ (s .pre .0) (placeAt (s .args .source .0)) (s .pre .2 .source-named) .known, writable _ _ (s .pre .0) _ (s .pre .2 .dest-named), sym (c .before .before .before .before .before .before .is-written .ensures) ∙ not-true _ (c .before .before .before .before .before .if1 .taken))
+keep-requires c κs = let s = c .before .before .before .before .before .before .before .before .before .before .before in (roomy-low (s .args .e .now) _ _ (roomy _ _ _ _ (s .pre .1) (rw entries-count at (s .pre .2 .less))) (c .before .before .before .index-source .ensures .low), writable _ _ (s .pre .0) (placeAt (s .args .dest .0)) (s .pre .2 .dest-named), (sym (c .before .before .before .before .before .before .is-written .ensures) ∙ not-true _ (c .before .before .before .before .before .if1 .taken)))
 
 returns-2 : tie.Need-returns-2
 returns-2 c =
     let s = c .before .before .before .before .before .before .before .before .before .before .before .before in
-    added-kept _ _ _ _ (s .pre .0) (s .pre .1) _ _ _ (s .pre .2) (fate-kept _ _ _ _ _ (sym (ap rebuiltOf (c .before .before .before .before .before .before .before .before .before .enum-told .given .1)) ∙ c .before .before .before .before .before .before .before .before .before .before .before .move-fate .ensures)) (sym (c .before .before .before .before .before .before .before .is-written .ensures) ∙ not-true _ (c .before .before .before .before .before .before .if1 .taken)) (sym (c .before .before .before .before .overlaps-source .ensures) ∙ c .before .before .before .if2 .left) _ _ (c .keep .ensures)
+    let i = rw (c .before .before .before .if2 .left) at (c .before .before .before .before .index-source .ensures) in
+    added-kept _ _ _ _ (s .pre .0) (s .pre .1) _ _ _ (s .pre .2) (fate-kept _ _ _ _ _ (sym (ap rebuiltOf (c .before .before .before .before .before .before .before .before .before .enum-told .given .1)) ∙ c .before .before .before .before .before .before .before .before .before .before .before .move-fate .ensures)) (sym (c .before .before .before .before .before .before .before .is-written .ensures) ∙ not-true _ (c .before .before .before .before .before .before .if1 .taken)) (sym (i .is)) _ _
+    (kept-as _ (s .args .e .now) _ _ (s .args .w .now) _ (s .args .source .0) (s .args .dest .0) (s .args .v .0) (writable _ _ (s .pre .0) (placeAt (s .args .source .0)) (s .pre .2 .source-named) .known) (sourced _ _ _ _ (s .pre .0) (s .pre .1) (s .pre .2 .less)) i (c .keep .ensures .0) (c .keep .ensures .1) (c .keep .ensures .2))
 
 is-dropped-requires : tie.Need-is-dropped-requires
-is-dropped-requires c κs = let s = c .before .before .before .before .before .before .before .before in (s .pre .1 .linked, writable _ _ (s .pre .0) _ (s .pre .2 .dest-named))
+is-dropped-requires c κs = let s = c .before .before .before .before .before .before .before .before in (s .pre .1 .linked, writable _ _ (s .pre .0) (placeAt (s .args .dest .0)) (s .pre .2 .dest-named))
 
 count-entry-requires : tie.Need-count-entry-requires
 count-entry-requires c κs = let s = c .before .before .before .before .before .before .before .before .before .before .before in roomy _ _ _ _ (s .pre .1) (rw entries-count at (s .pre .2 .less)) .count
@@ -52,7 +54,7 @@ enum-known-scratch : tie.Need-enum-known-scratch
 enum-known-scratch c = search needs
 
 rebuild-requires : tie.Need-rebuild-requires
-rebuild-requires c κs = let s = c .before .before .before .before .before .before in (roomy _ _ _ _ (s .pre .1) (rw entries-count at (s .pre .2 .less)), writable _ _ (s .pre .0) _ (s .pre .2 .dest-named))
+rebuild-requires c κs = let s = c .before .before .before .before .before .before in (roomy _ _ _ _ (s .pre .1) (rw entries-count at (s .pre .2 .less)), writable _ _ (s .pre .0) (placeAt (s .args .dest .0)) (s .pre .2 .dest-named))
 
 returns-4 : tie.Need-returns-4
 returns-4 c =
@@ -72,7 +74,7 @@ place-move-spec =
     move-fate-requires
     enum-told
     is-written-requires
-    overlaps-source-requires
+    index-source-requires
     returns
     keep-requires
     returns-2

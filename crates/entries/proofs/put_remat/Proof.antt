@@ -15,8 +15,7 @@ count-entry-requires c κs =
 
 returns : tie.Need-returns
 returns c =
-    let s = c .before .before .before .before .before in
-    (
+    let s = c .before .before .before .before .before in (
       rw (c .before .before .before .before .if1 .taken) (scratch-done (s .args .e .now) (s .pre .0) _ _ (c .count-entry .ensures .1) (c .count-entry .ensures .0) (s .args .dest .0) (s .args .v .0) (c .before .before .store-remat .ensures)),
       remat-done-index (s .args .e .now) _ _ 768 1026 (s .args .dest .0) (s .args .v .0) (omega arith) (omega arith) (omega arith) (c .before .before .store-remat .ensures) (c .count-entry .ensures .0),
     )
@@ -31,8 +30,7 @@ count-entry-requires-2 c κs =
 
 returns-2 : tie.Need-returns-2
 returns-2 c =
-    let s = c .before .before .before .before .before in
-    (
+    let s = c .before .before .before .before .before in (
       rw (c .before .before .before .before .if1 .left) (rebuilt-done (s .args .e .now) (s .pre .0) _ _ (c .count-entry2 .ensures .1) (c .count-entry2 .ensures .0) (s .args .dest .0) (s .args .v .0) (c .before .before .store-remat2 .ensures)),
       remat-done-index (s .args .e .now) _ _ 512 1025 (s .args .dest .0) (s .args .v .0) (omega arith) (omega arith) (omega arith) (c .before .before .store-remat2 .ensures) (c .count-entry2 .ensures .0),
     )

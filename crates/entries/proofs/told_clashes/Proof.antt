@@ -24,7 +24,7 @@ returns c =
     let s = c .before .before .before in
     let t = regInfoOf (s .args .t .now) in
     let e = s .args .e .now in
-    sym (none-kept t e (s .pre .0) (s .args .r .0) (s .args .u .0) (s .pre .1) (omega arith))
+    sym (none-kept t e (s .args .r .0) (s .args .u .0) (s .pre .1) (s .pre .0) (omega arith))
 
 mul-t8 : tie.Need-mul-t8
 mul-t8 c = search needs
@@ -47,7 +47,7 @@ returns-2 c =
     let t = regInfoOf (s .args .t .now) in
     let e = s .args .e .now in
     let there : placeAt (getD e (getD e (1028 + s .args .u .0) 0 % 128 * 4) 0) ≡ reg (c .before .before .before .before .q .given .0 .0 .0) = rw (← s .pre .2) (sym (by-kind (λ x. x) (c .before .before .before .before .before .before .kind .ensures) (c .before .before .before .before .q .given .1))) in
-    sym (equal-there t e (s .pre .0) (s .args .r .0) (s .args .u .0) (s .pre .1) (reg (c .before .before .before .before .q .given .0 .0 .0)) there (omega arith) (ap reg (omega arith)))
+    sym (equal-there t e (s .args .r .0) (s .args .u .0) (s .pre .1) (s .pre .0) (reg (c .before .before .before .before .q .given .0 .0 .0)) there (omega arith) (ap reg (omega arith)))
 
 has-unit-requires : tie.Need-has-unit-requires
 has-unit-requires c κs =
@@ -65,7 +65,7 @@ returns-3 c =
     let t = regInfoOf (s .args .t .now) in
     let e = s .args .e .now in
     let there : placeAt (getD e (getD e (1028 + s .args .u .0) 0 % 128 * 4) 0) ≡ reg (c .before .before .before .before .before .q .given .0 .0 .0) = rw (← s .pre .2) (sym (by-kind (λ x. x) (c .before .before .before .before .before .before .before .kind .ensures) (c .before .before .before .before .before .q .given .1))) in
-    c .has-unit .ensures ∙ sym (other-there t e (s .pre .0) (s .args .r .0) (s .args .u .0) (s .pre .1) (reg (c .before .before .before .before .before .q .given .0 .0 .0)) there (omega arith) (ne-eqb (c .before .before .before .before .before .q .given .0 .0 .0) (s .args .r .0) (λ x. omega arith)))
+    c .has-unit .ensures ∙ sym (other-there t e (s .args .r .0) (s .args .u .0) (s .pre .1) (s .pre .0) (reg (c .before .before .before .before .before .q .given .0 .0 .0)) there (omega arith) (ne-eqb (c .before .before .before .before .before .q .given .0 .0 .0) (s .args .r .0) (λ x. omega arith)))
 
 returns-4 : tie.Need-returns-4
 returns-4 c =
@@ -73,7 +73,7 @@ returns-4 c =
     let t = regInfoOf (s .args .t .now) in
     let e = s .args .e .now in
     let there : placeAt (getD e (getD e (1028 + s .args .u .0) 0 % 128 * 4) 0) ≡ slot (c .enum-told .given .0 .0 .0) = rw (← s .pre .2) (sym (by-kind (λ x. x) (c .before .before .kind .ensures) (c .enum-told .given .1))) in
-    sym (slot-there t e (s .pre .0) (s .args .r .0) (s .args .u .0) (s .pre .1) (slot (c .enum-told .given .0 .0 .0)) there (omega arith) (c .enum-told .given .0 .0 .0) refl)
+    sym (slot-there t e (s .args .r .0) (s .args .u .0) (s .pre .1) (s .pre .0) (slot (c .enum-told .given .0 .0 .0)) there (omega arith) (c .enum-told .given .0 .0 .0) refl)
 
 pub told-clashes-spec : {M : Type 1} → statement M
 told-clashes-spec =

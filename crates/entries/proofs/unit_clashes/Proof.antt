@@ -33,7 +33,7 @@ returns c =
     let t = regInfoOf (s .args .t .now) in
     let e = s .args .e .now in
     let z : c .before .before .wide2 .result ≡ getD e (1028 + s .args .u .0) 0 = c .before .before .wide2 .ensures .0 ∙ rw (c .before .before .before .before .wide .ensures .0) in
-    sym (older t e (s .pre .0) (s .args .r .0) (s .args .u .0) (s .pre .1) (λ h. c .if1 .taken (omega arith)))
+    sym (older t e (s .args .r .0) (s .args .u .0) (s .pre .1) (s .pre .0) (λ h. c .if1 .taken (omega arith)))
 
 told-clashes-requires : tie.Need-told-clashes-requires
 told-clashes-requires c κs =
