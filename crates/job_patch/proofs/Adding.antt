@@ -57,7 +57,7 @@ pub entry-added : (t f s e w e′ w′ : List ℕ) (at next v : ℕ) (first : Li
 entry-added t f s e w e′ w′ at next v first make none h on added =
     let y = added .yes refl in
     record { reads = rw (← h, ← added .is, y .0); past = (omega (arith, on .0), λ _. on .1, y .1); no = λ k q. absurd (let z : _≡_ {A = ℕ} 0 1 = cc in omega arith) }
-entry-added t f s e w e′ w′ at next v first make (some k) h on added = record { reads = rw (← h, ← added .is); past = tt; no = λ _ _. added .no k refl }
+entry-added t f s e w e′ w′ at next v first make (some k) h on added = record { reads = rw (← h, ← added .is); past = tt; no = λ _ _. (let z = added .no k refl in (z .0, z .1)) }
 
 -- an entry by its first number
 module _ (t f s e w : List ℕ) (at : ℕ) where
