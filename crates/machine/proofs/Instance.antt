@@ -7,7 +7,7 @@ use native.Mathlib.Omega.{arith}
 use lib.ListN.{length, getD, take}
 use Rattle.entity.specs.Logic.{any, all, has, meets, indices}
 use Rattle.entity.specs.Place.{reg, slot}
-use Rattle.reginfo.specs.RegInfo.{regMemory, bankForReg, regUnits, classMembers}
+use Rattle.reginfo.specs.RegInfo.{RegInfo, regMemory, bankForReg, regUnits, classMembers}
 use Rattle.reginfo.specs.Refused.{firstOf}
 use Rattle.function.specs.Function.{Function, valueBank, rematCost, rematClass}
 use Rattle.function.specs.Refused as function
@@ -17,13 +17,13 @@ use Rattle.rules.specs.Order.{KeptMove, noMove}
 use Rattle.rules.specs.Patch.{Patch, Answer, refused, resolved, destinations, add, sortedFrom, sorted, entryConditions, patchConditions, resolveSorted, resolveFrom, resolve, cacheAfter}
 use Rattle.rules.specs.Trials.{three, plain, patch, swap, Gives}
 use Rattle.rules.proofs.Trials.{trials, told-apart}
-use Rattle.machine.specs.Machine.{Memory, Machine, Waiting, begin, put, read, write, fits, step, steps}
+use Rattle.machine.specs.Machine.{Memory, inSlot, Machine, Waiting, begin, put, read, write, fits, step, steps}
 use Rattle.machine.specs.Claim.{Contents, Holding, RightFrom, Accepted, Answered}
 use Rattle.machine.specs.Instance.{swapEdits, slotToSlot, slotEdits, words, Stop, Swapped, SwapFull, SlotToSlot}
 use Rattle.machine.proofs.Demand.{demand-3}
 
-module _ (f : Function) (p : Patch) where
-  given : (r : Answer) (es : List Edit) (made : ℕ) (stack : List ℕ) → Gives r es made stack → Answered three f p r → Accepted three f p es
+module _ (t : RegInfo) (f : Function) (p : Patch) where
+  given : (r : Answer) (es : List Edit) (made : ℕ) (stack : List ℕ) → Gives r es made stack → Answered t f p r → Accepted t f p es
   given (refused n) es made stack g h = absurd g
   given (resolved es′ c) es made stack g h = rw (g .0) at h
 
@@ -33,7 +33,7 @@ swap-fits = refl
 
 swap-accepted : Accepted three (plain 0 1) (patch [] swap) swapEdits
 swap-accepted =
-    given (plain 0 1) (patch [] swap) (resolve three (plain 0 1) (patch [] swap) 16 emptyCache) swapEdits 1 (0 ∷ []) (trials .swap-full)
+    given three (plain 0 1) (patch [] swap) (resolve three (plain 0 1) (patch [] swap) 16 emptyCache) swapEdits 1 (0 ∷ []) (trials .swap-full)
     (demand-3 three (plain 0 1) (told-apart .targets .0) swap-fits (record { patch = patch [] swap; room = 16 } ∷ []) .0)
 
 slot-fits : function.Accepted three (plain 2 1)
@@ -48,13 +48,13 @@ too-short = refl
 -- the second of two calls, after one that is refused
 slot-accepted : Accepted three (plain 2 1) slotToSlot slotEdits
 slot-accepted =
-    given (plain 2 1) slotToSlot (resolve three (plain 2 1) slotToSlot 8 emptyCache) slotEdits 1 (2 ∷ []) (trials .slot-to-slot)
+    given three (plain 2 1) slotToSlot (resolve three (plain 2 1) slotToSlot 8 emptyCache) slotEdits 1 (2 ∷ []) (trials .slot-to-slot)
     (rw too-short at (demand-3 three (plain 2 1) (told-apart .targets .0) slot-fits (record { patch = slotToSlot; room = 0 } ∷ record { patch = slotToSlot; room = 8 } ∷ []) .1 .0))
 
 -- each register has one unit, and each content one word
 whole : (n l a b : ℕ) → Contents three (plain n l) (words a b)
 unfolding three regUnits
-whole n l a b v r hv hr e = one v ∙ sym (width r hr)
+whole n l a b v r hv hr m e = one v ∙ sym (width r hr)
   where
     one : (v : ℕ) → length (words a b v) ≡ 1
     one zero = refl
@@ -73,14 +73,19 @@ both-kept : sorted three (plain 0 1) (patch [] swap) .moves ≡ both
 unfolding three any has regMemory classMembers rematCost rematClass sortedFrom add
 both-kept = refl
 
-swap-holds : (start : Memory) → Holding three (plain 0 1) (patch [] swap) (words (start .word 0) (start .word 1)) start
-unfolding three regUnits read
-swap-holds start = rw both-kept at-both
+-- two kept moves whose sources hold their values' contents
+two-hold : (t : RegInfo) (f : Function) (p : Patch) (content : ℕ → List ℕ) (m : Memory) (x y : KeptMove) → sorted t f p .moves ≡ x ∷ y ∷ []
+    → read t f m (x .source) ≡ content (x .value) → read t f m (y .source) ≡ content (y .value) → Holding t f p content m
+two-hold t f p content m x y e h k = rw e at-both
   where
-    at-both : (i : ℕ) → i < 2 → read three (plain 0 1) start (getD both i noMove .source) ≡ words (start .word 0) (start .word 1) (getD both i noMove .value)
-    at-both zero h = refl
-    at-both (suc zero) h = refl
-    at-both (suc (suc i)) h = absurd (omega arith)
+    at-both : (i : ℕ) → i < 2 → read t f m (getD (x ∷ y ∷ []) i noMove .source) ≡ content (getD (x ∷ y ∷ []) i noMove .value)
+    at-both zero l = h
+    at-both (suc zero) l = k
+    at-both (suc (suc i)) l = absurd (omega arith)
+
+swap-holds : (start : Memory) → Holding three (plain 0 1) (patch [] swap) (words (start .word 0) (start .word 1)) start
+unfolding three regUnits regMemory read
+swap-holds start = two-hold three (plain 0 1) (patch [] swap) (words (start .word 0) (start .word 1)) start _ _ both-kept refl refl
 
 abbrev one : List KeptMove
 one = record { source = slot 0; dest = slot 1; value = 0 } ∷ []
@@ -89,7 +94,7 @@ one-kept : sorted three (plain 2 1) slotToSlot .moves ≡ one
 unfolding three any has regMemory classMembers rematCost rematClass sortedFrom add
 one-kept = refl
 
-slot-holds : (start : Memory) (a : ℕ) → start .slots 0 ≡ a ∷ [] → Holding three (plain 2 1) slotToSlot (words a a) start
+slot-holds : (start : Memory) (a : ℕ) → inSlot start 0 ≡ a ∷ [] → Holding three (plain 2 1) slotToSlot (words a a) start
 unfolding read
 slot-holds start a p = rw one-kept at-one
   where
@@ -102,22 +107,22 @@ the : Machine → Option Machine → Machine
 the d none = d
 the d (some s) = s
 
-module _ (f : Function) (p : Patch) (content : ℕ → List ℕ) (es : List Edit) (start : Memory) (right : RightFrom three f p content start es) where
+module _ (t : RegInfo) (units cells : List ℕ) (f : Function) (p : Patch) (content : ℕ → List ℕ) (es : List Edit) (start : Memory) (right : RightFrom t f p content start es) where
   reached : ℕ → Machine
-  reached k = the (begin start) (steps three f content (take k es) (begin start))
+  reached k = the (begin start) (steps t f content (take k es) (begin start))
 
-  stop : (k : ℕ) (regs : List ℕ) (lists : List (List ℕ)) (waiting : List Waiting) → map (reached k .memory .word) (0 ∷ 1 ∷ 2 ∷ []) ≡ regs → map (reached k .memory .slots) (0 ∷ 1 ∷ 2 ∷ []) ≡ lists → reached k .waiting ≡ waiting
-      → Stop f p content es start k regs lists waiting
+  stop : (k : ℕ) (words : List ℕ) (lists : List (List ℕ)) (waiting : List Waiting) → map (reached k .memory .word) units ≡ words → map (reached k .memory .lists) cells ≡ lists → reached k .waiting ≡ waiting
+      → Stop t units cells f p content es start k words lists waiting
   unfolding the reached
-  stop k regs lists waiting a b c =
+  stop k words lists waiting a b c =
       let y = right .stops k in
       let e : y .0 ≡ reached k = ap (the (begin start)) (sym (y .1)) in
       record {
         machine = y .0;
         done = y .1;
         stopped = y .2;
-        regs-hold = rw e a;
-        slots-hold = rw e b;
+        words-hold = rw e a;
+        lists-hold = rw e b;
         waits = rw e c;
       }
 
@@ -125,7 +130,7 @@ swapped : (start : Memory) → Swapped start (start .word 0) (start .word 1)
 unfolding three regUnits regMemory updated andThen put read write fits step steps the reached
 swapped start =
     let r = swap-accepted .right (words (start .word 0) (start .word 1)) (whole 0 1 (start .word 0) (start .word 1)) start (swap-holds start) in
-    let at = stop (plain 0 1) (patch [] swap) (words (start .word 0) (start .word 1)) swapEdits start r in
+    let at = stop three _ _ (plain 0 1) (patch [] swap) (words (start .word 0) (start .word 1)) swapEdits start r in
     record {
       stop-0 = at 0 _ _ _ refl refl refl;
       stop-1 = at 1 _ _ _ refl refl refl;
@@ -141,7 +146,7 @@ pub slot-to-slot : SlotToSlot
 unfolding three regUnits regMemory updated andThen filter put read write fits step steps the reached
 slot-to-slot start a p =
     let r = slot-accepted .right (words a a) (whole 2 1 a a) start (slot-holds start a p) in
-    let at = stop (plain 2 1) slotToSlot (words a a) slotEdits start r in
+    let at = stop three _ _ (plain 2 1) slotToSlot (words a a) slotEdits start r in
     record {
       stop-0 = at 0 _ _ _ refl (rw p) refl;
       stop-1 = at 1 _ _ _ refl (rw p) refl;
