@@ -1,13 +1,15 @@
--- Demand 3 at swap-full and at slot-to-slot: target and function are accepted, the edits are those of the trial, and the premise can be met.
+-- Demand 3 at swap-full, at slot-to-slot and with argument words: target and function are accepted, the edits are those of the trial, and the
+-- premise can be met.
 use Prim.Native.Nat.{ℕ, zero, suc, _<_}
-use mathlib.Core.Path.{_≡_, refl, sym, ap, _∙_}
+use mathlib.Core.Path.{_≡_, refl, sym, ap, _∙_, subst, fun-ext}
+use mathlib.Core.Bool.{false, true≢false}
 use mathlib.Core.List.{List, [], _∷_, map}
 use mathlib.Core.Option.{Option, none, some}
 use native.Mathlib.Omega.{arith}
 use lib.ListN.{length, getD, take}
 use Rattle.entity.specs.Logic.{any, all, has, meets, indices}
 use Rattle.entity.specs.Place.{reg, slot}
-use Rattle.reginfo.specs.RegInfo.{RegInfo, regMemory, bankForReg, regUnits, classMembers}
+use Rattle.reginfo.specs.RegInfo.{RegInfo, regMemory, bankForReg, regUnits, classMembers, isMemoryReg}
 use Rattle.reginfo.specs.Refused.{firstOf}
 use Rattle.function.specs.Function.{Function, valueBank, rematCost, rematClass}
 use Rattle.function.specs.Refused as function
@@ -15,11 +17,12 @@ use Rattle.rules.specs.Edit.{Edit, updated, andThen, filter}
 use Rattle.rules.specs.Scratch.{emptyCache}
 use Rattle.rules.specs.Order.{KeptMove, noMove}
 use Rattle.rules.specs.Patch.{Patch, Answer, refused, resolved, destinations, add, sortedFrom, sorted, entryConditions, patchConditions, resolveSorted, resolveFrom, resolve, cacheAfter}
-use Rattle.rules.specs.Trials.{three, plain, patch, swap, Gives}
-use Rattle.rules.proofs.Trials.{trials, told-apart}
+use Rattle.rules.specs.Trials.{three, plain, patch, swap, arguments, Gives}
+use Rattle.rules.proofs.Steps.{updated-at}
+use Rattle.rules.proofs.Trials.{trials, told-apart, argument-words}
 use Rattle.machine.specs.Machine.{Memory, inSlot, Machine, Waiting, begin, put, read, write, fits, step, steps}
 use Rattle.machine.specs.Claim.{Contents, Holding, RightFrom, Accepted, Answered}
-use Rattle.machine.specs.Instance.{swapEdits, slotToSlot, slotEdits, words, Stop, Swapped, SwapFull, SlotToSlot}
+use Rattle.machine.specs.Instance.{swapEdits, slotToSlot, slotEdits, words, Stop, Swapped, SwapFull, SlotToSlot, pairs, throughEdits, Through, ThroughAWord, wordSwap, wordEdits, WordsSwapped, SwapOfWords}
 use Rattle.machine.proofs.Demand.{demand-3}
 
 module _ (t : RegInfo) (f : Function) (p : Patch) where
@@ -155,3 +158,100 @@ slot-to-slot start a p =
       stop-4 = at 4 _ _ _ (rw p) (rw p (rw p)) (rw p);
       ends = r .ends;
     }
+
+-- ---- argument words
+arguments-fit : function.Accepted arguments (plain 2 2)
+unfolding indices valueBank rematCost rematClass function.countsFit function.valueFits function.foreignClass function.valuesRefusal function.functionRefusal
+arguments-fit = refl
+
+through-accepted : Accepted arguments (plain 2 2) (patch (4 ∷ []) swap) throughEdits
+through-accepted =
+    given arguments (plain 2 2) (patch (4 ∷ []) swap) (resolve arguments (plain 2 2) (patch (4 ∷ []) swap) 16 emptyCache) throughEdits 0 [] (argument-words .through-a-word)
+    (demand-3 arguments (plain 2 2) (argument-words .targets .0) arguments-fit (record { patch = patch (4 ∷ []) swap; room = 16 } ∷ []) .0)
+
+words-accepted : Accepted arguments (plain 2 2) wordSwap wordEdits
+words-accepted =
+    given arguments (plain 2 2) wordSwap (resolve arguments (plain 2 2) wordSwap 16 emptyCache) wordEdits 2 (3 ∷ 2 ∷ []) (argument-words .words-swapped)
+    (demand-3 arguments (plain 2 2) (argument-words .targets .0) arguments-fit (record { patch = wordSwap; room = 16 } ∷ []) .0)
+
+-- r0 and r1 have two units, and each content two words
+pairs-whole : (a b c d : ℕ) → Contents arguments (plain 2 2) (pairs a b c d)
+unfolding regUnits regMemory
+pairs-whole a b c d v r hv hr m e = two v ∙ sym (width r hr m)
+  where
+    two : (v : ℕ) → length (pairs a b c d v) ≡ 2
+    two zero = refl
+    two (suc v) = refl
+
+    width : (r : ℕ) → r < 4 → isMemoryReg arguments r ≡ false → length (regUnits arguments r) ≡ 2
+    width zero h m = refl
+    width (suc zero) h m = refl
+    width (suc (suc zero)) h m = absurd (true≢false m)
+    width (suc (suc (suc zero))) h m = absurd (true≢false m)
+    width (suc (suc (suc (suc r)))) h m = absurd (omega arith)
+
+through-kept : sorted arguments (plain 2 2) (patch (4 ∷ []) swap) .moves ≡ both
+unfolding any has regMemory classMembers rematCost rematClass sortedFrom add
+through-kept = refl
+
+through-holds : (start : Memory) → Holding arguments (plain 2 2) (patch (4 ∷ []) swap) (pairs (start .word 0) (start .word 1) (start .word 2) (start .word 3)) start
+unfolding regUnits regMemory read
+through-holds start =
+    two-hold arguments (plain 2 2) (patch (4 ∷ []) swap) (pairs (start .word 0) (start .word 1) (start .word 2) (start .word 3)) start _ _ through-kept refl refl
+
+through : (start : Memory) → Through start (start .word 0) (start .word 1) (start .word 2) (start .word 3)
+unfolding regUnits regMemory updated andThen put read write fits step steps the reached
+through start =
+    let content = pairs (start .word 0) (start .word 1) (start .word 2) (start .word 3) in
+    let r = through-accepted .right content (pairs-whole _ _ _ _) start (through-holds start) in
+    let at = stop arguments _ _ (plain 2 2) (patch (4 ∷ []) swap) content throughEdits start r in
+    record {
+      stop-0 = at 0 _ _ _ refl refl refl;
+      stop-1 = at 1 _ _ _ refl refl refl;
+      stop-2 = at 2 _ _ _ refl refl refl;
+      stop-3 = at 3 _ _ _ refl refl refl;
+      ends = r .ends;
+    }
+
+pub through-a-word : ThroughAWord
+through-a-word start a b c d p q x y = rw (← p, ← q, ← x, ← y) (through start)
+
+words-kept : sorted arguments (plain 2 2) wordSwap .moves ≡ record { source = reg 2; dest = reg 3; value = 0 } ∷ record { source = reg 3; dest = reg 2; value = 1 } ∷ []
+unfolding any has regMemory classMembers rematCost rematClass sortedFrom add
+words-kept = refl
+
+-- the start with the lists of r2 and r3 written out
+abbrev spelled : Memory → ℕ → ℕ → ℕ → ℕ → Memory
+spelled m a b c d = record { word = m .word; lists = updated 4 (a ∷ b ∷ []) (updated 5 (c ∷ d ∷ []) (m .lists)) }
+
+spelled-out : (m : Memory) (a b c d : ℕ) → m .lists 4 ≡ a ∷ b ∷ [] → m .lists 5 ≡ c ∷ d ∷ [] → spelled m a b c d ≡ m
+spelled-out m a b c d p q =
+    ap (λ (l : ℕ → List ℕ). record { word = m .word; lists = l })
+    (fun-ext
+    (λ u. updated-at (λ l. l ≡ m .lists u) 4 _ _ u (λ e. sym p ∙ ap (m .lists) (sym e)) (λ _. updated-at (λ l. l ≡ m .lists u) 5 _ (m .lists) u (λ e. sym q ∙ ap (m .lists) (sym e)) (λ _. refl))))
+
+words-hold : (start : Memory) (a b c d : ℕ) → Holding arguments (plain 2 2) wordSwap (pairs a b c d) (spelled start a b c d)
+unfolding regUnits regMemory updated read
+words-hold start a b c d = two-hold arguments (plain 2 2) wordSwap (pairs a b c d) (spelled start a b c d) _ _ words-kept refl refl
+
+words-swapped : (start : Memory) (a b c d : ℕ) → WordsSwapped (spelled start a b c d) a b c d
+unfolding regUnits regMemory updated andThen filter put read write fits step steps the reached
+words-swapped start a b c d =
+    let m = spelled start a b c d in
+    let r = words-accepted .right (pairs a b c d) (pairs-whole a b c d) m (words-hold start a b c d) in
+    let at = stop arguments _ _ (plain 2 2) wordSwap (pairs a b c d) wordEdits m r in
+    record {
+      stop-0 = at 0 _ _ _ refl refl refl;
+      stop-1 = at 1 _ _ _ refl refl refl;
+      stop-2 = at 2 _ _ _ refl refl refl;
+      stop-3 = at 3 _ _ _ refl refl refl;
+      stop-4 = at 4 _ _ _ refl refl refl;
+      stop-5 = at 5 _ _ _ refl refl refl;
+      stop-6 = at 6 _ _ _ refl refl refl;
+      stop-7 = at 7 _ _ _ refl refl refl;
+      stop-8 = at 8 _ _ _ refl refl refl;
+      ends = r .ends;
+    }
+
+pub swap-of-words : SwapOfWords
+swap-of-words start a b c d p q = subst (λ (m : Memory). WordsSwapped m a b c d) (spelled-out start a b c d p q) (words-swapped start a b c d)

@@ -8,9 +8,9 @@ use Rattle.rules.specs.Edit.{updated, andThen, each, find, filter}
 use Rattle.rules.specs.Scratch.{acquireFrom, unevict, unevictForReg, slotScratch, evictLast, reuse, orScratch, getScratchReg, moveEdits, doMove}
 use Rattle.rules.specs.Order.{carryOne, carry, remats, rematWithScratch, writerFrom, writersOf, writers, cycleMoveSources, divert, lead, undivert, undivertAll, close, visit, visitUnlessMemory, start, moves}
 use Rattle.rules.specs.Patch.{destinations, add, entryConditions, patchConditions, run, resolveSorted, resolveFrom, resolve}
-use Rattle.rules.specs.Trials.{three, chained, five, six, halves, between, sizes, slotsAlone, memory, eight, Trials, ToldApart, Overlaps}
+use Rattle.rules.specs.Trials.{three, chained, five, six, halves, between, sizes, slotsAlone, memory, eight, Trials, ToldApart, Overlaps, ArgumentWords}
 
-all-trials : Trials × ToldApart × Overlaps
+all-trials : Trials × ToldApart × Overlaps × ArgumentWords
 unfolding any all has meets lastOr indices spillslotSize topLevelClass stackToStackClass regMemory bankForReg regUnits bankForClass classSlots classMembers allocationOrder firstOf valueBank rematCost rematClass updated andThen each find filter acquireFrom unevict unevictForReg slotScratch evictLast reuse orScratch getScratchReg moveEdits doMove carryOne carry remats rematWithScratch writerFrom writersOf writers cycleMoveSources divert lead undivert undivertAll close visit visitUnlessMemory start moves destinations add entryConditions patchConditions run resolveSorted resolveFrom resolve three chained five six halves between sizes slotsAlone memory eight orderTotal countsFit bankFits regFits classFits outsideLimits listedTwice unequalWidths foreignMember sharedMemory unfitClass targetRefusal twice
 all-trials = (
   record {
@@ -58,6 +58,15 @@ all-trials = (
     narrower-evicted = (refl, refl, refl);
     last-overlaps = refl;
   },
+  record {
+    targets = (refl, refl);
+    wide-memory = refl;
+    wider-memory = refl;
+    unequal = refl;
+    through-a-word = (refl, refl, refl);
+    words-swapped = (refl, refl, refl);
+    word-stored = (refl, refl, refl);
+  },
 )
 
 pub trials : Trials
@@ -68,3 +77,6 @@ told-apart = all-trials .1
 
 pub overlaps : Overlaps
 overlaps = all-trials .2
+
+pub argument-words : ArgumentWords
+argument-words = all-trials .3
