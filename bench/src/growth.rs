@@ -228,21 +228,22 @@ fn print_tables(clock: &Clock) {
 }
 
 /// One bank of registers that lie one after the other on 512 units, from the
-/// start again where these end; half of them memory, on the upper half.
+/// start again where these end. Or half of them are memory, of one unit each, on
+/// the upper half of the units, and the others lie on the lower half.
 fn wide_target(registers: usize, width: usize, memory: bool) -> Target {
     let ordinary = if memory { 256 } else { 512 };
     let all = (0..registers)
         .map(|index| {
             let memory = memory && index < registers / 2;
-            let start = if memory {
-                256 + index * width % 256
-            } else {
-                index * width % ordinary
-            };
+            let start = index * width % ordinary;
             Register {
                 memory,
                 bank: 0,
-                units: (start..start + width).collect(),
+                units: if memory {
+                    vec![256 + index % 256]
+                } else {
+                    (start..start + width).collect()
+                },
             }
         })
         .collect();
@@ -294,7 +295,7 @@ fn print_reading(clock: &Clock) {
     {
         println!(
             "| {registers} | {width} | {} | {values} | {} | {:.0} | {:.0} | {:.2} |",
-            if memory { "half" } else { "none" },
+            if memory { "half, of one unit" } else { "none" },
             pair.ours.bytes.len(),
             taken.theirs,
             taken.ours,

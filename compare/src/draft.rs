@@ -128,6 +128,12 @@ impl Target {
             .collect()
     }
 
+    /// How many units those registers of a bank have that aren't memory.
+    pub fn width_of(&self, bank: usize) -> usize {
+        let own = |register: &&Register| register.bank == bank && !register.memory;
+        self.registers.iter().find(own).map_or(1, |r| r.units.len())
+    }
+
     /// The classes of a bank, rising.
     pub fn classes_of(&self, bank: usize) -> Vec<usize> {
         (0..self.classes.len())

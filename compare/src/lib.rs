@@ -10,8 +10,8 @@ pub mod number;
 pub mod random;
 pub mod replay;
 pub mod tally;
+pub mod target;
 pub mod words;
 
 mod patch;
-mod target;
 mod values;

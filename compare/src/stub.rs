@@ -8,11 +8,12 @@ use std::slice;
 use std::sync::{Mutex, OnceLock};
 
 use judge::calls::{Call, Function, Room, Session};
-use judge::number::Refused;
+use judge::number::{Reader, Refused};
+use judge::target::{Register, Target};
 use judge::{answer, words};
 
 /// The faults, each in some answers only.
-const FAULTS: [&str; 19] = [
+const FAULTS: [&str; 21] = [
     "order",       // two edits change places in a patch with four or more
     "place",       // a copy into slot 3 goes to slot 1
     "made",        // a slot too many is counted from the second patch on
@@ -20,6 +21,8 @@ const FAULTS: [&str; 19] = [
     "number",      // 12 for 13
     "accepted",    // bytes left over are accepted
     "sources",     // 21 is not given
+    "one-width",   // 4 is document 01's: an argument word is as wide as its bank
+    "wide-memory", // 4 is not given for memory registers of several units
     "text",        // the text of rebuilds is wrong, their words are right
     "words",       // the words of rebuilds are wrong, their text is right
     "little-room", // no heed is paid to the room that there is
@@ -122,6 +125,31 @@ fn spoil(words: &mut Vec<u64>, refusal: &mut u8) {
     }
 }
 
+/// Whether those registers of a target that are such are as wide as the others of
+/// their bank that are.
+fn one_width(target: &Target, such: impl Fn(&Register) -> bool) -> bool {
+    let differ = |a: &Register, b: &Register| a.bank == b.bank && a.units.len() != b.units.len();
+    let such: Vec<&Register> = target.registers.iter().filter(|r| such(r)).collect();
+    !such.iter().any(|a| such.iter().any(|b| differ(a, b)))
+}
+
+/// Another number than 4, or 4 for none, if the fault is one in the test of the
+/// target and the job has such registers.
+fn misjudge(job: &[u8], words: &mut Vec<u64>, refusal: &mut u8) {
+    let target = Target::read_untested(&mut Reader::new(job));
+    let (Ok(target), ..=answer::MOST_BYTES) = (target, job.len()) else {
+        return;
+    };
+    match (fault(), *refusal) {
+        ("one-width", _) if !one_width(&target, |_| true) => {
+            words.clear();
+            *refusal = 4;
+        }
+        ("wide-memory", 4) if one_width(&target, |r| !r.memory) => *refusal = 0,
+        _ => {}
+    }
+}
+
 /// How many words the patches have that there is room for.
 fn whole_patches(words: &[u64], room: usize) -> usize {
     let mut at = 0;
@@ -161,6 +189,7 @@ pub unsafe extern "C" fn parallel_moves_answer(
     let job = unsafe { slice::from_raw_parts(job, job_len) };
     let (mut found, mut number) = words_of(&answer::answer(job));
     spoil(&mut found, &mut number);
+    misjudge(job, &mut found, &mut number);
     if fault() != "little-room" {
         let whole = whole_patches(&found, words_len);
         if whole < found.len() {

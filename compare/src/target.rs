@@ -45,6 +45,13 @@ pub struct Target {
 impl Target {
     /// Reads a target and tests its rules.
     pub fn read(reader: &mut Reader) -> Result<Target, Refused> {
+        let target = Target::read_untested(reader)?;
+        target.test_rules()?;
+        Ok(target)
+    }
+
+    /// Reads a target, whose rules 4 to 7 may not hold.
+    pub fn read_untested(reader: &mut Reader) -> Result<Target, Refused> {
         let units = reader.within(1, MOST_UNITS)?;
 
         // A bank's class numbers can't be tested before the class count.
@@ -84,20 +91,18 @@ impl Target {
             classes.push(class);
         }
 
-        let target = Target {
+        Ok(Target {
             units,
             banks,
             registers,
             classes,
-        };
-        target.test_rules()?;
-        Ok(target)
+        })
     }
 
     /// 4 to 7, each over the whole target before the next.
     fn test_rules(&self) -> Result<(), Refused> {
         let rules: [(u8, fn(&Target) -> bool); 4] = [
-            (4, Target::banks_have_one_width),
+            (4, Target::widths_fit),
             (5, Target::all_of_their_banks),
             (6, Target::memory_apart),
             (7, Target::classes_can_serve),
@@ -110,12 +115,16 @@ impl Target {
         Ok(())
     }
 
-    /// 4: the registers of a bank have equally many units.
-    fn banks_have_one_width(&self) -> bool {
+    /// 4: a memory register has one unit, and the other registers of a bank
+    /// have equally many (request 02 b).
+    fn widths_fit(&self) -> bool {
         let mut widths = vec![None; self.banks.len()];
         self.registers.iter().all(|register| {
             let width = register.units.len();
-            *widths[register.bank.index()].get_or_insert(width) == width
+            match register.memory {
+                true => width == 1,
+                false => *widths[register.bank.index()].get_or_insert(width) == width,
+            }
         })
     }
 

@@ -59,7 +59,7 @@ refusals! {
     1 NotANumber: "a number is cut off, has more than 5 bytes, is 2^32 or more, or is not in its shortest form";
     2 NamesNothing: "a number is outside a limit, or an index, place, flag or code that names nothing, or the job has more than 65,536 bytes";
     3 ListedTwice: "something is listed twice, or free units are not rising";
-    4 UnequalWidths: "registers of one bank have different numbers of units";
+    4 UnequalWidths: "a memory register has more than one unit, or registers of one bank that are not memory have different numbers of units";
     5 ForeignMember: "a member, a bank's class or an order entry is of another bank, or an order entry is no member";
     6 SharedMemory: "a memory register shares a unit with one that is not memory";
     7 UnfitClass: "a top-level class has no slots, a stack class has slots or a memory register in its order, or the order of a class without slots is empty or ends in a memory register";

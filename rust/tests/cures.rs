@@ -82,7 +82,7 @@ fn numbers_and_lists() {
 #[test]
 fn targets() {
     let rest = "0 0 0 1 0 0";
-    // r1 has two units; then a bank of its own.
+    // r1 has two units and is no memory register; then it has a bank of its own.
     check(
         4,
         &[
@@ -91,6 +91,18 @@ fn targets() {
         ],
         &[&[
             "3 2 3 0 1 4 2 3 2 0 0 1 0 0 1 2 1 2 4 0 1 1 0 1 0 0 0 1 0 1 0 1 1 1 1 1 1 1 0 1 1 1 1",
+            rest,
+        ]],
+    );
+    // A memory register of two units beside a pair; then of one.
+    check(
+        4,
+        &[
+            "4 1 3 0 1 2 0 0 2 0 1 1 0 2 2 3 2 0 1 2 0 1 2 1 0 0 0 1 0 1 0",
+            rest,
+        ],
+        &[&[
+            "3 1 3 0 1 2 0 0 2 0 1 1 0 1 2 2 0 1 2 0 1 2 1 0 0 0 1 0 1 0",
             rest,
         ]],
     );

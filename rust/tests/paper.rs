@@ -42,6 +42,7 @@ fn three(slots: &[(u16, u32)]) -> Machine {
     Machine {
         registers: (0..3).map(register).collect(),
         units: "abc".chars().map(u32::from).collect(),
+        words: HashMap::new(),
         slots: slots.iter().map(|&(s, word)| (s, vec![word])).collect(),
     }
 }

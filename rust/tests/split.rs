@@ -55,24 +55,27 @@ fn overlap(registers: &[Register], a: Place, b: Place) -> bool {
     units(registers, a).iter().any(|unit| b.contains(unit))
 }
 
-/// The registers: single ones, pairs that share units, and two memory ones.
+/// The registers: single ones of bank 0, pairs of bank 1 that share units, and a
+/// memory one of bank 0 and two of bank 1, of one unit each.
 fn registers() -> Vec<Register> {
-    let register = |memory, units: &[usize]| Register {
+    let register = |memory, bank, units: &[usize]| Register {
         memory,
-        bank: units.len() - 1,
+        bank,
         units: units.to_vec(),
     };
-    let mut registers: Vec<Register> = (0..6).map(|unit| register(false, &[unit])).collect();
+    let mut registers: Vec<Register> = (0..6).map(|unit| register(false, 0, &[unit])).collect();
     for pair in [[0, 1], [2, 3], [4, 5], [1, 2], [3, 4]] {
-        registers.push(register(false, &pair));
+        registers.push(register(false, 1, &pair));
     }
-    registers.push(register(true, &[6]));
-    registers.push(register(true, &[7, 8]));
+    for (unit, bank) in [(6, 0), (7, 1), (8, 1)] {
+        registers.push(register(true, bank, &[unit]));
+    }
     registers
 }
 
 /// A job over these registers. Value v has the bank `banks[v]`, and can be
-/// rebuilt in any register that is not memory if `rebuilt` says so.
+/// rebuilt in any register that is not memory if `rebuilt` says so. Memory is
+/// taken first for scratch where it may be.
 fn job(
     registers: &[Register],
     slots: u16,
@@ -93,10 +96,12 @@ fn job(
     }
     numbers.push(4);
     for bank in [0, 1] {
-        let members = (0..).zip(registers).filter(|(_, r)| r.bank == bank);
-        let members: Vec<u32> = members.filter(|(_, r)| !r.memory).map(|(i, _)| i).collect();
+        let own = (0..).zip(registers).filter(|(_, r)| r.bank == bank);
+        let (memory, others): (Vec<_>, Vec<_>) = own.partition(|(_, r)| r.memory);
         for includes_slots in [1, 0] {
             numbers.extend([bank as u32, includes_slots]);
+            let memory = memory.iter().filter(|_| includes_slots == 1);
+            let members: Vec<u32> = memory.chain(&others).map(|&(i, _)| i).collect();
             for _ in 0..2 {
                 numbers.push(members.len() as u32);
                 numbers.extend(&members);
@@ -225,8 +230,14 @@ fn try_one(random: &mut Random, resolver: &mut Resolver) -> Tried {
     let mut start = Machine {
         registers: registers.clone(),
         units: (0..9).map(|unit| 1000 + unit).collect(),
+        words: HashMap::new(),
         slots: HashMap::new(),
     };
+    for register in registers.iter().filter(|register| register.memory) {
+        let unit = register.units[0];
+        let words = (0..=register.bank as u32).map(|i| 1500 + 10 * unit as u32 + i);
+        start.words.insert(unit, words.collect());
+    }
     // Slots 0 and 1 have one word, 2 and 3 two.
     for slot in 0..SLOTS {
         let words = (0..=u32::from(slot) / 2).map(|i| 2000 + 10 * u32::from(slot) + i);
@@ -306,6 +317,7 @@ fn try_one(random: &mut Random, resolver: &mut Resolver) -> Tried {
         }
         for unit in (0..9).filter(|unit| !dests.contains(unit) && !free.contains(unit)) {
             assert_eq!(machine.units[unit], start.units[unit]);
+            assert_eq!(machine.words.get(&unit), start.words.get(&unit));
         }
         for slot in (0..SLOTS).filter(|&slot| !dests.contains(&(100 + slot as usize))) {
             assert_eq!(machine.slots[&slot], start.slots[&slot]);
@@ -346,6 +358,7 @@ fn two_hundred() -> (Vec<Register>, Machine) {
     let machine = Machine {
         registers: registers.clone(),
         units: (0..202).collect(),
+        words: HashMap::new(),
         slots: HashMap::new(),
     };
     (registers, machine)

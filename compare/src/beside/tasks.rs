@@ -122,9 +122,10 @@ pub fn generated(seed: u64, count: usize) -> Vec<Task> {
 }
 
 /// Trials that are damaged.
-const TRIALS: [&str; 10] = [
+const TRIALS: [&str; 11] = [
     "swap-full",
     "sources-equal",
+    "words-diverted-through",
     "slots-swapped",
     "rebuild-into-slot",
     "slot-of-the-stack-first",
@@ -156,7 +157,7 @@ const CHOSEN_BY_REFUSAL: (&str, usize, usize, &str) = ("remat", 100, 250, "refus
 /// The seed that they are chosen by.
 const CHOSEN_BY: u64 = 20;
 
-/// Twenty good jobs, with each byte changed in every way, and cut off
+/// Twenty-one good jobs, with each byte changed in every way, and cut off
 /// everywhere.
 pub fn damaged(trials: &Path) -> io::Result<Vec<Task>> {
     let mut jobs: Vec<(Arc<str>, Arc<[u8]>)> = Vec::new();

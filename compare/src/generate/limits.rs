@@ -8,11 +8,11 @@ use crate::draft::{
 use crate::random::Random;
 
 /// A number is drawn below this; some kinds of jobs have several numbers.
-const DRAWN: usize = 26;
+const DRAWN: usize = 27;
 
 /// A number of each kind.
-pub const KINDS: [usize; 21] = [
-    0, 1, 2, 3, 4, 5, 6, 7, 8, 9, 10, 11, 12, 13, 14, 15, 16, 18, 19, 20, 22,
+pub const KINDS: [usize; 22] = [
+    0, 1, 2, 3, 4, 5, 6, 7, 8, 9, 10, 11, 12, 13, 14, 15, 16, 18, 19, 20, 22, 23,
 ];
 
 /// A job at a limit, or one past it.
@@ -45,6 +45,7 @@ pub fn job_of(random: &mut Random, kind: usize, past: usize) -> Vec<u8> {
         18 => free_units(random, past),
         19 => least(random),
         20 | 21 => sources(random, past),
+        22 => argument_words(random, past),
         _ => just_enough_slots(random, past),
     }
 }
@@ -475,6 +476,54 @@ fn sources(random: &mut Random, past: usize) -> Vec<u8> {
     let last = entry(Place::Register(pair), Place::Slot(127), 5);
     let at = *random.pick(&[0, 64, 127, 127]);
     entries.insert(at, last);
+    draft.job()
+}
+
+/// Registers of eight units, and beside them in the same bank as many memory
+/// registers of one as there are moves; past it some one of these has two, or one
+/// of those seven. The words are turned round, and at times the first of them is
+/// taken for scratch.
+fn argument_words(random: &mut Random, past: usize) -> Vec<u8> {
+    let (wide, words) = (random.within(2, 16), 128);
+    let mut draft = plain(wide + words, 5, 1);
+    let target = &mut draft.target;
+    target.units = 8 * wide + words;
+    for (reg, register) in target.registers.iter_mut().enumerate() {
+        register.memory = reg >= wide;
+        register.units = match reg.checked_sub(wide) {
+            Some(word) => vec![8 * wide + word],
+            None => (8 * reg..8 * reg + 8).collect(),
+        };
+    }
+    // The stack class has none of the words; in the other they come first.
+    target.classes[0].order.rotate_left(wide);
+    target.classes[1].order.truncate(wide);
+    if past == 1 {
+        let any = wide + random.below(words);
+        let reg = *random.pick(&[0, wide, any, wide + words - 1]);
+        let units = &mut target.registers[reg].units;
+        match units.len() {
+            1 => units.push(target.units),
+            _ => {
+                units.pop();
+            }
+        }
+        target.units += 1;
+    }
+    let first = random.below(2);
+    let turned: Vec<usize> = (wide + first..wide + words).collect();
+    let patch = &mut draft.patches[0];
+    patch.free.extend((first == 1).then_some(8 * wide));
+    for (at, &reg) in turned.iter().enumerate() {
+        let next = turned[(at + 1) % turned.len()];
+        let value = random.below(5);
+        patch
+            .entries
+            .push(entry(Place::Register(reg), Place::Register(next), value));
+    }
+    if random.chance(50) {
+        random.shuffle(&mut patch.entries);
+    }
     draft.job()
 }
 

@@ -74,6 +74,7 @@ impl<'a> PatchMaker<'a> {
                 13 | 14 => self.add_fan(room),
                 15 | 16 => self.add_rebuild(),
                 17 => self.repeat_entry(),
+                18 => self.add_words(room),
                 _ => self.add_single_move(),
             }
         }
@@ -86,8 +87,14 @@ impl<'a> PatchMaker<'a> {
 
     fn choose_free_units(&mut self) {
         let percent = *self.random.pick(&[0, 0, 5, 15, 40]);
-        for unit in 0..self.draft.target.units {
-            if self.random.chance(percent) {
+        // At times memory registers are free where others are not.
+        let mut words = vec![false; self.draft.target.units];
+        if self.random.chance(15) {
+            let memory = self.draft.target.registers.iter().filter(|r| r.memory);
+            memory.for_each(|r| r.units.iter().for_each(|&unit| words[unit] = true));
+        }
+        for (unit, word) in words.into_iter().enumerate() {
+            if self.random.chance(if word { 60 } else { percent }) {
                 self.patch.free.push(unit);
                 self.taken[unit] = true;
             }
@@ -210,6 +217,31 @@ impl<'a> PatchMaker<'a> {
         }
     }
 
+    /// Some memory registers, none of which overlap, each moved to the next.
+    fn add_words(&mut self, room: usize) {
+        let Some(value) = self.any_value() else {
+            return;
+        };
+        let target = &self.draft.target;
+        let mut all = self.registers[self.draft.values[value].bank].clone();
+        all.retain(|&reg| target.registers[reg].memory);
+        self.random.shuffle(&mut all);
+        let mut words: Vec<Place> = Vec::new();
+        for place in all.into_iter().map(Place::Register) {
+            if !target.any_unit(place, |unit| self.taken[unit])
+                && self.may_be_source(place)
+                && !words.iter().any(|&other| target.overlap(other, place))
+            {
+                words.push(place);
+            }
+        }
+        words.truncate(self.random.within(2, 4).min(room));
+        for (index, &source) in words.iter().enumerate() {
+            let value = self.value_like(value);
+            self.add(Some(source), words[(index + 1) % words.len()], value);
+        }
+    }
+
     /// A cycle in which one value lies in several places.
     fn add_joined_cycle(&mut self, room: usize) {
         let Some(value) = self.any_value() else {
@@ -288,11 +320,8 @@ impl<'a> PatchMaker<'a> {
             let small_bank = self.draft.values[small_value].bank;
             let source = *self.random.pick(&self.registers[bank]);
             let dest = *self.random.pick(&self.registers[bank]);
-            let width = |bank: usize| {
-                let reg = self.registers[bank][0];
-                self.draft.target.registers[reg].units.len()
-            };
-            if width(bank) < 2 || width(small_bank) > width(bank) {
+            let width = self.draft.target.width_of(bank);
+            if width < 2 || self.draft.target.width_of(small_bank) > width {
                 continue;
             }
             let on_source = self.lying_on(small_bank, source, dest);

@@ -1,7 +1,9 @@
 //! Jobs that are refused: good ones, spoiled so that a wanted number of
 //! document 01's table comes, at a random one of the places where it can.
 
-use crate::draft::{COST_BELOW_LOAD, COST_NONE, Draft, Entry, Field, Patch, Place, Register};
+use crate::draft::{
+    COST_BELOW_LOAD, COST_NONE, Draft, Entry, Field, Patch, Place, Register, Target,
+};
 use crate::number;
 use crate::random::Random;
 
@@ -195,16 +197,38 @@ fn list_twice(random: &mut Random, draft: &mut Draft) {
     }
 }
 
-/// 4.
+/// 4: a memory register of several units, or a register of another width than
+/// those of its bank that aren't memory.
 fn change_width(random: &mut Random, draft: &mut Draft) {
     let target = &mut draft.target;
+    let memory: Vec<usize> = (0..target.registers.len())
+        .filter(|&reg| target.registers[reg].memory)
+        .collect();
     let reg = random.below(target.registers.len());
-    let register = &mut target.registers[reg];
-    if register.units.len() > 1 && random.chance(50) {
-        register.units.pop();
-    } else if register.units.len() < 8 {
-        // A unit of its own, so that no other rule is broken.
-        register.units.push(target.units);
+    let width = target.registers[reg].units.len();
+    match (random.below(8), random.pick_any(&memory)) {
+        // As many units as the others of its bank, which document 01 took.
+        (0 | 1, Some(&word)) => {
+            let others = target.width_of(target.registers[word].bank);
+            set_width(target, word, others.max(2));
+        }
+        (2, Some(&word)) => set_width(target, word, random.within(2, 8)),
+        // What was no memory register has too many units for one, and what was
+        // one has too few for another.
+        (3, Some(&word)) => target.registers[word].memory = false,
+        (3 | 4, _) => target.registers[reg].memory = true,
+        _ if width > 1 && random.chance(50) => set_width(target, reg, width - 1),
+        _ => set_width(target, reg, (width + 1).min(8)),
+    }
+}
+
+/// Gives a register fewer units, or more: of its own, so that no other rule is
+/// broken.
+fn set_width(target: &mut Target, reg: usize, width: usize) {
+    let units = &mut target.registers[reg].units;
+    units.truncate(width);
+    while units.len() < width {
+        units.push(target.units);
         target.units += 1;
     }
 }
@@ -245,7 +269,11 @@ fn mix_memory(random: &mut Random, draft: &mut Draft) {
     let one = random.below(target.registers.len());
     let other = random.below(target.registers.len());
     if random.chance(50) {
-        target.registers[one].memory ^= true;
+        let bank = target.registers[one].bank;
+        let memory = !target.registers[one].memory;
+        let width = if memory { 1 } else { target.width_of(bank) };
+        target.registers[one].memory = memory;
+        set_width(target, one, width);
     }
     let unit = *random.pick(&target.registers[other].units);
     let units = &mut target.registers[one].units;

@@ -98,14 +98,15 @@ pub fn random(random: &mut Random, flavour: &Flavour) -> Target {
         let fit = random.within(1.max(count / 2), count + 1);
         ordinary = ordinary.max((fit * width).min(400));
         for index in 0..count {
+            // A memory register has one unit, whatever the others have.
             let memory = index > 0 && random.chance(flavour.memory);
             if memory {
-                memory_units = (memory_units + width).min(100).max(width);
+                memory_units = (memory_units + 1).min(100);
             }
             registers.push(Register {
                 memory,
                 bank,
-                units: vec![0; width],
+                units: vec![0; if memory { 1 } else { width }],
             });
         }
     }
@@ -224,13 +225,14 @@ fn class(random: &mut Random, target: &Target, bank: usize, all: &[usize], kind:
         members.truncate(random.within(1, all.len()));
     }
     let mut order = members.clone();
-    match random.below(4) {
+    match random.below(5) {
         0 => random.shuffle(&mut order),
         1 => {
             random.shuffle(&mut order);
             order.truncate(random.within(0, members.len()));
         }
         2 => order.retain(|&reg| !is_memory(reg)),
+        3 => order.sort_by_key(|&reg| !is_memory(reg)),
         _ => {}
     }
 

@@ -50,6 +50,10 @@ r0 = 0 ∷ 0 ∷ 1 ∷ 0 ∷ []
 abbrev pub allOf : ℕ → List ℕ
 allOf slots = 0 ∷ slots ∷ 3 ∷ 0 ∷ 1 ∷ 2 ∷ 3 ∷ 0 ∷ 1 ∷ 2 ∷ []
 
+-- a target of r0 of two units and another register, with the classes that they need
+abbrev pub besideAPair : ℕ → List ℕ → List ℕ
+besideAPair units r = units ∷ 1 ∷ 3 ∷ 0 ∷ 1 ∷ 2 ∷ 0 ∷ 0 ∷ 2 ∷ 0 ∷ 1 ∷ (r ++ (2 ∷ 0 ∷ 1 ∷ 2 ∷ 0 ∷ 1 ∷ 1 ∷ 0 ∷ 0 ∷ 0 ∷ 1 ∷ 0 ∷ 1 ∷ 0 ∷ []))
+
 -- two banks of one register each, with the classes that they need; then a function of one value
 abbrev pub twoBanks : List ℕ → List ℕ
 twoBanks more =
@@ -70,6 +74,9 @@ pub record Trials : Type 0 where
   -- the target's rules come before the function's first number, and rise
   pub target-alone : job (targetWith r0 (allOf 1) (allOf 0)) .refusal ≡ some 1
   pub unequal : job (targetWith (0 ∷ 0 ∷ 2 ∷ 0 ∷ 1 ∷ []) (allOf 0) (allOf 0)) .refusal ≡ some 4
+  -- 02 b: a memory register of one unit is taken, so that the function's first number is missing; one of two units is not
+  pub argument-word : job (besideAPair 3 (1 ∷ 0 ∷ 1 ∷ 2 ∷ [])) .refusal ≡ some 1
+  pub wide-memory : job (besideAPair 4 (1 ∷ 0 ∷ 2 ∷ 2 ∷ 3 ∷ [])) .refusal ≡ some 4
   pub no-member : job (targetWith r0 (allOf 0) (0 ∷ 0 ∷ 2 ∷ 0 ∷ 1 ∷ 3 ∷ 0 ∷ 1 ∷ 2 ∷ [])) .refusal ≡ some 5
   pub memory-shared : job (targetWith (1 ∷ 0 ∷ 1 ∷ 1 ∷ []) (allOf 0) (allOf 0)) .refusal ≡ some 6
   pub top-without-slots : job (targetWith r0 (allOf 0) (allOf 0)) .refusal ≡ some 7

@@ -11,9 +11,9 @@ use lib.Dec.{T, T-not, eqb→eq, eqb-refl}
 use lib.ListN.{length, replicate, length-replicate}
 use Rattle.entity.specs.Logic.{has, any, twice}
 use Rattle.entity.specs.Place.{Place, reg, slot, samePlace}
-use Rattle.reginfo.specs.RegInfo.{RegInfo, numRegs, numClasses, numBanks, regUnits, bankForClass, includesSpillslots, lastInOrder, topLevelClass, stackToStackClass, isMemoryReg, overlap}
+use Rattle.reginfo.specs.RegInfo.{RegInfo, numClasses, numBanks, regUnits, bankForClass, includesSpillslots, lastInOrder, topLevelClass, stackToStackClass, overlap}
 use Rattle.reginfo.specs.Refused as target
-use Rattle.reginfo.proofs.Accepted.{top-fits, stack-fits, same-width, order-member, top-bank, stack-bank, memory-apart, top-slots, stack-slots, stack-memory, last-memory, last-ordered, member-fits, member-bank}
+use Rattle.reginfo.proofs.Accepted.{top-fits, stack-fits, same-width, order-member, top-bank, stack-bank, top-slots, stack-slots, stack-memory, last-memory, last-ordered, member-fits, member-bank}
 use Rattle.function.specs.Function.{Function, numValues, valueBank, canRematerialize, rematClass}
 use Rattle.function.specs.Refused as function
 use Rattle.function.proofs.Laws.{bank-there}
@@ -32,10 +32,10 @@ use Rattle.machine.proofs.Run.{Job, Stop, Final, stops, ends}
 use Rattle.machine.proofs.Sound.{Within, can}
 use Rattle.machine.proofs.Cache.{CacheOk}
 use Rattle.machine.proofs.Search.{ClassOk, place-covers}
-use Rattle.machine.proofs.Emit.{MemoryRule, StackOk}
+use Rattle.machine.proofs.Emit.{StackOk}
 use Rattle.machine.proofs.Order.{PatchOk}
 use Rattle.machine.proofs.Whole.{In, EntryOk, PlainsOk, ScratchesOk, NeedR, PatchStart, Done, whole-ok}
-use Rattle.machine.proofs.Premises.{has-reverse, Disjoint, disjoint, disjoint-comm, rematAt, kept-passes, remat-passes, scratch-passes, last-apart, dest-disjoint, dest-remat, dest-scratch, remat-remat, remat-scratch, scratch-scratch, writes, free-kept, free-remat, free-scratch, written, barred, remat-class, remat-bank, dest-fits, remat-fits, scratch-fits, member-holds, no-units, reg-low, reg-once, reg-slot, beyond}
+use Rattle.machine.proofs.Premises.{has-reverse, Disjoint, disjoint, disjoint-comm, rematAt, kept-passes, remat-passes, scratch-passes, last-apart, dest-disjoint, dest-remat, dest-scratch, remat-remat, remat-scratch, scratch-scratch, writes, free-kept, free-remat, free-scratch, written, barred, remat-class, remat-bank, dest-fits, remat-fits, scratch-fits, member-holds, reg-low, reg-once, reg-own, reg-kinds, beyond}
 use Rattle.machine.proofs.Entries.{Became, dests-are, entry-ends}
 use Rattle.machine.proofs.Bound.{bound-ok}
 
@@ -73,7 +73,13 @@ in-right (r ∷ l) m q x h = inr (in-right l m q x h)
 
 module _ (t : RegInfo) (f : Function) (ta : target.Accepted t) (fa : function.Accepted t f) where
   targetOk : TargetOk t
-  targetOk = record { twice = λ r. once-distinct (regUnits t r) (reg-once t f ta r); low = λ r s. no-of (has (512 + s) (regUnits t r)) (reg-low t f ta r s) }
+  targetOk =
+      record {
+        twice = λ r. once-distinct (regUnits t r) (reg-once t f ta r);
+        low = λ r s. no-of (has (512 + s) (regUnits t r)) (reg-low t f ta r s);
+        own = λ r m. yes-of _ (reg-own t f ta r (of-yes _ m));
+        kinds = λ x r u m n h k. reg-kinds t f ta x r u (of-yes _ m) (of-no _ n) (of-yes _ h) (of-yes _ k);
+      }
 
   apart-of : (p q : Place) → Disjoint t f p q → Apart t f targetOk p q
   apart-of p q d u a b = d u (of-yes _ (place-covers t f targetOk p u a)) (of-yes _ (place-covers t f targetOk q u b))
@@ -93,19 +99,6 @@ module _ (t : RegInfo) (f : Function) (ta : target.Accepted t) (fa : function.Ac
       go : Dec (u < 512) → u < 512
       go (yes l) = l
       go (no n) = let y = high (omega arith) in absurd (T-not (hasIn (regUnits t r) (512 + y .0)) (targetOk .low r (y .0)) (subst (λ (z : ℕ). T (hasIn (regUnits t r) z)) (y .1) h))
-
-  reg-rule : (x r u : ℕ) → T (isMemoryReg t x) → T (not (isMemoryReg t r)) → T (hasIn (regUnits t x) u) → T (hasIn (regUnits t r) u) → ⊥
-  unfolding has
-  reg-rule x r u m n in-x in-r = go (decLt x (numRegs t)) (decLt r (numRegs t))
-    where
-      go : Dec (x < numRegs t) → Dec (r < numRegs t) → ⊥
-      go (yes hx) (yes hr) = disjoint t f (reg x) (reg r) (memory-apart t ta x r hx hr (of-yes _ m) (of-no _ n)) u (of-yes _ in-x) (of-yes _ in-r)
-      go (no hx) d = subst (λ (l : List ℕ). T (hasIn l u)) (no-units t f x (omega arith)) in-x
-      go (yes hx) (no hr) = subst (λ (l : List ℕ). T (hasIn l u)) (no-units t f r (omega arith)) in-r
-
-  rule : MemoryRule t f targetOk
-  rule (slot s) r m n = apart-of (slot s) (reg r) (disjoint-comm t f (reg r) (slot s) (reg-slot t f ta r s))
-  rule (reg x) r m n = λ u a b. reg-rule x r u m n (place-covers t f targetOk (reg x) u a) (place-covers t f targetOk (reg r) u b)
 
   -- a class of the value's bank takes the value's content
   module _ (content : ℕ → List ℕ) (whole : Contents t f content) where
@@ -194,7 +187,6 @@ module _ (t : RegInfo) (f : Function) (ta : target.Accepted t) (fa : function.Ac
           top-ok = λ v hv. class-ok content whole job (λ v. refl) em (topLevelClass t (valueBank f v)) v (top-fits t ta (valueBank f v) (bank-there t f fa v hv)) hv (top-bank t ta (valueBank f v) (bank-there t f fa v hv));
           top-slots = λ v hv. yes-of _ (top-slots t ta (valueBank f v) (bank-there t f fa v hv));
           barred = λ m u ml h. yes-of _ (barred t f ms m u ml (of-yes _ h));
-          rule = rule;
           tracked = λ v h. h;
         }
 
@@ -298,8 +290,10 @@ module _ (t : RegInfo) (f : Function) (ta : target.Accepted t) (fa : function.Ac
     stopped : (start : Memory) (s : Machine) → Stop t f job start s → Stopped t f p content start s
     stopped start s h =
         record {
-          units = λ u l nd nf. sym (h .frame .words u (⊎-elim (λ m. ⊎-elim (never (isDestUnit u) (dests-are t f p _ ∙ nd)) (never (has u (p .free)) nf) (m .1)) (λ m. let e : u ≡ 512 + m .0 = m .1 in omega arith)));
-          slots = λ x l nd. sym (h .frame .lists x (⊎-elim (λ m. let b : 512 + x < 512 = m .0 in omega arith) (other x l (dests-are t f p _ ∙ nd))));
+          units = λ u l nd nf.
+              let off : May u → ⊥ = ⊎-elim (λ m. ⊎-elim (never (isDestUnit u) (dests-are t f p _ ∙ nd)) (never (has u (p .free)) nf) (m .1)) (λ m. let e : u ≡ 512 + m .0 = m .1 in omega arith) in
+              (sym (h .frame .words u off), sym (h .frame .lists u off));
+          slots = λ x l nd. sym (h .frame .lists (512 + x) (⊎-elim (λ m. let b : 512 + x < 512 = m .0 in omega arith) (other x l (dests-are t f p _ ∙ nd))));
           survives = λ i il. let y = h .lives (value t f ms i) (i, il, refl) in (y .0, y .1 .1, y .1 .0);
         }
       where
@@ -325,18 +319,26 @@ module _ (t : RegInfo) (f : Function) (ta : target.Accepted t) (fa : function.Ac
           ends = let y = ends t f job (ran .allocator .edits) start _ every in (y .0, y .1, finished (y .0) (y .2));
         })
 
-  -- contents of zeros: there are always some
-  zeros : ℕ → List ℕ
-  zeros v = replicate (length (regUnits t (lastInOrder t (stackToStackClass t (valueBank f v))))) 0
+  -- a value's width is that of the last register of its bank's stack class
+  pub width : ℕ → ℕ
+  width v = length (regUnits t (lastInOrder t (stackToStackClass t (valueBank f v))))
 
-  zeros-whole : Contents t f zeros
-  unfolding zeros
-  zeros-whole v r hv hr e =
+  pub so-wide : (content : ℕ → List ℕ) → ((v : ℕ) → v < numValues f → length (content v) ≡ width v) → Contents t f content
+  unfolding width
+  so-wide content w v r hv hr n e =
       let hb = bank-there t f fa v hv in
       let c : ℕ = stackToStackClass t (valueBank f v) in
       let hc = stack-fits t ta (valueBank f v) hb in
-      let m = order-member t ta c (lastInOrder t c) hc (last-ordered t ta c hc (stack-slots t ta (valueBank f v) hb)) in
-      length-replicate _ 0 ∙ same-width t ta (lastInOrder t c) r (member-fits t ta c hc _ m) hr (member-bank t ta c _ hc m ∙ stack-bank t ta (valueBank f v) hb ∙ sym e)
+      let ns = stack-slots t ta (valueBank f v) hb in
+      let m = order-member t ta c (lastInOrder t c) hc (last-ordered t ta c hc ns) in
+      w v hv ∙ same-width t ta (lastInOrder t c) r (member-fits t ta c hc _ m) hr (last-memory t ta c hc ns) n (member-bank t ta c _ hc m ∙ stack-bank t ta (valueBank f v) hb ∙ sym e)
+
+  zeros : ℕ → List ℕ
+  zeros v = replicate (width v) 0
+
+  zeros-whole : Contents t f zeros
+  unfolding zeros
+  zeros-whole = so-wide zeros (λ v h. length-replicate (width v) 0)
 
   fresh : CacheOk t f emptyCache
   unfolding has distinct

@@ -15,7 +15,7 @@ use Rattle.rules.specs.Scratch.{ScratchAllocator, Found, push, unitsOfReg, make
 use Rattle.machine.specs.Machine.{fits}
 use Rattle.rules.proofs.Steps.{All, all-then}
 use Rattle.machine.proofs.Tests.{hasIn, and-split, if}
-use Rattle.machine.proofs.Memory.{TargetOk, covers, Apart}
+use Rattle.machine.proofs.Memory.{TargetOk, covers, Apart, memory-apart}
 use Rattle.machine.proofs.Run.{Wait, idle, Job}
 use Rattle.machine.proofs.Sound.{Needs, under, shown, Within, Live, Ok, Pre, Sound, Turns, met-raw}
 use Rattle.machine.proofs.Macro.{Goal, Scratch, Standing, move, through}
@@ -30,10 +30,6 @@ no-left true b h = absurd h
 no-left false b h = tt
 
 module _ (t : RegInfo) (F : Function) (tk : TargetOk t) where
-  -- memory shares nothing with what is not memory
-  abbrev pub MemoryRule : Type 0
-  MemoryRule = (q : Place) (r : ℕ) → T (isMemory t q) → T (not (isMemoryReg t r)) → Apart t F tk q (reg r)
-
   module _ (j : Job) (em : (s : ℕ) → F .slots ≤ s → j .may (512 + s)) where
     abbrev K : Needs → ScratchAllocator → Type 0
     K = Kept t F tk j em
@@ -75,7 +71,7 @@ module _ (t : RegInfo) (F : Function) (tk : TargetOk t) where
         pub avails : (u : ℕ) → T (k .available u) → T (k′ .available u)
         pub same : T (not (isMemory t from)) → wait k′ ≡ wait k
 
-      module _ (b : ℕ) (sk : StackOk b (length (j .content v))) (rule : MemoryRule) where
+      module _ (b : ℕ) (sk : StackOk b (length (j .content v))) where
         abbrev c : ℕ
         c = stackToStackClass t b
 
@@ -116,7 +112,7 @@ module _ (t : RegInfo) (F : Function) (tk : TargetOk t) where
                     record {
                       sound =
                           through t F tk j (wait k′) v (k′ .edits) needs needs′ (f .kept .sound) (a .live) to
-                          (goal k′ (f .kept .room) (f .still to off (λ _. rule to (lastInOrder t c) tm (sk .ok .last-plain (sk .no-slots))))) (P (wait k′))
+                          (goal k′ (f .kept .room) (f .still to off (λ _. memory-apart t F tk to (lastInOrder t c) tm (sk .ok .last-plain (sk .no-slots))))) (P (wait k′))
                           (x .place) from scratch (st′ fm x f) (no-right (isMemory t to) (isMemory t (x .place)) np) (no-left (isMemory t (x .place)) (isMemory t from) np);
                       room = room-edits needs k′ (Move (x .place) from v ∷ Move to (x .place) v ∷ k′ .edits) (f .kept .room);
                       fewer = f .fewer;
@@ -140,7 +136,7 @@ module _ (t : RegInfo) (F : Function) (tk : TargetOk t) where
                         record {
                           unneeded = λ p y n u d sh.
                               ⊎-elim
-                              (λ e. rule from (free u sh .of) fm (sk .plain (free u sh .of) (free u sh .listed)) u (subst (λ (q : Place). T (covers t F tk q u)) e d) (free-covers t F tk j em c (nothingBarred t F) k′ u (free u sh)))
+                              (λ e. memory-apart t F tk from (free u sh .of) fm (sk .plain (free u sh .of) (free u sh .listed)) u (subst (λ (q : Place). T (covers t F tk q u)) e d) (free-covers t F tk j em c (nothingBarred t F) k′ u (free u sh)))
                               (λ i. kept-free t F tk j em needs c (nothingBarred t F) k′ u (f .kept .room) (free u sh) p y (i .0) d)
                               (a .back p y n);
                           len = f .len;
@@ -183,7 +179,7 @@ module _ (t : RegInfo) (F : Function) (tk : TargetOk t) where
         doMove-ok k₀ take real h₀ =
             all-then (Moved (λ w. Ok t F tk j needs′ w) k) (Emitted k₀) (moveEdits t F b to from v k) _
             (moveEdits-ok (λ w. Ok t F tk j needs′ w) k h (b₂ .off) (standing k (b₂ .back .still from (b₁ .off)) (λ s e. e))
-            (λ fm x f. standing (x .scratch) (f .still from (b₂ .back .still from (b₁ .off)) (λ _. rule from (lastInOrder t c) fm (sk .ok .last-plain (sk .no-slots)))) (f .fewer)))
+            (λ fm x f. standing (x .scratch) (f .still from (b₂ .back .still from (b₁ .off)) (λ _. memory-apart t F tk from (lastInOrder t c) fm (sk .ok .last-plain (sk .no-slots)))) (f .fewer)))
             (λ k′ m. (turned-ok k₀ k′ real (λ s e. fewer s (m .fewer s e)) (m .room) (m .sound), λ s e. fewer s (m .fewer s e)))
           where
             b₁ : BackFor t F tk j em needs from k₀ (unevictForReg t F from k₀)

@@ -1,13 +1,15 @@
--- Demand 3 at swap-full and at slot-to-slot: target and function are accepted, the edits are those of the trial, and the premise can be met.
+-- Demand 3 at swap-full, at slot-to-slot and with argument words: target and function are accepted, the edits are those of the trial, and the
+-- premise can be met.
 use Prim.Native.Nat.{ℕ, zero, suc, _<_}
-use mathlib.Core.Path.{_≡_, refl, sym, ap, _∙_}
+use mathlib.Core.Path.{_≡_, refl, sym, ap, _∙_, subst, fun-ext}
+use mathlib.Core.Bool.{false, true≢false}
 use mathlib.Core.List.{List, [], _∷_, map}
 use mathlib.Core.Option.{Option, none, some}
 use native.Mathlib.Omega.{arith}
 use lib.ListN.{length, getD, take}
 use Rattle.entity.specs.Logic.{any, all, has, meets, indices}
 use Rattle.entity.specs.Place.{reg, slot}
-use Rattle.reginfo.specs.RegInfo.{regMemory, bankForReg, regUnits, classMembers}
+use Rattle.reginfo.specs.RegInfo.{RegInfo, regMemory, bankForReg, regUnits, classMembers, isMemoryReg}
 use Rattle.reginfo.specs.Refused.{firstOf}
 use Rattle.function.specs.Function.{Function, valueBank, rematCost, rematClass}
 use Rattle.function.specs.Refused as function
@@ -15,15 +17,16 @@ use Rattle.rules.specs.Edit.{Edit, updated, andThen, filter}
 use Rattle.rules.specs.Scratch.{emptyCache}
 use Rattle.rules.specs.Order.{KeptMove, noMove}
 use Rattle.rules.specs.Patch.{Patch, Answer, refused, resolved, destinations, add, sortedFrom, sorted, entryConditions, patchConditions, resolveSorted, resolveFrom, resolve, cacheAfter}
-use Rattle.rules.specs.Trials.{three, plain, patch, swap, Gives}
-use Rattle.rules.proofs.Trials.{trials, told-apart}
-use Rattle.machine.specs.Machine.{Memory, Machine, Waiting, begin, put, read, write, fits, step, steps}
+use Rattle.rules.specs.Trials.{three, plain, patch, swap, arguments, Gives}
+use Rattle.rules.proofs.Steps.{updated-at}
+use Rattle.rules.proofs.Trials.{trials, told-apart, argument-words}
+use Rattle.machine.specs.Machine.{Memory, inSlot, Machine, Waiting, begin, put, read, write, fits, step, steps}
 use Rattle.machine.specs.Claim.{Contents, Holding, RightFrom, Accepted, Answered}
-use Rattle.machine.specs.Instance.{swapEdits, slotToSlot, slotEdits, words, Stop, Swapped, SwapFull, SlotToSlot}
+use Rattle.machine.specs.Instance.{swapEdits, slotToSlot, slotEdits, words, Stop, Swapped, SwapFull, SlotToSlot, pairs, throughEdits, Through, ThroughAWord, wordSwap, wordEdits, WordsSwapped, SwapOfWords}
 use Rattle.machine.proofs.Demand.{demand-3}
 
-module _ (f : Function) (p : Patch) where
-  given : (r : Answer) (es : List Edit) (made : ℕ) (stack : List ℕ) → Gives r es made stack → Answered three f p r → Accepted three f p es
+module _ (t : RegInfo) (f : Function) (p : Patch) where
+  given : (r : Answer) (es : List Edit) (made : ℕ) (stack : List ℕ) → Gives r es made stack → Answered t f p r → Accepted t f p es
   given (refused n) es made stack g h = absurd g
   given (resolved es′ c) es made stack g h = rw (g .0) at h
 
@@ -33,7 +36,7 @@ swap-fits = refl
 
 swap-accepted : Accepted three (plain 0 1) (patch [] swap) swapEdits
 swap-accepted =
-    given (plain 0 1) (patch [] swap) (resolve three (plain 0 1) (patch [] swap) 16 emptyCache) swapEdits 1 (0 ∷ []) (trials .swap-full)
+    given three (plain 0 1) (patch [] swap) (resolve three (plain 0 1) (patch [] swap) 16 emptyCache) swapEdits 1 (0 ∷ []) (trials .swap-full)
     (demand-3 three (plain 0 1) (told-apart .targets .0) swap-fits (record { patch = patch [] swap; room = 16 } ∷ []) .0)
 
 slot-fits : function.Accepted three (plain 2 1)
@@ -48,13 +51,13 @@ too-short = refl
 -- the second of two calls, after one that is refused
 slot-accepted : Accepted three (plain 2 1) slotToSlot slotEdits
 slot-accepted =
-    given (plain 2 1) slotToSlot (resolve three (plain 2 1) slotToSlot 8 emptyCache) slotEdits 1 (2 ∷ []) (trials .slot-to-slot)
+    given three (plain 2 1) slotToSlot (resolve three (plain 2 1) slotToSlot 8 emptyCache) slotEdits 1 (2 ∷ []) (trials .slot-to-slot)
     (rw too-short at (demand-3 three (plain 2 1) (told-apart .targets .0) slot-fits (record { patch = slotToSlot; room = 0 } ∷ record { patch = slotToSlot; room = 8 } ∷ []) .1 .0))
 
 -- each register has one unit, and each content one word
 whole : (n l a b : ℕ) → Contents three (plain n l) (words a b)
 unfolding three regUnits
-whole n l a b v r hv hr e = one v ∙ sym (width r hr)
+whole n l a b v r hv hr m e = one v ∙ sym (width r hr)
   where
     one : (v : ℕ) → length (words a b v) ≡ 1
     one zero = refl
@@ -73,14 +76,19 @@ both-kept : sorted three (plain 0 1) (patch [] swap) .moves ≡ both
 unfolding three any has regMemory classMembers rematCost rematClass sortedFrom add
 both-kept = refl
 
-swap-holds : (start : Memory) → Holding three (plain 0 1) (patch [] swap) (words (start .word 0) (start .word 1)) start
-unfolding three regUnits read
-swap-holds start = rw both-kept at-both
+-- two kept moves whose sources hold their values' contents
+two-hold : (t : RegInfo) (f : Function) (p : Patch) (content : ℕ → List ℕ) (m : Memory) (x y : KeptMove) → sorted t f p .moves ≡ x ∷ y ∷ []
+    → read t f m (x .source) ≡ content (x .value) → read t f m (y .source) ≡ content (y .value) → Holding t f p content m
+two-hold t f p content m x y e h k = rw e at-both
   where
-    at-both : (i : ℕ) → i < 2 → read three (plain 0 1) start (getD both i noMove .source) ≡ words (start .word 0) (start .word 1) (getD both i noMove .value)
-    at-both zero h = refl
-    at-both (suc zero) h = refl
-    at-both (suc (suc i)) h = absurd (omega arith)
+    at-both : (i : ℕ) → i < 2 → read t f m (getD (x ∷ y ∷ []) i noMove .source) ≡ content (getD (x ∷ y ∷ []) i noMove .value)
+    at-both zero l = h
+    at-both (suc zero) l = k
+    at-both (suc (suc i)) l = absurd (omega arith)
+
+swap-holds : (start : Memory) → Holding three (plain 0 1) (patch [] swap) (words (start .word 0) (start .word 1)) start
+unfolding three regUnits regMemory read
+swap-holds start = two-hold three (plain 0 1) (patch [] swap) (words (start .word 0) (start .word 1)) start _ _ both-kept refl refl
 
 abbrev one : List KeptMove
 one = record { source = slot 0; dest = slot 1; value = 0 } ∷ []
@@ -89,7 +97,7 @@ one-kept : sorted three (plain 2 1) slotToSlot .moves ≡ one
 unfolding three any has regMemory classMembers rematCost rematClass sortedFrom add
 one-kept = refl
 
-slot-holds : (start : Memory) (a : ℕ) → start .slots 0 ≡ a ∷ [] → Holding three (plain 2 1) slotToSlot (words a a) start
+slot-holds : (start : Memory) (a : ℕ) → inSlot start 0 ≡ a ∷ [] → Holding three (plain 2 1) slotToSlot (words a a) start
 unfolding read
 slot-holds start a p = rw one-kept at-one
   where
@@ -102,22 +110,22 @@ the : Machine → Option Machine → Machine
 the d none = d
 the d (some s) = s
 
-module _ (f : Function) (p : Patch) (content : ℕ → List ℕ) (es : List Edit) (start : Memory) (right : RightFrom three f p content start es) where
+module _ (t : RegInfo) (units cells : List ℕ) (f : Function) (p : Patch) (content : ℕ → List ℕ) (es : List Edit) (start : Memory) (right : RightFrom t f p content start es) where
   reached : ℕ → Machine
-  reached k = the (begin start) (steps three f content (take k es) (begin start))
+  reached k = the (begin start) (steps t f content (take k es) (begin start))
 
-  stop : (k : ℕ) (regs : List ℕ) (lists : List (List ℕ)) (waiting : List Waiting) → map (reached k .memory .word) (0 ∷ 1 ∷ 2 ∷ []) ≡ regs → map (reached k .memory .slots) (0 ∷ 1 ∷ 2 ∷ []) ≡ lists → reached k .waiting ≡ waiting
-      → Stop f p content es start k regs lists waiting
+  stop : (k : ℕ) (words : List ℕ) (lists : List (List ℕ)) (waiting : List Waiting) → map (reached k .memory .word) units ≡ words → map (reached k .memory .lists) cells ≡ lists → reached k .waiting ≡ waiting
+      → Stop t units cells f p content es start k words lists waiting
   unfolding the reached
-  stop k regs lists waiting a b c =
+  stop k words lists waiting a b c =
       let y = right .stops k in
       let e : y .0 ≡ reached k = ap (the (begin start)) (sym (y .1)) in
       record {
         machine = y .0;
         done = y .1;
         stopped = y .2;
-        regs-hold = rw e a;
-        slots-hold = rw e b;
+        words-hold = rw e a;
+        lists-hold = rw e b;
         waits = rw e c;
       }
 
@@ -125,7 +133,7 @@ swapped : (start : Memory) → Swapped start (start .word 0) (start .word 1)
 unfolding three regUnits regMemory updated andThen put read write fits step steps the reached
 swapped start =
     let r = swap-accepted .right (words (start .word 0) (start .word 1)) (whole 0 1 (start .word 0) (start .word 1)) start (swap-holds start) in
-    let at = stop (plain 0 1) (patch [] swap) (words (start .word 0) (start .word 1)) swapEdits start r in
+    let at = stop three _ _ (plain 0 1) (patch [] swap) (words (start .word 0) (start .word 1)) swapEdits start r in
     record {
       stop-0 = at 0 _ _ _ refl refl refl;
       stop-1 = at 1 _ _ _ refl refl refl;
@@ -141,7 +149,7 @@ pub slot-to-slot : SlotToSlot
 unfolding three regUnits regMemory updated andThen filter put read write fits step steps the reached
 slot-to-slot start a p =
     let r = slot-accepted .right (words a a) (whole 2 1 a a) start (slot-holds start a p) in
-    let at = stop (plain 2 1) slotToSlot (words a a) slotEdits start r in
+    let at = stop three _ _ (plain 2 1) slotToSlot (words a a) slotEdits start r in
     record {
       stop-0 = at 0 _ _ _ refl (rw p) refl;
       stop-1 = at 1 _ _ _ refl (rw p) refl;
@@ -150,3 +158,100 @@ slot-to-slot start a p =
       stop-4 = at 4 _ _ _ (rw p) (rw p (rw p)) (rw p);
       ends = r .ends;
     }
+
+-- ---- argument words
+arguments-fit : function.Accepted arguments (plain 2 2)
+unfolding indices valueBank rematCost rematClass function.countsFit function.valueFits function.foreignClass function.valuesRefusal function.functionRefusal
+arguments-fit = refl
+
+through-accepted : Accepted arguments (plain 2 2) (patch (4 ∷ []) swap) throughEdits
+through-accepted =
+    given arguments (plain 2 2) (patch (4 ∷ []) swap) (resolve arguments (plain 2 2) (patch (4 ∷ []) swap) 16 emptyCache) throughEdits 0 [] (argument-words .through-a-word)
+    (demand-3 arguments (plain 2 2) (argument-words .targets .0) arguments-fit (record { patch = patch (4 ∷ []) swap; room = 16 } ∷ []) .0)
+
+words-accepted : Accepted arguments (plain 2 2) wordSwap wordEdits
+words-accepted =
+    given arguments (plain 2 2) wordSwap (resolve arguments (plain 2 2) wordSwap 16 emptyCache) wordEdits 2 (3 ∷ 2 ∷ []) (argument-words .words-swapped)
+    (demand-3 arguments (plain 2 2) (argument-words .targets .0) arguments-fit (record { patch = wordSwap; room = 16 } ∷ []) .0)
+
+-- r0 and r1 have two units, and each content two words
+pairs-whole : (a b c d : ℕ) → Contents arguments (plain 2 2) (pairs a b c d)
+unfolding regUnits regMemory
+pairs-whole a b c d v r hv hr m e = two v ∙ sym (width r hr m)
+  where
+    two : (v : ℕ) → length (pairs a b c d v) ≡ 2
+    two zero = refl
+    two (suc v) = refl
+
+    width : (r : ℕ) → r < 4 → isMemoryReg arguments r ≡ false → length (regUnits arguments r) ≡ 2
+    width zero h m = refl
+    width (suc zero) h m = refl
+    width (suc (suc zero)) h m = absurd (true≢false m)
+    width (suc (suc (suc zero))) h m = absurd (true≢false m)
+    width (suc (suc (suc (suc r)))) h m = absurd (omega arith)
+
+through-kept : sorted arguments (plain 2 2) (patch (4 ∷ []) swap) .moves ≡ both
+unfolding any has regMemory classMembers rematCost rematClass sortedFrom add
+through-kept = refl
+
+through-holds : (start : Memory) → Holding arguments (plain 2 2) (patch (4 ∷ []) swap) (pairs (start .word 0) (start .word 1) (start .word 2) (start .word 3)) start
+unfolding regUnits regMemory read
+through-holds start =
+    two-hold arguments (plain 2 2) (patch (4 ∷ []) swap) (pairs (start .word 0) (start .word 1) (start .word 2) (start .word 3)) start _ _ through-kept refl refl
+
+through : (start : Memory) → Through start (start .word 0) (start .word 1) (start .word 2) (start .word 3)
+unfolding regUnits regMemory updated andThen put read write fits step steps the reached
+through start =
+    let content = pairs (start .word 0) (start .word 1) (start .word 2) (start .word 3) in
+    let r = through-accepted .right content (pairs-whole _ _ _ _) start (through-holds start) in
+    let at = stop arguments _ _ (plain 2 2) (patch (4 ∷ []) swap) content throughEdits start r in
+    record {
+      stop-0 = at 0 _ _ _ refl refl refl;
+      stop-1 = at 1 _ _ _ refl refl refl;
+      stop-2 = at 2 _ _ _ refl refl refl;
+      stop-3 = at 3 _ _ _ refl refl refl;
+      ends = r .ends;
+    }
+
+pub through-a-word : ThroughAWord
+through-a-word start a b c d p q x y = rw (← p, ← q, ← x, ← y) (through start)
+
+words-kept : sorted arguments (plain 2 2) wordSwap .moves ≡ record { source = reg 2; dest = reg 3; value = 0 } ∷ record { source = reg 3; dest = reg 2; value = 1 } ∷ []
+unfolding any has regMemory classMembers rematCost rematClass sortedFrom add
+words-kept = refl
+
+-- the start with the lists of r2 and r3 written out
+abbrev spelled : Memory → ℕ → ℕ → ℕ → ℕ → Memory
+spelled m a b c d = record { word = m .word; lists = updated 4 (a ∷ b ∷ []) (updated 5 (c ∷ d ∷ []) (m .lists)) }
+
+spelled-out : (m : Memory) (a b c d : ℕ) → m .lists 4 ≡ a ∷ b ∷ [] → m .lists 5 ≡ c ∷ d ∷ [] → spelled m a b c d ≡ m
+spelled-out m a b c d p q =
+    ap (λ (l : ℕ → List ℕ). record { word = m .word; lists = l })
+    (fun-ext
+    (λ u. updated-at (λ l. l ≡ m .lists u) 4 _ _ u (λ e. sym p ∙ ap (m .lists) (sym e)) (λ _. updated-at (λ l. l ≡ m .lists u) 5 _ (m .lists) u (λ e. sym q ∙ ap (m .lists) (sym e)) (λ _. refl))))
+
+words-hold : (start : Memory) (a b c d : ℕ) → Holding arguments (plain 2 2) wordSwap (pairs a b c d) (spelled start a b c d)
+unfolding regUnits regMemory updated read
+words-hold start a b c d = two-hold arguments (plain 2 2) wordSwap (pairs a b c d) (spelled start a b c d) _ _ words-kept refl refl
+
+words-swapped : (start : Memory) (a b c d : ℕ) → WordsSwapped (spelled start a b c d) a b c d
+unfolding regUnits regMemory updated andThen filter put read write fits step steps the reached
+words-swapped start a b c d =
+    let m = spelled start a b c d in
+    let r = words-accepted .right (pairs a b c d) (pairs-whole a b c d) m (words-hold start a b c d) in
+    let at = stop arguments _ _ (plain 2 2) wordSwap (pairs a b c d) wordEdits m r in
+    record {
+      stop-0 = at 0 _ _ _ refl refl refl;
+      stop-1 = at 1 _ _ _ refl refl refl;
+      stop-2 = at 2 _ _ _ refl refl refl;
+      stop-3 = at 3 _ _ _ refl refl refl;
+      stop-4 = at 4 _ _ _ refl refl refl;
+      stop-5 = at 5 _ _ _ refl refl refl;
+      stop-6 = at 6 _ _ _ refl refl refl;
+      stop-7 = at 7 _ _ _ refl refl refl;
+      stop-8 = at 8 _ _ _ refl refl refl;
+      ends = r .ends;
+    }
+
+pub swap-of-words : SwapOfWords
+swap-of-words start a b c d p q = subst (λ (m : Memory). WordsSwapped m a b c d) (spelled-out start a b c d p q) (words-swapped start a b c d)

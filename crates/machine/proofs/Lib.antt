@@ -18,5 +18,6 @@ pub mod Passes
 pub mod Whole
 pub mod Slots
 pub mod Demand
+pub mod ArgumentWords
 pub mod Instance
 pub mod NotAccepted

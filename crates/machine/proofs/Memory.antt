@@ -5,12 +5,13 @@ use mathlib.Core.List.{List, [], _∷_, map}
 use Prim.Native.Nat.{ℕ, _+_}
 use lib.Dec.{T, T-not, not-T, eqb, eqb→eq, eqb-refl}
 use native.Mathlib.Nat.{suc-ne-zero, suc-inj}
-use lib.ListN.{length}
+use lib.ListN.{length, getD}
 use Rattle.entity.specs.Logic.{has}
 use Rattle.entity.specs.Place.{Place, reg, slot}
-use Rattle.reginfo.specs.RegInfo.{RegInfo, regUnits}
+use Rattle.reginfo.specs.RegInfo.{RegInfo, regUnits, isMemoryReg, isMemory, placeUnits}
 use Rattle.function.specs.Function.{Function}
-use Rattle.machine.specs.Machine.{Memory, put, read, write, fits}
+use Rattle.rules.specs.Edit.{updated}
+use Rattle.machine.specs.Machine.{Memory, put, cell, read, write, fits}
 use Rattle.rules.proofs.Steps.{updated-same, updated-other}
 use Rattle.machine.proofs.Tests.{hasIn, or-split, or-l, or-r, and-split, cond-yes, cond-not}
 
@@ -73,15 +74,18 @@ put-self (u ∷ us) f x = go (eqb x u) (eqb→eq x u) (put-self us f x)
     go true e ih = ap f (sym (e tt))
     go false e ih = ih
 
--- what the machine asks of a target: no register lists a unit twice, none hasIn a slot's number
+-- what the machine asks of a target: no register lists a unit twice, none hasIn a slot's number, and a memory register has a unit, which is no
+-- other register's (6)
 pub record TargetOk (t : RegInfo) : Type 0 where
   pub twice : (r : ℕ) → T (distinct (regUnits t r))
   pub low : (r s : ℕ) → T (not (hasIn (regUnits t r) (512 + s)))
+  pub own : (r : ℕ) → T (isMemoryReg t r) → T (hasIn (regUnits t r) (getD (regUnits t r) 0 0))
+  pub kinds : (x r u : ℕ) → T (isMemoryReg t x) → T (not (isMemoryReg t r)) → T (hasIn (regUnits t x) u) → T (hasIn (regUnits t r) u) → ⊥
 
 -- a and b agree but for the units that the test c takes; 512 + s is slot s
 pub record Off (c : ℕ → Bool) (a b : Memory) : Type 0 where
   pub words : (u : ℕ) → T (not (c u)) → a .word u ≡ b .word u
-  pub lists : (s : ℕ) → T (not (c (512 + s))) → a .slots s ≡ b .slots s
+  pub lists : (u : ℕ) → T (not (c u)) → a .lists u ≡ b .lists u
 
 module _ (t : RegInfo) (f : Function) (tk : TargetOk t) where
   unfoldable pub covers : Place → ℕ → Bool
@@ -92,20 +96,79 @@ module _ (t : RegInfo) (f : Function) (tk : TargetOk t) where
   abbrev pub Apart : Place → Place → Type 0
   Apart p q = (u : ℕ) → T (covers p u) → T (covers q u) → ⊥
 
-  slot-apart : (s x : ℕ) → T (not (eqb (512 + x) (512 + s))) → x ≡ s → ⊥
-  slot-apart s x h e = T-not (eqb (512 + x) (512 + s)) h (subst (λ (y : ℕ). T (eqb (512 + x) (512 + y))) e (eqb-refl (512 + x)))
+  -- memory shares nothing with what is not memory
+  pub memory-apart : (q : Place) (r : ℕ) → T (isMemory t q) → T (not (isMemoryReg t r)) → Apart q (reg r)
+  unfolding covers
+  memory-apart (reg x) r m n u a b = tk .kinds x r u m n a b
+  memory-apart (slot s) r m n u a b = T-not (hasIn (regUnits t r) (512 + s)) (tk .low r s) (subst (λ (y : ℕ). T (hasIn (regUnits t r) y)) (eqb→eq u (512 + s) a) b)
+
+  -- a place covers its units, and lists none twice
+  unit-covered : (p : Place) (u : ℕ) → T (hasIn (placeUnits t p) u) → T (covers p u)
+  unfolding covers has
+  unit-covered (reg r) u h = h
+  unit-covered (slot s) u h = go (eqb u (512 + s)) h
+    where
+      go : (b : Bool) → T (b || false) → T b
+      go true h = tt
+      go false h = h
+
+  cell-covered : (p : Place) → T (isMemory t p) → T (covers p (cell t f p))
+  unfolding covers
+  cell-covered (reg r) h = tk .own r h
+  cell-covered (slot s) h = eqb-refl (512 + s)
+
+  units-once : (p : Place) → T (distinct (placeUnits t p))
+  unfolding has distinct
+  units-once (reg r) = tk .twice r
+  units-once (slot s) = tt
+
+  -- ws written at p, as a list or as words
+  abbrev written : Place → List ℕ → Memory → Bool → Memory
+  written p ws m b = cond b (record { word = m .word; lists = updated (cell t f p) ws (m .lists) }) (record { word = put (placeUnits t p) ws (m .word); lists = m .lists })
 
   pub write-off : (p : Place) (ws : List ℕ) (m : Memory) → Off (covers p) (write t f p ws m) m
-  unfolding write covers
-  write-off (reg r) ws m = record { words = put-other (regUnits t r) ws (m .word); lists = λ s h. refl }
-  write-off (slot s) ws m = record { words = λ u h. refl; lists = λ x h. updated-other s ws (m .slots) x (slot-apart s x h) }
+  unfolding write
+  write-off p ws m = go (isMemory t p) (cell-covered p)
+    where
+      go : (b : Bool) → (T b → T (covers p (cell t f p))) → Off (covers p) (written p ws m b) m
+      go true h =
+          record {
+            words = λ u k. refl;
+            lists = λ u k. updated-other (cell t f p) ws (m .lists) u (λ e. T-not (covers p u) k (subst (λ (y : ℕ). T (covers p y)) (sym e) (h tt)));
+          }
+      go false h =
+          record { words = λ u k. put-other (placeUnits t p) ws (m .word) u (not-T (hasIn (placeUnits t p) u) (λ x. T-not (covers p u) k (unit-covered p u x))); lists = λ u k. refl }
 
   pub read-off : (c : ℕ → Bool) (a b : Memory) → Off c a b → (q : Place) → ((u : ℕ) → T (covers q u) → T (c u) → ⊥) → read t f a q ≡ read t f b q
-  unfolding read covers
-  read-off c a b o (reg r) d = map-cong (regUnits t r) (a .word) (b .word) (λ x h. o .words x (not-T (c x) (d x h)))
-  read-off c a b o (slot s) d = o .lists s (not-T (c (512 + s)) (d (512 + s) (eqb-refl (512 + s))))
+  unfolding read
+  read-off c a b o q d = go (isMemory t q) (cell-covered q)
+    where
+      go : (i : Bool) → (T i → T (covers q (cell t f q))) → cond i (a .lists (cell t f q)) (map (a .word) (placeUnits t q)) ≡ cond i (b .lists (cell t f q)) (map (b .word) (placeUnits t q))
+      go true h = o .lists (cell t f q) (not-T (c (cell t f q)) (d (cell t f q) (h tt)))
+      go false h = map-cong (placeUnits t q) (a .word) (b .word) (λ x k. o .words x (not-T (c x) (d x (unit-covered q x k))))
 
   pub read-write : (p : Place) (ws : List ℕ) (m : Memory) → T (fits t f p (length ws)) → read t f (write t f p ws m) p ≡ ws
   unfolding read write fits
-  read-write (reg r) ws m h = put-same (regUnits t r) ws (m .word) (tk .twice r) (eqb→eq (length ws) (length (regUnits t r)) h)
-  read-write (slot s) ws m h = updated-same s ws (m .slots)
+  read-write p ws m h = go (isMemory t p) h
+    where
+      go : (b : Bool) → T (b || eqb (length ws) (length (placeUnits t p))) → cond b (written p ws m b .lists (cell t f p)) (map (written p ws m b .word) (placeUnits t p)) ≡ ws
+      go true k = updated-same (cell t f p) ws (m .lists)
+      go false k = put-same (placeUnits t p) ws (m .word) (units-once p) (eqb→eq (length ws) (length (placeUnits t p)) k)
+
+  -- a register that is not memory holds words, and no write changes a list at a unit of it
+  module _ (r : ℕ) (n : T (not (isMemoryReg t r))) where
+    pub plain-write : (ws : List ℕ) (m : Memory) → write t f (reg r) ws m ≡ record { word = put (regUnits t r) ws (m .word); lists = m .lists }
+    unfolding write
+    plain-write ws m = cond-not (isMemoryReg t r) _ _ n
+
+    pub plain-read : (m : Memory) → read t f m (reg r) ≡ map (m .word) (regUnits t r)
+    unfolding read
+    plain-read m = cond-not (isMemoryReg t r) _ _ n
+
+    pub plain-lists : (p : Place) (ws : List ℕ) (m : Memory) (u : ℕ) → T (hasIn (regUnits t r) u) → write t f p ws m .lists u ≡ m .lists u
+    unfolding write covers
+    plain-lists p ws m u k = go (isMemory t p) (λ i. memory-apart p r i n) (cell-covered p)
+      where
+        go : (b : Bool) → (T b → Apart p (reg r)) → (T b → T (covers p (cell t f p))) → written p ws m b .lists u ≡ m .lists u
+        go true a h = updated-other (cell t f p) ws (m .lists) u (λ e. a tt u (subst (λ (y : ℕ). T (covers p y)) (sym e) (h tt)) k)
+        go false a h = refl

@@ -29,7 +29,7 @@ wrong-not-accepted p content start es w a = w .not-right (a .right content (w .w
 -- each content has one word, as each register of bank 0 has one unit
 whole : (a b c : ℕ) → Contents seven values (words a b c)
 unfolding seven regUnits bankForReg valueBank
-whole a b c v r hv hr e = one v hv ∙ sym (width r hr (e ∙ first v hv))
+whole a b c v r hv hr m e = one v hv ∙ sym (width r hr (e ∙ first v hv))
   where
     one : (v : ℕ) → v < 3 → length (words a b c v) ≡ 1
     one zero h = refl
@@ -42,7 +42,7 @@ whole a b c v r hv hr e = one v hv ∙ sym (width r hr (e ∙ first v hv))
     first (suc (suc zero)) h = refl
     first (suc (suc (suc v))) h = absurd (omega arith)
 
-    width : (r : ℕ) → r < 7 → bankForReg seven r ≡ 0 → length (regUnits seven r) ≡ 1
+    width : (r : ℕ) → r < 8 → bankForReg seven r ≡ 0 → length (regUnits seven r) ≡ 1
     width zero h e = refl
     width (suc zero) h e = refl
     width (suc (suc zero)) h e = refl
@@ -50,7 +50,8 @@ whole a b c v r hv hr e = one v hv ∙ sym (width r hr (e ∙ first v hv))
     width (suc (suc (suc (suc zero)))) h e = refl
     width (suc (suc (suc (suc (suc zero))))) h e = refl
     width (suc (suc (suc (suc (suc (suc zero)))))) h e = absurd (let z : _≡_ {A = ℕ} 1 0 = e in omega arith)
-    width (suc (suc (suc (suc (suc (suc (suc r))))))) h e = absurd (omega arith)
+    width (suc (suc (suc (suc (suc (suc (suc zero))))))) h e = absurd (let z : _≡_ {A = ℕ} 1 0 = e in omega arith)
+    width (suc (suc (suc (suc (suc (suc (suc (suc r)))))))) h e = absurd (omega arith)
 
 -- what k edits lead to
 the : Machine → Option Machine → Machine
@@ -97,7 +98,7 @@ unfolding seven any has regMemory classMembers rematCost rematClass sortedFrom a
 stored-kept = refl
 
 one-holds : Holding seven values lists.one (words 70 71 72) lists.start
-unfolding seven regUnits read
+unfolding seven regUnits regMemory read
 one-holds = rw one-kept at
   where
     at : (i : ℕ) → i < 1 → read seven values lists.start (getD (m0 ∷ []) i noMove .source) ≡ words 70 71 72 (getD (m0 ∷ []) i noMove .value)
@@ -105,7 +106,7 @@ one-holds = rw one-kept at
     at (suc i) h = absurd (omega arith)
 
 stored-holds : Holding seven values lists.stored (words 70 71 72) lists.start
-unfolding seven regUnits read
+unfolding seven regUnits updated read
 stored-holds = rw stored-kept at
   where
     at : (i : ℕ) → i < 1 → read seven values lists.start (getD (record { source = slot 0; dest = slot 1; value = 1 } ∷ []) i noMove .source) ≡ words 70 71 72 (getD (record { source = slot 0; dest = slot 1; value = 1 } ∷ []) i noMove .value)
@@ -114,7 +115,7 @@ stored-holds = rw stored-kept at
 
 -- 70, 71 and c in r0, r2 and r3
 three-holds : (c : ℕ) (x y : List ℕ) → Holding seven values lists.three (words 70 71 c) (holding (70 ∷ 1 ∷ 71 ∷ c ∷ 4 ∷ 5 ∷ 6 ∷ 7 ∷ []) x y)
-unfolding seven regUnits read
+unfolding seven regUnits regMemory read
 three-holds c x y = rw three-kept at
   where
     at : (i : ℕ) → i < 3 → read seven values (holding (70 ∷ 1 ∷ 71 ∷ c ∷ 4 ∷ 5 ∷ 6 ∷ 7 ∷ []) x y) (getD all-kept i noMove .source) ≡ words 70 71 c (getD all-kept i noMove .value)
@@ -124,7 +125,7 @@ three-holds c x y = rw three-kept at
     at (suc (suc (suc i))) h = absurd (omega arith)
 
 -- two lists that begin with different words
-differ : {x y : ℕ} → (x ≡ y → ⊥) → x ∷ [] ≡ y ∷ [] → ⊥
+differ : {x y : ℕ} {l m : List ℕ} → (x ≡ y → ⊥) → x ∷ l ≡ y ∷ m → ⊥
 differ n e = n (ap (λ (l : List ℕ). getD l 0 0) e)
 
 -- the edit that loses value 0
@@ -162,11 +163,12 @@ not-accepted =
       one-taken = (refl, refl, refl);
       three-taken = (refl, refl, refl);
       stored-taken = (refl, refl, refl);
-      foreign-register = plainly-wrong _ (omega arith) (λ r. let e : 70 ≡ 71 = stopped _ _ _ _ r 2 .units 2 (omega arith) refl refl in omega arith);
+      foreign-register = plainly-wrong _ (omega arith) (λ r. let e : 70 ≡ 71 = stopped _ _ _ _ r 2 .units 2 (omega arith) refl refl .0 in omega arith);
+      foreign-word = plainly-wrong _ (omega arith) (λ r. differ (λ (z : 70 ≡ 80). omega arith) (stopped _ _ _ _ r 2 .units 8 (omega arith) refl refl .1));
       foreign-slot = plainly-wrong _ (omega arith) (λ r. differ (λ (z : 70 ≡ 9). omega arith) (stopped _ _ _ _ r 2 .slots 1 (omega arith) refl));
-      source-overwritten = plainly-wrong _ (omega arith) (λ r. let e : 71 ≡ 70 = stopped _ _ _ _ r 2 .units 0 (omega arith) refl refl in omega arith);
+      source-overwritten = plainly-wrong _ (omega arith) (λ r. let e : 71 ≡ 70 = stopped _ _ _ _ r 2 .units 0 (omega arith) refl refl .0 in omega arith);
       left-waiting = plainly-wrong _ (omega arith) (λ r. let e : 1 ≡ 0 = ap length (finished _ _ _ _ r .none-waits) in omega arith);
-      waiting-lost = plainly-wrong _ (omega arith) (λ r. let e : 70 ≡ 71 = stopped _ _ _ _ r 2 .units 2 (omega arith) refl refl in omega arith);
+      waiting-lost = plainly-wrong _ (omega arith) (λ r. let e : 70 ≡ 71 = stopped _ _ _ _ r 2 .units 2 (omega arith) refl refl .0 in omega arith);
       empty = plainly-wrong _ (omega arith) (λ r. differ (λ (z : 1 ≡ 70). omega arith) (finished _ _ _ _ r .entries (move (reg 0) (reg 1) 0) (List·Memᴰ·head refl)));
       lost-to-chance = record { whole = whole 70 71 72; holds = three-holds 72 _ _; within = omega arith; not-right = lost 72 _ _ _ };
       lost-to-another = record { whole = whole 70 71 70; holds = three-holds 70 _ _; within = omega arith; not-right = lost 70 _ _ _ };

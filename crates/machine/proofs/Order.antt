@@ -23,7 +23,7 @@ use Rattle.machine.proofs.Memory.{distinct, TargetOk, covers, Apart}
 use Rattle.machine.proofs.Run.{Wait, idle, saved, Job}
 use Rattle.machine.proofs.Sound.{Needs, Within, Live}
 use Rattle.machine.proofs.Search.{wait, WaitsIn, Empty, WaitOk, Kept, ClassOk, Free, Lone, FoundOk, search-ok, kept-free, give-room}
-use Rattle.machine.proofs.Emit.{MemoryRule, Asked, StackOk, doMove-ok}
+use Rattle.machine.proofs.Emit.{Asked, StackOk, doMove-ok}
 use Rattle.machine.proofs.Tally.{tally, tally-pos, tally-cong, tally-up}
 use Rattle.machine.proofs.Carry.{TabOk, Grown, mark-ok}
 
@@ -75,7 +75,6 @@ module _ (t : RegInfo) (F : Function) (tk : TargetOk t) (j : Job) (em : (s : ℕ
     pub top-ok : (v : ℕ) → v < numValues F → ClassOk t F tk j em (topOf v) (length (j .content v))
     pub top-slots : (v : ℕ) → v < numValues F → T (includesSpillslots t (topOf v))
     pub barred : (m u : ℕ) → m < numOf → T (hasIn (unitsOfReg t F (srcOf m)) u) → T (barOf u)
-    pub rule : MemoryRule t F tk
     pub tracked : (v : ℕ) → j .tracked v → (i : ℕ) × (i < numOf) × (valOf i ≡ v)
 
   abbrev pub Needed : (ℕ → Place) → Needs
@@ -118,7 +117,7 @@ module _ (t : RegInfo) (F : Function) (tk : TargetOk t) (j : Job) (em : (s : ℕ
       pub emit-shift : (k : ScratchAllocator) → Shift → T (fits t F to (length (j .content v))) → Within t F tk j (covers t F tk to) → ((s : ℕ) → Empty t F tk k s → Apart t F tk from (slot s))
           → Kept t F tk j em (Needed pl) k → All (λ k′. Kept t F tk j em (Needed pl′) k′ × ((s : ℕ) → Empty t F tk k′ s → Empty t F tk k s)) (doMove t F (valueBank F v) to from v k)
       emit-shift k sh ft inn re h =
-          doMove-ok t F tk j em (Needed pl) (Needed pl′) to from v (shift-asked k sh ft inn re) (valueBank F v) (ok .stack v (subst (λ (z : ℕ). z < numValues F) (sh .who .3) (ok .valued (sh .who .0) (sh .who .1)))) (ok .rule) k
+          doMove-ok t F tk j em (Needed pl) (Needed pl′) to from v (shift-asked k sh ft inn re) (valueBank F v) (ok .stack v (subst (λ (z : ℕ). z < numValues F) (sh .who .3) (ok .valued (sh .who .0) (sh .who .1)))) k
           (sh .who .0, sh .who .1, sym (sh .who .4), sym (sh .who .3)) re h
 
     not-done : (st : ℕ → State) (i k : ℕ) → T (not (isDone (updated i Done st k))) → (k ≡ i → ⊥) × T (not (isDone (st k)))

@@ -11,11 +11,11 @@ use lib.Seq.{getD-append-add}
 use borrow.Author.Tests.{eq-eqb, eqb-true, ltb-true, ltb-false}
 use Rattle.entity.specs.Logic.{or, no, any, has, meets, twice}
 use Rattle.entity.specs.Place.{Place, reg, slot}
-use Rattle.entity.proofs.Laws.{or-false, and-false, never-true, any-at}
-use Rattle.reginfo.specs.RegInfo.{Reg, RegInfo, noReg, numRegs, numClasses, regUnits, bankForClass, classMembers, includesSpillslots, lastInOrder, placeUnits, overlap, ofBank}
+use Rattle.entity.proofs.Laws.{or-false, and-false, never-true, any-at, has-getD}
+use Rattle.reginfo.specs.RegInfo.{Reg, RegInfo, noReg, numRegs, numClasses, regMemory, bankForReg, regUnits, isMemoryReg, bankForClass, classMembers, includesSpillslots, lastInOrder, placeUnits, overlap, ofBank}
 use Rattle.reginfo.specs.Refused as target
 use Rattle.reginfo.proofs.Laws.{overlap-comm}
-use Rattle.reginfo.proofs.Accepted.{unit-low, member-fits, units-once, member-bank}
+use Rattle.reginfo.proofs.Accepted.{width-fits, unit-low, member-fits, units-once, memory-apart, member-bank}
 use Rattle.function.specs.Function.{Function, numValues, valueBank, rematClass}
 use Rattle.function.specs.Refused as function
 use Rattle.function.proofs.Laws.{class-there, class-of-bank}
@@ -238,9 +238,18 @@ module _ (t : RegInfo) (f : Function) where
 
   -- a place holds whole the content of a value of its bank
   module _ (content : ℕ → List ℕ) (whole : Contents t f content) where
+    -- a register of the bank, memory or not
+    reg-holds : (r v : ℕ) → v < numValues f → r < numRegs t → bankForReg t r ≡ valueBank f v → fits t f (reg r) (length (content v)) ≡ true
+    unfolding fits
+    reg-holds r v l h b = go (isMemoryReg t r) refl
+      where
+        go : (i : Bool) → isMemoryReg t r ≡ i → or i (eqb (length (content v)) (length (regUnits t r))) ≡ true
+        go true e = refl
+        go false e = eq-eqb _ _ (whole v r l h e b)
+
     pub place-fits : (p : Place) (v : ℕ) → v < numValues f → namesPlace t f p ≡ true → ofBank t (valueBank f v) p ≡ true → fits t f p (length (content v)) ≡ true
     unfolding fits
-    place-fits (reg r) v l n b = eq-eqb _ _ (whole v r l (named-reg r n) (eqb-true _ _ b))
+    place-fits (reg r) v l n b = reg-holds r v l (named-reg r n) (eqb-true _ _ b)
     place-fits (slot s) v l n b = refl
 
     module _ (a : Sorted) (ok : SortedOk t f a) where
@@ -254,8 +263,7 @@ module _ (t : RegInfo) (f : Function) where
       scratch-fits i h = let r = ok .rematsWithScratch i h in place-fits (rematAt (a .rematsWithScratch) i .dest) (rematAt (a .rematsWithScratch) i .value) (r .value-named) (r .dest-named) (r .dest-bank)
 
     pub member-holds : target.Accepted t → (v c r : ℕ) → v < numValues f → c < numClasses t → bankForClass t c ≡ valueBank f v → has r (classMembers t c) ≡ true → fits t f (reg r) (length (content v)) ≡ true
-    unfolding fits
-    member-holds to v c r l h b m = eq-eqb _ _ (whole v r l (member-fits t to c h r m) (member-bank t to c r h m ∙ b))
+    member-holds to v c r l h b m = reg-holds r v l (member-fits t to c h r m) (member-bank t to c r h m ∙ b)
 
   -- two slots
   pub slot-slot : (s x : ℕ) → (s ≡ x → ⊥) → Disjoint (slot s) (slot x)
@@ -266,6 +274,14 @@ module _ (t : RegInfo) (f : Function) where
   pub no-units : (r : ℕ) → numRegs t ≤ r → regUnits t r ≡ []
   unfolding regUnits
   no-units r h = ap (λ (x : Reg). x .units) (List·getD-eq-default (t .regs) noReg h)
+
+  -- one that passes a test which none would pass is there
+  reg-there : (q : Reg → Bool) → q noReg ≡ false → (r : ℕ) → q (getD (t .regs) r noReg) ≡ true → r < numRegs t
+  reg-there q e r h = go (ltb r (numRegs t)) refl
+    where
+      go : (b : Bool) → ltb r (numRegs t) ≡ b → r < numRegs t
+      go true l = ltb-true r (numRegs t) l
+      go false l = absurd (false≢true (sym e ∙ ap q (sym (List·getD-eq-default (t .regs) noReg (ltb-false r (numRegs t) l))) ∙ h))
 
   by-range : (P : List ℕ → Type 0) → P [] → ((r : ℕ) → r < numRegs t → P (regUnits t r)) → (r : ℕ) → P (regUnits t r)
   by-range P z h r = go (ltb r (numRegs t)) refl
@@ -283,6 +299,15 @@ module _ (t : RegInfo) (f : Function) where
     pub reg-once : (r : ℕ) → twice (regUnits t r) ≡ false
     unfolding twice
     reg-once = by-range (λ l. twice l ≡ false) refl (units-once t to)
+
+    -- a memory register has a unit, which is no other register's
+    pub reg-own : (r : ℕ) → isMemoryReg t r ≡ true → has (getD (regUnits t r) 0 0) (regUnits t r) ≡ true
+    unfolding regMemory
+    reg-own r m = has-getD (regUnits t r) 0 (width-fits t to r (reg-there (λ x. eqb (x .memory) 1) refl r m) .0)
+
+    pub reg-kinds : (x r u : ℕ) → isMemoryReg t x ≡ true → isMemoryReg t r ≡ false → has u (regUnits t x) ≡ true → has u (regUnits t r) ≡ true → ⊥
+    unfolding regUnits has
+    reg-kinds x r u m n h k = disjoint (reg x) (reg r) (memory-apart t to x r (reg-there (λ x. has u (x .units)) refl x h) (reg-there (λ x. has u (x .units)) refl r k) m n) u h k
 
     pub reg-slot : (r s : ℕ) → Disjoint (reg r) (slot s)
     unfolding has

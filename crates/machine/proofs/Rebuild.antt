@@ -22,7 +22,7 @@ use Rattle.machine.proofs.Run.{Wait, idle, saved, Job}
 use Rattle.machine.proofs.Sound.{Needs, can, under, shown, Aside, Within, Live, Ok, Pre, Sound, Turns, Stands}
 use Rattle.machine.proofs.Macro.{Scratch, rebuild, rebuild-into}
 use Rattle.machine.proofs.Search.{wait, WaitsIn, or-case, Empty, ApartW, reg-covers, Room, Kept, BackFor, bringFor-ok, ClassOk, Free, Lone, FoundOk, search-ok, kept-free, give-room}
-use Rattle.machine.proofs.Emit.{MemoryRule, room-edits, Asked, StackOk, goal, Moved, moveEdits-ok}
+use Rattle.machine.proofs.Emit.{room-edits, Asked, StackOk, goal, Moved, moveEdits-ok}
 
 module _ (t : RegInfo) (F : Function) (tk : TargetOk t) (j : Job) (em : (s : ℕ) → F .slots ≤ s → j .may (512 + s)) where
   abbrev K : Needs → ScratchAllocator → Type 0
@@ -141,9 +141,9 @@ module _ (t : RegInfo) (F : Function) (tk : TargetOk t) (j : Job) (em : (s : ℕ
     abbrev bnk : ℕ
     bnk = bankForClass t cls
 
-    pub scratched-ok : RebuildOk to v cls → StackOk t F tk j em bnk (length (j .content v)) → MemoryRule t F tk → (k₀ : ScratchAllocator) → K needs k₀ → All (K needs′) (rematWithScratch t F (record { dest = to; value = v }) k₀)
+    pub scratched-ok : RebuildOk to v cls → StackOk t F tk j em bnk (length (j .content v)) → (k₀ : ScratchAllocator) → K needs k₀ → All (K needs′) (rematWithScratch t F (record { dest = to; value = v }) k₀)
     unfolding rematWithScratch
-    scratched-ok rk sk rule k₀ h₀ =
+    scratched-ok rk sk k₀ h₀ =
         all-then (FoundOk t F tk j em needs bnk cls (length (j .content v)) (nothingBarred t F) (rk .ok) k) (K needs′) (getScratchReg t F bnk cls (nothingBarred t F) k) _
         (search-ok t F tk j em needs bnk cls (length (j .content v)) (nothingBarred t F) (rk .ok) k (b₁ .back .kept)) next
       where
@@ -157,7 +157,7 @@ module _ (t : RegInfo) (F : Function) (tk : TargetOk t) (j : Job) (em : (s : ℕ
             → All (K needs′) (andThen (moveEdits t F bnk to (x .place) v (x .scratch)) (λ k′. some (makeAvailable t F to (releasePlace t F (spillslotSize t bnk) (x .place) (push (Rematerialize (x .place) v) k′)))))
         next x f =
             all-then (Moved t F tk j em needs needs′ to (x .place) v (asked (x .place)) P (x .scratch)) (K needs′) (moveEdits t F bnk to (x .place) v (x .scratch)) _
-            (moveEdits-ok t F tk j em needs needs′ to (x .place) v (asked (x .place)) bnk sk rule P (x .scratch) (f .kept) (f .still to (b₁ .off) (rk .far)) (λ m l h. (h .ok, h .raw)) (λ _ y g m l h. (h .ok, h .raw)))
+            (moveEdits-ok t F tk j em needs needs′ to (x .place) v (asked (x .place)) bnk sk P (x .scratch) (f .kept) (f .still to (b₁ .off) (rk .far)) (λ m l h. (h .ok, h .raw)) (λ _ y g m l h. (h .ok, h .raw)))
             done
           where
             P : Wait → Pre t F tk j

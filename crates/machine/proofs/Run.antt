@@ -1,17 +1,17 @@
 -- What holds at each stop of a run, for any set of places that may change.
 use mathlib.Core.Path.{_≡_, refl}
-use mathlib.Core.Bool.{Bool, true, false}
+use mathlib.Core.Bool.{Bool, true, false, not}
 use mathlib.Core.List.{List, [], _∷_, List·Memᴰ}
 use mathlib.Core.Option.{some}
 use mathlib.Core.Logic.{_⊎_}
-use Prim.Native.Nat.{ℕ, zero, suc, _+_}
-use lib.Dec.{T}
+use Prim.Native.Nat.{ℕ, zero, suc}
+use lib.Dec.{T, eqb}
 use lib.ListN.{length, take}
-use Rattle.entity.specs.Place.{Place, reg, slot}
-use Rattle.reginfo.specs.RegInfo.{RegInfo}
+use Rattle.entity.specs.Place.{Place}
+use Rattle.reginfo.specs.RegInfo.{RegInfo, regUnits, isMemoryReg}
 use Rattle.function.specs.Function.{Function}
 use Rattle.rules.specs.Edit.{Edit, andThen}
-use Rattle.machine.specs.Machine.{Memory, Waiting, Written, Machine, read, fits, step, steps, counted, seen, when}
+use Rattle.machine.specs.Machine.{Memory, inSlot, Waiting, Written, Machine, read, step, steps, counted, seen, when}
 
 -- the register that waits, and the slot that it waits in; one at most
 pub data Wait : Type 0 where
@@ -50,16 +50,16 @@ module _ (t : RegInfo) (f : Function) where
   abbrev pub view : Wait → Memory → Memory
   view w m = counted t f (waiting w) m
 
-  -- the waiting slot's list fits its register
+  -- the register that waits is not memory, and its slot's list fits it
   unfoldable pub Ready : Wait → Memory → Type 0
   Ready idle m = Unit {0}
-  Ready (saved r s) m = T (fits t f (reg r) (length (m .slots s)))
+  Ready (saved r s) m = T (not (isMemoryReg t r)) × T (eqb (length (inSlot m s)) (length (regUnits t r)))
 
   module _ (j : Job) where
     -- the view agrees outside what may change
     pub record Frame (a b : Memory) : Type 0 where
       pub words : (u : ℕ) → (j .may u → ⊥) → a .word u ≡ b .word u
-      pub lists : (s : ℕ) → (j .may (512 + s) → ⊥) → a .slots s ≡ b .slots s
+      pub lists : (u : ℕ) → (j .may u → ⊥) → a .lists u ≡ b .lists u
 
     abbrev pub Anchored : Log → Place → ℕ → Type 0
     Anchored l p v = j .home p v ⊎ List·Memᴰ (wr p (j .content v)) l

@@ -111,7 +111,7 @@ module _ (t : RegInfo) (F : Function) (tk : TargetOk t) where
         record {
           kept =
               record {
-                sound = save t F tk j (e .slot) (e .reg) (k .edits) needs (h .sound) (λ p v n. h .room .empty p v n (e .slot) (inr refl)) (slot-within (e .slot) (wt .above));
+                sound = save t F tk j (e .slot) (e .reg) (k .edits) needs (wt .plain) (h .sound) (λ p v n. h .room .empty p v n (e .slot) (inr refl)) (slot-within (e .slot) (wt .above));
                 room =
                     record {
                       few = omega arith;

@@ -1,20 +1,20 @@
 -- A program built backwards: sound from any state that meets a precondition, so that edits come in groups.
 use mathlib.Core.Path.{_≡_, refl, sym, _∙_, ap}
 use mathlib.Core.Bool.{Bool, true, false, not, _&&_, cond}
-use mathlib.Core.List.{List, [], _∷_, List·Memᴰ·head, List·Memᴰ·tail}
+use mathlib.Core.List.{List, [], _∷_, map, List·Memᴰ·head, List·Memᴰ·tail}
 use mathlib.Core.Option.{some}
 use mathlib.Core.Logic.{_⊎_, inl, inr}
 use Prim.Native.Nat.{ℕ, _+_}
 use lib.Dec.{T, not-T, eqb, eqb→eq, eqb-refl}
 use lib.ListN.{length, length-map}
 use Rattle.entity.specs.Place.{Place, reg, slot}
-use Rattle.reginfo.specs.RegInfo.{RegInfo, regUnits, isMemory, inClass}
+use Rattle.reginfo.specs.RegInfo.{RegInfo, regUnits, isMemoryReg, isMemory, inClass}
 use Rattle.function.specs.Function.{Function, canRematerialize, rematClass}
 use Rattle.rules.specs.Edit.{Edit, Move, Rematerialize, EmergencySpill, EmergencyReload, filter}
-use Rattle.machine.specs.Machine.{Memory, Machine, Waiting, Written, put, read, write, fits, step, counted, seen, without}
+use Rattle.machine.specs.Machine.{Memory, inSlot, Machine, Waiting, Written, put, read, write, fits, step, counted, seen, without}
 use Rattle.rules.proofs.Steps.{updated-same}
-use Rattle.machine.proofs.Tests.{hasIn}
-use Rattle.machine.proofs.Memory.{TargetOk, Off, covers, Apart, write-off, read-off, read-write, put-cong, put-hit, put-self}
+use Rattle.machine.proofs.Tests.{hasIn, or-r}
+use Rattle.machine.proofs.Memory.{TargetOk, Off, covers, Apart, write-off, read-off, read-write, put-cong, put-hit, put-self, plain-write, plain-read, plain-lists}
 use Rattle.machine.proofs.Run.{Wait, idle, saved, waiting, Log, wr, state, when-yes, Job, view, Ready, Frame, Anchored, Holds, Stop, Along}
 
 both : (a b : Bool) → T a → T b → T (a && b)
@@ -73,52 +73,76 @@ module _ (t : RegInfo) (F : Function) (tk : TargetOk t) where
   clear-read : (w : Wait) (m : Memory) (p : Place) → Clear w p → read t F (view t F w m) p ≡ read t F m p
   unfolding counted
   clear-read idle m p h = refl
-  clear-read (saved r s) m p h = read-off t F tk (covers t F tk (reg r)) (write t F (reg r) (m .slots s) m) m (write-off t F tk (reg r) (m .slots s) m) p (h .0)
+  clear-read (saved r s) m p h = read-off t F tk (covers t F tk (reg r)) (write t F (reg r) (inSlot m s) m) m (write-off t F tk (reg r) (inSlot m s) m) p (h .0)
+
+  -- a write leaves the lists under the register that waits
+  under-lists : (w : Wait) (p : Place) (ws : List ℕ) (m : Memory) → Ready t F w m → (u : ℕ) → T (under w u) → write t F p ws m .lists u ≡ m .lists u
+  unfolding under Ready
+  under-lists idle p ws m k u h = absurd h
+  under-lists (saved r s) p ws m k u h = plain-lists t F tk r (k .0) p ws m u h
 
   -- what changes off c changes in the view off what is shown of c
-  view-off : (w : Wait) (c : ℕ → Bool) (a b : Memory) → Aside w c → Ready t F w b → Off c a b → Off (shown w c) (view t F w a) (view t F w b)
-  unfolding counted write under Ready fits
-  view-off idle c a b h k o =
-      record { words = λ u x. o .words u (not-and (c u) false x tt); lists = λ s x. o .lists s (not-and (c (512 + s)) false x tt) }
-  view-off (saved r s) c a b h k o =
-      record {
-        words = λ u x. rw (o .lists s h) (go u (hasIn (regUnits t r) u) (put-hit (regUnits t r) (b .slots s) (a .word) (b .word) u) x);
-        lists = λ x n. o .lists x (not-and (c (512 + x)) (hasIn (regUnits t r) (512 + x)) n (tk .low r x));
-      }
+  view-off : (w : Wait) (c : ℕ → Bool) (a b : Memory) → Aside w c → Ready t F w b → ((u : ℕ) → T (under w u) → a .lists u ≡ b .lists u) → Off c a b → Off (shown w c) (view t F w a) (view t F w b)
+  unfolding counted under Ready
+  view-off idle c a b h k q o =
+      record { words = λ u x. o .words u (not-and (c u) false x tt); lists = λ u x. o .lists u (not-and (c u) false x tt) }
+  view-off (saved r s) c a b h k q o =
+      rw (plain-write t F tk r (k .0) (inSlot a s) a, plain-write t F tk r (k .0) (inSlot b s) b, o .lists (512 + s) h)
+      (record {
+        words = λ u x. words u (hasIn (regUnits t r) u) (put-hit (regUnits t r) (inSlot b s) (a .word) (b .word) u) x;
+        lists = λ u x. lists u (hasIn (regUnits t r) u) (q u) x;
+      })
     where
-      same : length (b .slots s) ≡ length (regUnits t r)
-      same = eqb→eq (length (b .slots s)) (length (regUnits t r)) k
+      same : length (inSlot b s) ≡ length (regUnits t r)
+      same = eqb→eq (length (inSlot b s)) (length (regUnits t r)) (k .1)
 
-      go : (u : ℕ) (i : Bool)
-          → (T i → length (b .slots s) ≡ length (regUnits t r) → put (regUnits t r) (b .slots s) (a .word) u ≡ put (regUnits t r) (b .slots s) (b .word) u)
-          → T (not (c u && not i)) → put (regUnits t r) (b .slots s) (a .word) u ≡ put (regUnits t r) (b .slots s) (b .word) u
-      go u true hit x = hit tt same
-      go u false hit x = put-cong (regUnits t r) (b .slots s) (a .word) (b .word) u (o .words u (not-and (c u) false x tt))
+      words : (u : ℕ) (i : Bool)
+          → (T i → length (inSlot b s) ≡ length (regUnits t r) → put (regUnits t r) (inSlot b s) (a .word) u ≡ put (regUnits t r) (inSlot b s) (b .word) u)
+          → T (not (c u && not i)) → put (regUnits t r) (inSlot b s) (a .word) u ≡ put (regUnits t r) (inSlot b s) (b .word) u
+      words u true hit x = hit tt same
+      words u false hit x = put-cong (regUnits t r) (inSlot b s) (a .word) (b .word) u (o .words u (not-and (c u) false x tt))
+
+      lists : (u : ℕ) (i : Bool) → (T i → a .lists u ≡ b .lists u) → T (not (c u && not i)) → a .lists u ≡ b .lists u
+      lists u true e x = e tt
+      lists u false e x = o .lists u (not-and (c u) false x tt)
 
   ready-off : (w : Wait) (c : ℕ → Bool) (a b : Memory) → Aside w c → Off c a b → Ready t F w b → Ready t F w a
   unfolding Ready
   ready-off idle c a b h o k = k
-  ready-off (saved r s) c a b h o k = rw (o .lists s h) k
+  ready-off (saved r s) c a b h o k = (k .0, rw (o .lists (512 + s) h) (k .1))
 
-  -- a register just saved: its units count as what they hold
-  save-off : (s r : ℕ) (m : Memory) → Off (covers t F tk (slot s)) (view t F (saved r s) (write t F (slot s) (read t F m (reg r)) m)) m
-  unfolding counted write read
-  save-off s r m =
-      record {
-        words = λ u k. rw updated-same (put-self (regUnits t r) (m .word) u);
-        lists = write-off t F tk (slot s) (read t F m (reg r)) m .lists;
-      }
+  -- a register just saved, which is not memory: its units count as what they hold
+  module _ (s r : ℕ) (m : Memory) (n : T (not (isMemoryReg t r))) where
+    abbrev after : Memory
+    after = write t F (slot s) (read t F m (reg r)) m
 
-  save-ready : (s r : ℕ) (m : Memory) → Ready t F (saved r s) (write t F (slot s) (read t F m (reg r)) m)
-  unfolding Ready write read fits
-  save-ready s r m = rw (updated-same, length-map) (eqb-refl (length (regUnits t r)))
+    slot-holds : inSlot after s ≡ map (m .word) (regUnits t r)
+    unfolding write
+    slot-holds = updated-same (512 + s) (read t F m (reg r)) (m .lists) ∙ plain-read t F tk r n m
+
+    slot-words : after .word ≡ m .word
+    unfolding write
+    slot-words = refl
+
+    save-off : Off (covers t F tk (slot s)) (view t F (saved r s) after) m
+    unfolding counted
+    save-off =
+        rw (plain-write t F tk r n (inSlot after s) after)
+        (record {
+          words = λ u k. rw (slot-holds, slot-words) (put-self (regUnits t r) (m .word) u);
+          lists = write-off t F tk (slot s) (read t F m (reg r)) m .lists;
+        })
+
+    save-ready : Ready t F (saved r s) after
+    unfolding Ready
+    save-ready = (n, rw (slot-holds, length-map) (eqb-refl (length (regUnits t r))))
 
   module _ (j : Job) where
     frame-refl : (a : Memory) → Frame t F j a a
-    frame-refl a = record { words = λ u k. refl; lists = λ s k. refl }
+    frame-refl a = record { words = λ u k. refl; lists = λ u k. refl }
 
     frame-trans : (a b c : Memory) → Frame t F j a b → Frame t F j b c → Frame t F j a c
-    frame-trans a b c f g = record { words = λ u k. f .words u k ∙ g .words u k; lists = λ s k. f .lists s k ∙ g .lists s k }
+    frame-trans a b c f g = record { words = λ u k. f .words u k ∙ g .words u k; lists = λ u k. f .lists u k ∙ g .lists u k }
 
     abbrev pub Within : (ℕ → Bool) → Type 0
     Within c = (u : ℕ) → T (c u) → j .may u
@@ -127,7 +151,7 @@ module _ (t : RegInfo) (F : Function) (tk : TargetOk t) where
     off-frame c a b i o =
         record {
           words = λ u k. sym (o .words u (not-T (c u) (λ h. k (i u h))));
-          lists = λ s k. sym (o .lists s (not-T (c (512 + s)) (λ h. k (i (512 + s) h))));
+          lists = λ u k. sym (o .lists u (not-T (c u) (λ h. k (i u h))));
         }
 
     along-frame : (es : List Edit) (a b : Memory) (st : Machine) → Frame t F j a b → Along t F j es b st → Along t F j es a st
@@ -256,7 +280,7 @@ module _ (t : RegInfo) (F : Function) (tk : TargetOk t) where
               let a = write t F to (g .ws) m in
               let f : Off (covers t F tk to) a m = write-off t F tk to (g .ws) m in
               let asd : Aside w (covers t F tk to) = clear-aside w to ct in
-              let o : Off (shown w (covers t F tk to)) (view t F w a) (view t F w m) = view-off w (covers t F tk to) a m asd (ok .ready) f in (
+              let o : Off (shown w (covers t F tk to)) (view t F w a) (view t F w m) = view-off w (covers t F tk to) a m asd (ok .ready) (under-lists w to (g .ws) m (ok .ready)) f in (
                 ok,
                 record {
                   mem = a;
@@ -289,7 +313,7 @@ module _ (t : RegInfo) (F : Function) (tk : TargetOk t) where
               let g = pre m l p .1 in
               let a = write t F sc (g .ws) m in
               let f : Off (covers t F tk sc) a m = write-off t F tk sc (g .ws) m in
-              let o : Off (shown w (covers t F tk sc)) (view t F w a) (view t F w m) = view-off w (covers t F tk sc) a m asd (ok .ready) f in (
+              let o : Off (shown w (covers t F tk sc)) (view t F w a) (view t F w m) = view-off w (covers t F tk sc) a m asd (ok .ready) (under-lists w sc (g .ws) m (ok .ready)) f in (
                 ok,
                 record {
                   mem = a;
@@ -315,34 +339,34 @@ module _ (t : RegInfo) (F : Function) (tk : TargetOk t) where
 
     -- brought back later: here it waits, and its units count as holding what was saved
     pub reload : (r s : ℕ) (prog : List Edit) (needs : Needs) → Sound prog idle (Ok needs idle) → Sound (EmergencyReload r s ∷ prog) (saved r s) (Ok needs (saved r s))
-    unfolding step counted Ready filter
+    unfolding step counted Ready fits filter
     reload r s prog needs snd = prepend (EmergencyReload r s) prog idle (saved r s) (Ok needs (saved r s)) (Ok needs idle) needs snd next
       where
         next : (m : Memory) (l : Log) → Ok needs (saved r s) m l → Ok needs (saved r s) m l × Leads (EmergencyReload r s) (state (saved r s) m l) idle (Ok needs idle)
         next m l ok =
-            let ws = m .slots s in (
+            let ws = inSlot m s in (
               ok,
               record {
                 mem = write t F (reg r) ws m;
                 log = (wr (reg r) ws) ∷ l;
-                done = when-yes (fits t F (reg r) (length (m .slots s))) _ (ok .ready) ∙ ap (λ (x : List Waiting). some (record { memory = write t F (reg r) ws m; waiting = x; written = wr (reg r) ws ∷ l })) (without-self r s);
+                done = when-yes (fits t F (reg r) (length (inSlot m s))) _ (or-r (isMemoryReg t r) _ (ok .ready .1)) ∙ ap (λ (x : List Waiting). some (record { memory = write t F (reg r) ws m; waiting = x; written = wr (reg r) ws ∷ l })) (without-self r s);
                 pre = record { live = ok .live; ready = tt; met = λ p v n. (later l (wr (reg r) ws) p v (ok .met p v n .0), ok .met p v n .1) };
                 frame = frame-refl (write t F (reg r) ws m);
               },
             )
 
     -- saved: what is needed later lies outside the slot
-    pub save : (s r : ℕ) (prog : List Edit) (needs : Needs) → Sound prog (saved r s) (Ok needs (saved r s))
+    pub save : (s r : ℕ) (prog : List Edit) (needs : Needs) → T (not (isMemoryReg t r)) → Sound prog (saved r s) (Ok needs (saved r s))
         → ((p : Place) (v : ℕ) → needs p v → Apart t F tk p (slot s)) → Within (covers t F tk (slot s))
         → Sound (EmergencySpill s r ∷ prog) idle (Ok needs idle)
     unfolding step counted Ready filter
-    save s r prog needs snd out inn = prepend (EmergencySpill s r) prog (saved r s) idle (Ok needs idle) (Ok needs (saved r s)) needs snd next
+    save s r prog needs n snd out inn = prepend (EmergencySpill s r) prog (saved r s) idle (Ok needs idle) (Ok needs (saved r s)) needs snd next
       where
         next : (m : Memory) (l : Log) → Ok needs idle m l → Ok needs idle m l × Leads (EmergencySpill s r) (state idle m l) (saved r s) (Ok needs (saved r s))
         next m l ok =
             let ws = read t F m (reg r) in
             let a = write t F (slot s) ws m in
-            let o : Off (covers t F tk (slot s)) (view t F (saved r s) a) m = save-off s r m in (
+            let o : Off (covers t F tk (slot s)) (view t F (saved r s) a) m = save-off s r m n in (
               ok,
               record {
                 mem = a;
@@ -351,7 +375,7 @@ module _ (t : RegInfo) (F : Function) (tk : TargetOk t) where
                 pre =
                     record {
                       live = ok .live;
-                      ready = save-ready s r m;
+                      ready = save-ready s r m n;
                       met = λ p v n. (later l (wr (slot s) ws) p v (ok .met p v n .0), read-off t F tk (covers t F tk (slot s)) (view t F (saved r s) a) m o p (out p v n) ∙ ok .met p v n .1);
                     };
                 frame = off-frame (covers t F tk (slot s)) m (view t F (saved r s) a) inn o;

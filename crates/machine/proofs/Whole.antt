@@ -85,7 +85,7 @@ module _ (t : RegInfo) (F : Function) (tk : TargetOk t) (j : Job) (em : (s : ℕ
   scratches-ok [] k o h = h
   scratches-ok (r ∷ rs) k o h =
       all-then (K (NeedR rs)) (K (NeedR [])) (rematWithScratch t F r k) _
-      (scratched-ok t F tk j em (NeedR (r ∷ rs)) (NeedR rs) (r .dest) (r .value) (asked r rs (o .0)) (o .1) (o .2) (ok .rule) k h)
+      (scratched-ok t F tk j em (NeedR (r ∷ rs)) (NeedR rs) (r .dest) (r .value) (asked r rs (o .0)) (o .1) (o .2) k h)
       (λ k₁ h₁. scratches-ok rs k₁ (o .3) h₁)
 
   -- no rebuild left

@@ -8,7 +8,7 @@ use mathlib.Core.Logic.{_⊎_}
 use lib.ListN.{length, getD, take}
 use Rattle.entity.specs.Logic.{any, has}
 use Rattle.entity.specs.Place.{Place, slot, samePlace}
-use Rattle.reginfo.specs.RegInfo.{RegInfo, numRegs, bankForReg, regUnits}
+use Rattle.reginfo.specs.RegInfo.{RegInfo, numRegs, bankForReg, regUnits, isMemoryReg}
 use Rattle.reginfo.specs.Refused as target
 use Rattle.function.specs.Function.{Function, numValues, valueBank}
 use Rattle.function.specs.Refused as function
@@ -16,7 +16,7 @@ use Rattle.rules.specs.Edit.{Edit}
 use Rattle.rules.specs.Scratch.{Cache, emptyCache, unitsOfReg}
 use Rattle.rules.specs.Order.{KeptMove, noMove}
 use Rattle.rules.specs.Patch.{Entry, move, remat, Patch, sorted, bound, Answer, refused, resolved, resolve, Call, cacheAfter}
-use Rattle.machine.specs.Machine.{Memory, Machine, begin, read, steps, seen}
+use Rattle.machine.specs.Machine.{Memory, inSlot, Machine, begin, read, steps, seen}
 
 -- where an entry puts its value, whatever becomes of it: kept, dropped or rebuilt
 abbrev pub entryDest : Entry → Place
@@ -28,9 +28,10 @@ entryValue (move s d v) = v
 entryValue (remat d v) = v
 
 module _ (t : RegInfo) (f : Function) where
-  -- "Each value has a content, as many words as its bank's registers have units."
+  -- "Each value has a content, as many words as its bank's registers have units."; 02 b: "as wide as those registers of its bank that are
+  -- not memory"
   abbrev pub Contents : (ℕ → List ℕ) → Type 0
-  Contents content = (v r : ℕ) → v < numValues f → r < numRegs t → bankForReg t r ≡ valueBank f v → length (content v) ≡ length (regUnits t r)
+  Contents content = (v r : ℕ) → v < numValues f → r < numRegs t → isMemoryReg t r ≡ false → bankForReg t r ≡ valueBank f v → length (content v) ≡ length (regUnits t r)
 
   module _ (p : Patch) (content : ℕ → List ℕ) where
     abbrev pub kept : ℕ → KeptMove
@@ -51,14 +52,14 @@ module _ (t : RegInfo) (f : Function) where
     abbrev pub IsScratch : Machine → Place → ℕ → Type 0
     IsScratch s q v = List·Memᴰ (record { place = q; words = content v }) (s .written)
 
-    -- "every register unit and slot outside destinations, free units and emergency slots holds what it held when the patch began, and every
-    -- kept move's content stands whole in a source or destination of a kept move of its value or in a scratch place". "Destinations are those
-    -- of all entries, emergency slots those from N on."
+    -- "every register unit and slot outside destinations, free units and emergency slots holds what it held when the patch began", its word
+    -- and, as an argument word's, its list, "and every kept move's content stands whole in a source or destination of a kept move of its value
+    -- or in a scratch place". "Destinations are those of all entries, emergency slots those from N on."
     pub record Stopped (start : Memory) (s : Machine) : Type 0 where
       pub units :
           (u : ℕ) → u < 512 → any (λ e. has u (unitsOfReg t f (entryDest e))) (p .entries) ≡ false → has u (p .free) ≡ false
-          → seen t f s .word u ≡ start .word u
-      pub slots : (x : ℕ) → x < f .slots → any (λ e. samePlace (slot x) (entryDest e)) (p .entries) ≡ false → seen t f s .slots x ≡ start .slots x
+          → (seen t f s .word u ≡ start .word u) × (seen t f s .lists u ≡ start .lists u)
+      pub slots : (x : ℕ) → x < f .slots → any (λ e. samePlace (slot x) (entryDest e)) (p .entries) ≡ false → inSlot (seen t f s) x ≡ inSlot start x
       pub survives :
           (i : ℕ) → i < numKept → (q : Place) × (read t f (seen t f s) q ≡ content (kept i .value)) × (OfValue q (kept i .value) ⊎ IsScratch s q (kept i .value))
 

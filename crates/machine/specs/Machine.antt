@@ -1,20 +1,25 @@
--- 01, The machine.
-use Prim.Native.Nat.{ℕ}
-use mathlib.Core.Bool.{Bool, true}
+-- 01, The machine; its argument words: 02 b.
+use Prim.Native.Nat.{ℕ, _+_}
+use mathlib.Core.Bool.{Bool}
 use mathlib.Core.List.{List, [], _∷_, map}
 use mathlib.Core.Option.{Option, none, some}
 use lib.Dec.{eqb}
-use lib.ListN.{length}
-use Rattle.entity.specs.Logic.{pick, and, no}
+use lib.ListN.{length, getD}
+use Rattle.entity.specs.Logic.{pick, and, or, no}
 use Rattle.entity.specs.Place.{Place, reg, slot}
-use Rattle.reginfo.specs.RegInfo.{RegInfo, regUnits, isMemory, inClass}
+use Rattle.reginfo.specs.RegInfo.{RegInfo, placeUnits, isMemory, inClass}
 use Rattle.function.specs.Function.{Function, canRematerialize, rematClass}
 use Rattle.rules.specs.Edit.{Edit, Move, Rematerialize, EmergencySpill, EmergencyReload, updated, andThen, filter}
 
--- "Each register unit holds a word, any whole number; each slot holds a list of words."
+-- "Each register unit holds a word, any whole number; each slot holds a list of words."; 02 b: a memory register's unit "holds a whole list"
+-- too. "numbers below 512 are register units and 512 + s is slot s"
 pub record Memory : Type 0 where
   pub word : ℕ → ℕ
-  pub slots : ℕ → List ℕ
+  pub lists : ℕ → List ℕ
+
+-- the list of slot s
+abbrev pub inSlot : Memory → ℕ → List ℕ
+inSlot m s = m .lists (512 + s)
 
 -- the words ws at the units us
 unfoldable pub put : List ℕ → List ℕ → (ℕ → ℕ) → ℕ → ℕ
@@ -50,19 +55,21 @@ abbrev pub when : Bool → Machine → Option Machine
 when b s = pick b (some s) none
 
 module _ (t : RegInfo) (f : Function) where
-  -- "A register holds its units' words in listed order."
+  -- the unit of a place that is memory
+  abbrev pub cell : Place → ℕ
+  cell p = getD (placeUnits t p) 0 0
+
+  -- "A register holds its units' words in listed order.", unless it is memory
   unfoldable pub read : Memory → Place → List ℕ
-  read m (reg r) = map (m .word) (regUnits t r)
-  read m (slot s) = m .slots s
+  read m p = pick (isMemory t p) (m .lists (cell p)) (map (m .word) (placeUnits t p))
 
   unfoldable pub write : Place → List ℕ → Memory → Memory
-  write (reg r) ws m = record { word = put (regUnits t r) ws (m .word); slots = m .slots }
-  write (slot s) ws m = record { word = m .word; slots = updated s ws (m .slots) }
+  write p ws m =
+      pick (isMemory t p) (record { word = m .word; lists = updated (cell p) ws (m .lists) }) (record { word = put (placeUnits t p) ws (m .word); lists = m .lists })
 
-  -- "a slot takes any length"; a register its own
+  -- "a slot takes any length"; a memory register does "as a slot does"; another register its own
   unfoldable pub fits : Place → ℕ → Bool
-  fits (reg r) n = eqb n (length (regUnits t r))
-  fits (slot s) n = true
+  fits p n = or (isMemory t p) (eqb n (length (placeUnits t p)))
 
   -- ws written at p
   abbrev pub wrote : Place → List ℕ → List Waiting → Machine → Machine
@@ -79,7 +86,7 @@ module _ (t : RegInfo) (f : Function) where
       when (and (no (and (isMemory t to) (isMemory t from))) (fits to (length (read (s .memory) from)))) (wrote to (read (s .memory) from) (s .waiting) s)
   step content (Rematerialize to v) s = when (and (canRematerialize f v) (inClass t (rematClass f v) to)) (wrote to (content v) (s .waiting) s)
   step content (EmergencySpill x r) s = some (wrote (slot x) (read (s .memory) (reg r)) (record { reg = r; slot = x } ∷ without r (s .waiting)) s)
-  step content (EmergencyReload r x) s = when (fits (reg r) (length (s .memory .slots x))) (wrote (reg r) (s .memory .slots x) (without r (s .waiting)) s)
+  step content (EmergencyReload r x) s = when (fits (reg r) (length (inSlot (s .memory) x))) (wrote (reg r) (inSlot (s .memory) x) (without r (s .waiting)) s)
 
   unfoldable pub steps : (ℕ → List ℕ) → List Edit → Machine → Option Machine
   steps content [] s = some s
@@ -88,7 +95,7 @@ module _ (t : RegInfo) (f : Function) where
   -- "A register is waiting between the two; its units then count as holding what was saved."
   unfoldable pub counted : List Waiting → Memory → Memory
   counted [] m = m
-  counted (w ∷ l) m = write (reg (w .reg)) (m .slots (w .slot)) (counted l m)
+  counted (w ∷ l) m = write (reg (w .reg)) (inSlot m (w .slot)) (counted l m)
 
   abbrev pub seen : Machine → Memory
   seen s = counted (s .waiting) (s .memory)

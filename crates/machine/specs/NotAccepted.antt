@@ -7,24 +7,24 @@ use Rattle.reginfo.specs.RegInfo.{RegInfo}
 use Rattle.reginfo.specs.Refused as target
 use Rattle.function.specs.Function.{Function}
 use Rattle.function.specs.Refused as function
-use Rattle.rules.specs.Edit.{Edit, Move, Rematerialize, EmergencySpill, EmergencyReload}
+use Rattle.rules.specs.Edit.{Edit, Move, Rematerialize, EmergencySpill, EmergencyReload, updated}
 use Rattle.rules.specs.Scratch.{emptyCache}
 use Rattle.rules.specs.Patch.{move, Patch, sorted, bound, resolve}
 use Rattle.rules.specs.Trials.{single, fixed, over, patch, Gives}
 use Rattle.machine.specs.Machine.{Memory}
 use Rattle.machine.specs.Claim.{Contents, Holding, RightFrom, Accepted}
 
--- six registers of one unit in bank 0, of which the stack class has the first three, and one of two units in bank 1
+-- six registers of one unit in bank 0, of which the stack class has the first three, and one of two units in bank 1, beside r7, an argument word
 unfoldable pub seven : RegInfo
 seven =
     record {
-      units = 8;
+      units = 9;
       banks = record { size = 3; top = 0; stack = 1 } ∷ record { size = 4; top = 2; stack = 3 } ∷ [];
-      regs = single 0 ∷ single 1 ∷ single 2 ∷ single 3 ∷ single 4 ∷ single 5 ∷ record { memory = 0; bank = 1; units = 6 ∷ 7 ∷ [] } ∷ [];
+      regs = single 0 ∷ single 1 ∷ single 2 ∷ single 3 ∷ single 4 ∷ single 5 ∷ record { memory = 0; bank = 1; units = 6 ∷ 7 ∷ [] } ∷ record { memory = 1; bank = 1; units = 8 ∷ [] } ∷ [];
       classes =
           record { bank = 0; slots = 1; members = 0 ∷ 1 ∷ 2 ∷ 3 ∷ 4 ∷ 5 ∷ []; order = 0 ∷ 1 ∷ 2 ∷ [] }
           ∷ record { bank = 0; slots = 0; members = 0 ∷ 1 ∷ 2 ∷ []; order = 0 ∷ 1 ∷ 2 ∷ [] }
-          ∷ record { bank = 1; slots = 1; members = 6 ∷ []; order = 6 ∷ [] }
+          ∷ record { bank = 1; slots = 1; members = 6 ∷ 7 ∷ []; order = 6 ∷ [] }
           ∷ record { bank = 1; slots = 0; members = 6 ∷ []; order = 6 ∷ [] }
           ∷ [];
     }
@@ -51,9 +51,9 @@ words a b c zero = a ∷ []
 words a b c (suc zero) = b ∷ []
 words a b c (suc (suc v)) = c ∷ []
 
--- the words of the units, and slots 0 and 1; the other units hold 0 and the other slots nothing
+-- the words of the units, the list of r7, and slots 0 and 1; the other units hold 0 and the other slots nothing
 abbrev pub holding : List ℕ → List ℕ → List ℕ → Memory
-holding ws x y = record { word = λ u. getD ws u 0; slots = λ s. getD (x ∷ y ∷ []) s [] }
+holding ws x y = record { word = λ u. getD ws u 0; lists = updated 8 (80 ∷ 81 ∷ []) (updated 512 x (updated 513 y (λ u. []))) }
 
 -- 70 in r0, and every other unit and slot holds something else
 abbrev pub start : Memory
@@ -81,6 +81,8 @@ pub record NotAccepted : Type 0 where
   pub stored-taken : Gives (resolve seven values stored 8 emptyCache) (EmergencySpill 2 2 ∷ Move (reg 2) (slot 0) 1 ∷ Move (slot 1) (reg 2) 1 ∷ EmergencyReload 2 2 ∷ []) 1 (2 ∷ [])
   -- also writes a foreign register
   pub foreign-register : plainly one (right ∷ Move (reg 2) (reg 0) 0 ∷ [])
+  -- also writes a foreign argument word
+  pub foreign-word : plainly one (right ∷ Move (reg 7) (reg 0) 0 ∷ [])
   -- also writes a foreign slot
   pub foreign-slot : plainly one (right ∷ Move (slot 1) (reg 0) 0 ∷ [])
   -- overwrites a kept source that is no destination, once its value stands elsewhere

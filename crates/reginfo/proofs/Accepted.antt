@@ -11,7 +11,7 @@ use Rattle.entity.specs.Logic.{and, or, no, any, has, meets, twice}
 use Rattle.entity.specs.Place.{Place, reg, slot, names}
 use Rattle.entity.proofs.Laws.{or-false, and-true, and-false, no-false, any-below, any-has, all-has, has-getD, last-has}
 use Rattle.reginfo.specs.RegInfo.{RegInfo, numBanks, numRegs, numClasses, spillslotSize, topLevelClass, stackToStackClass, regMemory, bankForReg, regUnits, bankForClass, classSlots, classMembers, allocationOrder, isMemoryReg, includesSpillslots, lastInOrder}
-use Rattle.reginfo.specs.Refused.{Condition, cond, some-below, within, allBelow, orderTotal, countsFit, bankFits, regFits, classFits, outsideLimits, listedTwice, unequalWidths, foreignMember, sharedMemory, unfitClass, targetRefusal, Accepted}
+use Rattle.reginfo.specs.Refused.{Condition, cond, some-below, within, allBelow, orderTotal, countsFit, bankFits, regFits, classFits, outsideLimits, listedTwice, widthDiffers, unfitWidth, unequalWidths, foreignMember, sharedMemory, unfitClass, targetRefusal, Accepted}
 use Rattle.reginfo.specs.Known.{KnownReg, KnownClass, KnownBank, KnownUnits, KnownPlace, KnownMembers}
 use Rattle.reginfo.specs.Table.{regInfoOf, Indexed}
 use Rattle.reginfo.proofs.Table.{classes-count, members-length}
@@ -168,14 +168,15 @@ module _ (t : RegInfo) (ok : Accepted t) where
   pub order-once : (c : ℕ) → c < numClasses t → twice (allocationOrder t c) ≡ false
   order-once c h = lists-once c h .1
 
-  -- 4: the registers of a bank are equally wide
-  pub same-width : (r q : ℕ) → r < numRegs t → q < numRegs t → bankForReg t r ≡ bankForReg t q → length (regUnits t r) ≡ length (regUnits t q)
+  -- 4: the registers of a bank that are not memory are equally wide
+  pub same-width : (r q : ℕ) → r < numRegs t → q < numRegs t → isMemoryReg t r ≡ false → isMemoryReg t q ≡ false → bankForReg t r ≡ bankForReg t q
+      → length (regUnits t r) ≡ length (regUnits t q)
   unfolding targetRefusal unequalWidths
-  same-width r q h k e =
-      let differs : ℕ → ℕ → Bool = λ r q. and (eqb (bankForReg t r) (bankForReg t q)) (no (eqb (length (regUnits t r)) (length (regUnits t q)))) in
-      let s = any-below (differs r) (numRegs t) q (any-below (λ r. some-below (numRegs t) (differs r)) (numRegs t) r (first-none (rules t) ok 2 (omega arith)) h) k in
-      let n = and-false (eqb (bankForReg t r) (bankForReg t q)) (no (eqb (length (regUnits t r)) (length (regUnits t q)))) s (eq-eqb (bankForReg t r) (bankForReg t q) e) in
-      eqb-true (length (regUnits t r)) (length (regUnits t q)) (no-false (eqb (length (regUnits t r)) (length (regUnits t q))) n)
+  same-width r q h k m n e =
+      let w : some-below (numRegs t) (widthDiffers t r) ≡ false = rw m at (any-below (unfitWidth t) (numRegs t) r (first-none (rules t) ok 2 (omega arith)) h) in
+      let s = and-false (no (isMemoryReg t q)) _ (any-below (widthDiffers t r) (numRegs t) q w k) (ap no n) in
+      let d = and-false (eqb (bankForReg t r) (bankForReg t q)) (no (eqb (length (regUnits t r)) (length (regUnits t q)))) s (eq-eqb (bankForReg t r) (bankForReg t q) e) in
+      eqb-true (length (regUnits t r)) (length (regUnits t q)) (no-false (eqb (length (regUnits t r)) (length (regUnits t q))) d)
 
   -- 5: members and a bank's classes are of that bank, and an order lists members
   abbrev strange : ℕ → Bool

@@ -1,12 +1,12 @@
 -- 01, The target: its limits (2) and its rules (3 to 7), each as the condition under which its number is given.
-use Prim.Native.Nat.{ℕ, zero, suc, _+_}
+use Prim.Native.Nat.{ℕ, _+_}
 use mathlib.Core.Path.{_≡_}
 use mathlib.Core.Bool.{Bool, true, false}
 use mathlib.Core.List.{List, [], _∷_}
 use mathlib.Core.Option.{Option, none, some}
 use lib.ListN.{length}
 use lib.Dec.{eqb, ltb, leb}
-use Rattle.entity.specs.Logic.{and, or, no, any, all, has, meets, twice, indices}
+use Rattle.entity.specs.Logic.{pick, and, or, no, any, all, has, meets, twice, indices}
 use Rattle.reginfo.specs.RegInfo.{RegInfo, Class, numBanks, numRegs, numClasses, spillslotSize, topLevelClass, stackToStackClass, regMemory, bankForReg, regUnits, bankForClass, classSlots, classMembers, allocationOrder, isMemoryReg, includesSpillslots, lastInOrder}
 
 -- some index below n passes the test
@@ -50,9 +50,15 @@ outsideLimits t = or (no (countsFit t)) (or (some-below (numBanks t) (λ b. no (
 unfoldable pub listedTwice : RegInfo → Bool
 listedTwice t = or (some-below (numRegs t) (λ r. twice (regUnits t r))) (some-below (numClasses t) (λ c. or (twice (classMembers t c)) (twice (allocationOrder t c))))
 
--- 4: "the registers of a bank have equally many units"
+-- 4, by 02 b: "only registers that are not memory must match in width; a memory register has just one unit"
+abbrev pub widthDiffers : RegInfo → ℕ → ℕ → Bool
+widthDiffers t r q = and (no (isMemoryReg t q)) (and (eqb (bankForReg t r) (bankForReg t q)) (no (eqb (length (regUnits t r)) (length (regUnits t q)))))
+
+abbrev pub unfitWidth : RegInfo → ℕ → Bool
+unfitWidth t r = pick (isMemoryReg t r) (no (eqb (length (regUnits t r)) 1)) (some-below (numRegs t) (widthDiffers t r))
+
 unfoldable pub unequalWidths : RegInfo → Bool
-unequalWidths t = some-below (numRegs t) (λ r. some-below (numRegs t) (λ q. and (eqb (bankForReg t r) (bankForReg t q)) (no (eqb (length (regUnits t r)) (length (regUnits t q))))))
+unequalWidths t = some-below (numRegs t) (unfitWidth t)
 
 -- 5: "a class's members, and a bank's top-level and stack classes, are of that bank, and an order lists members only"
 unfoldable pub foreignMember : RegInfo → Bool

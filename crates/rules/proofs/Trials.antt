@@ -8,9 +8,9 @@ use Rattle.rules.specs.Edit.{updated, andThen, each, find, filter}
 use Rattle.rules.specs.Scratch.{acquireFrom, unevict, unevictForReg, slotScratch, evictLast, reuse, orScratch, getScratchReg, moveEdits, doMove}
 use Rattle.rules.specs.Order.{carryOne, carry, remats, rematWithScratch, writerFrom, writersOf, writers, cycleMoveSources, divert, lead, undivert, undivertAll, close, visit, visitUnlessMemory, start, moves}
 use Rattle.rules.specs.Patch.{destinations, add, entryConditions, patchConditions, run, resolveSorted, resolveFrom, resolve}
-use Rattle.rules.specs.Trials.{three, chained, five, six, halves, between, sizes, slotsAlone, memory, eight, doubled, Trials, ToldApart, Overlaps, Sources}
+use Rattle.rules.specs.Trials.{three, chained, five, six, halves, between, sizes, slotsAlone, memory, eight, doubled, Trials, ToldApart, Overlaps, Sources, ArgumentWords}
 
-all-trials : Trials × ToldApart × Overlaps × Sources
+all-trials : Trials × ToldApart × Overlaps × Sources × ArgumentWords
 unfolding any all has meets lastOr indices spillslotSize topLevelClass stackToStackClass regMemory bankForReg regUnits bankForClass classSlots classMembers allocationOrder firstOf valueBank rematCost rematClass updated andThen each find filter acquireFrom unevict unevictForReg slotScratch evictLast reuse orScratch getScratchReg moveEdits doMove carryOne carry remats rematWithScratch writerFrom writersOf writers cycleMoveSources divert lead undivert undivertAll close visit visitUnlessMemory start moves destinations add entryConditions patchConditions run resolveSorted resolveFrom resolve three chained five six halves between sizes slotsAlone memory eight doubled orderTotal countsFit bankFits regFits classFits outsideLimits listedTwice unequalWidths foreignMember sharedMemory unfitClass targetRefusal twice
 all-trials = (
   record {
@@ -71,6 +71,15 @@ all-trials = (
     whole-then-rebuilt = (refl, refl, refl);
     over-a-destination = (refl, refl, refl);
   },
+  record {
+    targets = (refl, refl);
+    wide-memory = refl;
+    wider-memory = refl;
+    unequal = refl;
+    through-a-word = (refl, refl, refl);
+    words-swapped = (refl, refl, refl);
+    word-stored = (refl, refl, refl);
+  },
 )
 
 pub trials : Trials
@@ -84,3 +93,6 @@ overlaps = all-trials .2
 
 pub sources : Sources
 sources = all-trials .3
+
+pub argument-words : ArgumentWords
+argument-words = all-trials .4

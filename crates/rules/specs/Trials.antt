@@ -2,6 +2,7 @@
 use Prim.Native.Nat.{ℕ}
 use mathlib.Core.Path.{_≡_}
 use mathlib.Core.List.{List, [], _∷_, map}
+use mathlib.Core.Option.{some}
 use Rattle.entity.specs.Logic.{indices}
 use Rattle.entity.specs.Place.{reg, slot}
 use Rattle.reginfo.specs.RegInfo.{Reg, RegInfo}
@@ -360,3 +361,37 @@ pub record Sources : Type 0 where
   pub whole-then-rebuilt : NoSlots (Move (reg 7) (reg 6) 2 ∷ Rematerialize (reg 4) 3 ∷ []) (ofDoubled [] (whole ∷ move (reg 0) (reg 4) 3 ∷ []))
   -- destinations do not count: each half of r6 is written from a pair's half
   pub over-a-destination : NoSlots (Move (reg 7) (reg 6) 2 ∷ Move (reg 0) (reg 4) 0 ∷ []) (ofDoubled [] (whole ∷ move (reg 4) (reg 0) 0 ∷ []))
+
+-- ---- 02 b, argument words: r0 and r1 have two units each, the memory registers r2 and r3 one; the top-level class's order begins with r2
+abbrev pub argument : ℕ → Reg
+argument u = record { memory = 1; bank = 0; units = u ∷ [] }
+
+abbrev pub arguments : RegInfo
+arguments =
+    record {
+      units = 6;
+      banks = record { size = 3; top = 0; stack = 1 } ∷ [];
+      regs = pair 0 1 ∷ pair 2 3 ∷ argument 4 ∷ argument 5 ∷ [];
+      classes =
+          record { bank = 0; slots = 1; members = 0 ∷ 1 ∷ 2 ∷ 3 ∷ []; order = 2 ∷ 0 ∷ 1 ∷ [] }
+          ∷ record { bank = 0; slots = 0; members = 0 ∷ 1 ∷ []; order = 0 ∷ 1 ∷ [] }
+          ∷ [];
+    }
+
+pub record ArgumentWords : Type 0 where
+  pub targets : target.Accepted arguments × target.Accepted (paired 3 (pair 0 1 ∷ argument 2 ∷ []))
+  -- "a memory register has just one unit, else 4", as many as the others or not; "registers that are not memory must match in width"
+  pub wide-memory : target.targetRefusal (paired 4 (pair 0 1 ∷ record { memory = 1; bank = 0; units = 2 ∷ 3 ∷ [] } ∷ [])) ≡ some 4
+  pub wider-memory : target.targetRefusal (paired 3 (single 0 ∷ record { memory = 1; bank = 0; units = 1 ∷ 2 ∷ [] } ∷ [])) ≡ some 4
+  pub unequal : target.targetRefusal (paired 4 (pair 0 1 ∷ argument 2 ∷ single 3 ∷ [])) ≡ some 4
+  -- unit 4 is free: r0 and r1 are swapped through r2
+  pub through-a-word :
+      Gives (resolve arguments (plain 2 2) (patch (4 ∷ []) swap) 16 emptyCache) (Move (reg 2) (reg 1) 1 ∷ Move (reg 1) (reg 0) 0 ∷ Move (reg 0) (reg 2) 1 ∷ []) 0 []
+  -- r2 and r3 are swapped: memory to memory, through r1, which waits in slot 3
+  pub words-swapped :
+      Gives (resolve arguments (plain 2 2) (patch [] (move (reg 2) (reg 3) 0 ∷ move (reg 3) (reg 2) 1 ∷ [])) 16 emptyCache)
+      (EmergencySpill 3 1 ∷ Move (reg 1) (reg 3) 1 ∷ Move (slot 2) (reg 1) 1 ∷ Move (reg 1) (reg 2) 0 ∷ Move (reg 3) (reg 1) 0 ∷ Move (reg 1) (slot 2) 1 ∷ Move (reg 2) (reg 1) 1 ∷ EmergencyReload 1 3 ∷ []) 2 (3 ∷ 2 ∷ [])
+  -- half of r1 is free
+  pub word-stored :
+      Gives (resolve arguments (plain 2 2) (patch (2 ∷ []) (move (reg 2) (slot 0) 0 ∷ [])) 8 emptyCache)
+      (EmergencySpill 2 1 ∷ Move (reg 1) (reg 2) 0 ∷ Move (slot 0) (reg 1) 0 ∷ EmergencyReload 1 2 ∷ []) 1 (2 ∷ [])

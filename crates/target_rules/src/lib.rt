@@ -33,16 +33,20 @@ ghost use Rattle.reginfo.specs.Refused.{some-below, allBelow, outsideLimits, un
 ghost use Rattle.target_rules.specs.Rules.{Widths, foreignTo, noMember, foreignClass, foreignBank, unfitBank, unfitOrder};
 ghost use Rattle.target_rules.specs.UnitKinds.{kindOf, NotedAt, Differs, Noted};
 
-// 4: the registers of a bank have equally many units. `widths` has the width of each bank's registers before r, 0 where there is none.
-// It notes that of a bank's first register, and answers whether r's is its bank's.
+// 4: the registers of a bank that are not memory have equally many units, a memory register one. `widths` has the width of each bank's registers
+// before r that are not memory, 0 where there is none. It notes that of a bank's first such register, and answers whether r's is its bank's, or one.
 fn width_agrees(t: &RegInfo, r: PhysReg, widths: &mut [usize; 8]) -> bool
     requires { ⌜ (outsideLimits (regInfoOf (now t)) ≡ false) × (r .0 < numRegs (regInfoOf (now t))) × Widths (regInfoOf (now t)) (now widths) (r .0) ⌝ }
     ensures same { λ a. ⌜ (a ≡ true → Widths (regInfoOf (now (t .entry))) (now (widths .exit)) (r .0 + 1)) ⌝ }
     ensures other { λ a. ⌜ (a ≡ false → unequalWidths (regInfoOf (now (t .entry))) ≡ true) ⌝ }
 {
+    let n = num_reg_units(t, r);
+    let memory = is_memory_reg(t, r);
+    if memory {
+        return n == 1;
+    }
     let b = bank_for_reg(t, r);
     let at = wide(b.0);
-    let n = num_reg_units(t, r);
     if widths[at] == 0 {
         widths[at] = n;
         return true;

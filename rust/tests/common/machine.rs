@@ -64,6 +64,8 @@ pub struct Register {
 pub struct Machine {
     pub registers: Vec<Register>,
     pub units: Vec<u32>,
+    /// The unit of a memory register holds a whole value.
+    pub words: HashMap<usize, Vec<u32>>,
     pub slots: HashMap<u16, Vec<u32>>,
 }
 
@@ -78,7 +80,10 @@ impl Machine {
     pub fn read(&self, place: Place) -> Vec<u32> {
         match place {
             Place::Register(r) => {
-                let units = &self.registers[r as usize].units;
+                let Register { memory, units, .. } = &self.registers[r as usize];
+                if *memory {
+                    return self.words[&units[0]].clone();
+                }
                 units.iter().map(|&unit| self.units[unit]).collect()
             }
             Place::Slot(s) => self.slots[&s].clone(),
@@ -88,7 +93,11 @@ impl Machine {
     pub fn write(&mut self, place: Place, words: Vec<u32>) {
         match place {
             Place::Register(r) => {
-                let units = &self.registers[r as usize].units;
+                let Register { memory, units, .. } = &self.registers[r as usize];
+                if *memory {
+                    self.words.insert(units[0], words);
+                    return;
+                }
                 assert_eq!(units.len(), words.len(), "{place} is of another width");
                 for (&unit, word) in units.iter().zip(words) {
                     self.units[unit] = word;
