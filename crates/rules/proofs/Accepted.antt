@@ -40,9 +40,9 @@ not-refused none r es c m e = (refl, e)
 not-refused (some n) r es c m e = let z : _≡_ {A = ℕ} 0 1 = cc in absurd (omega arith)
 
 answered : (o : Option ScratchAllocator) (es : List Edit) (c : Cache) (m : ℕ) → answerOf o ≡ resolved es c m
-    → (k : ScratchAllocator) × (o ≡ some k) × (es ≡ k .edits) × (c ≡ k .cache) × (m ≡ k .met)
+    → (k : ScratchAllocator) × (o ≡ some k) × (es ≡ k .edits) × (c ≡ k .cache)
 answered none es c m e = let z : _≡_ {A = ℕ} 0 1 = cc in absurd (omega arith)
-answered (some k) es c m e = (k, refl, cc, cc, cc)
+answered (some k) es c m e = (k, refl, cc, cc)
 
 module _ (t : RegInfo) (f : Function) where
   -- no two of the places overlap
@@ -217,7 +217,7 @@ module _ (t : RegInfo) (f : Function) where
       let q = not-refused (firstOf (entryConditions t f a e)) (resolveFrom t f p room c l (add t f e a)) es c′ m h in
       good-from p room c c′ es m l (add t f e a) (good-add e a g (q .0)) (q .1)
 
-  pub accepted : (p : Patch) (room : ℕ) (c c′ : Cache) (es : List Edit) (m : ℕ) → resolve t f p room c ≡ resolved es c′ m → Ran t f p room c es c′ m
+  pub accepted : (p : Patch) (room : ℕ) (c c′ : Cache) (es : List Edit) (m : ℕ) → resolve t f p room c ≡ resolved es c′ m → Ran t f p room c es c′
   unfolding resolve resolveSorted patchConditions destinations
   accepted p room c c′ es m h =
       let a = sorted t f p in
@@ -234,5 +234,4 @@ module _ (t : RegInfo) (f : Function) where
         ran = k .1;
         edits = k .2;
         cache = k .3;
-        met = k .4;
       }

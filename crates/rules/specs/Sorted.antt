@@ -43,7 +43,7 @@ module _ (t : RegInfo) (f : Function) where
         → overlap t (getD (destinations a) i (slot 0)) (getD (destinations a) k (slot 0)) ≡ false
 
   -- an accepted call: what its tests leave known, and its run
-  pub record Ran (p : Patch) (room : ℕ) (c : Cache) (es : List Edit) (c′ : Cache) (n : ℕ) : Type 0 where
+  pub record Ran (p : Patch) (room : ℕ) (c : Cache) (es : List Edit) (c′ : Cache) : Type 0 where
     pub ok : SortedOk (sorted t f p)
     pub free : freeDestination t f p (sorted t f p) ≡ false
     pub last : lastOverlaps t f (sorted t f p) ≡ false
@@ -52,4 +52,3 @@ module _ (t : RegInfo) (f : Function) where
     pub ran : run t f p (sorted t f p) c ≡ some allocator
     pub edits : es ≡ allocator .edits
     pub cache : c′ ≡ allocator .cache
-    pub met : n ≡ allocator .met
