@@ -41,20 +41,20 @@ module _ (t f s list cache list′ cache′ : List ℕ) where
 
   call-turned : (a : Answer) (next k : ℕ) → CallAt f a next (Refused k) list list′ cache cache′ → (a ≡ rules.refused k) × (list′ ≡ list)
   call-turned (rules.refused j) next k h = let e : k ≡ j = cc in (ap rules.refused (sym e), h .1)
-  call-turned (rules.resolved es c) next k h = absurd (let z : _≡_ {A = ℕ} 0 1 = cc in omega arith)
+  call-turned (rules.resolved es c m) next k h = absurd (let z : _≡_ {A = ℕ} 0 1 = cc in omega arith)
 
   pub turned : (x : Read Patch) (k : ℕ) → StepAt t f s x (Refused k) list list′ cache cache′ → Turned k x × (list′ ≡ list)
   turned (refused j) k h = let e : k ≡ j = cc in (unread (ap refused (sym e)), h .1)
   turned (got p r) k h = let w = call-turned (call p) (h .0) k (h .3) in (uncalled p r refl (w .0), w .1)
 
   -- it is read and resolved
-  pub record Called (count next : ℕ) (x : Read Patch) : Type 0 where
+  pub record Called (count met next : ℕ) (x : Read Patch) : Type 0 where
     pub p : Patch
     pub rest : List ℕ
     pub es : List Edit
     pub after : Cache
     pub reads : x ≡ got p rest
-    pub calls : call p ≡ rules.resolved es after
+    pub calls : call p ≡ rules.resolved es after met
     pub on : rest ≡ drop next s
     pub past : next ≤ length s
     pub counted : count ≡ length es
@@ -63,18 +63,19 @@ module _ (t f s list cache list′ cache′ : List ℕ) where
     pub cache-is : cacheOf cache′ ≡ after
     pub cached : CacheOk f cache′
 
-  call-resolved : (p : Patch) (r : List ℕ) (y count next : ℕ) (a : Answer) → call p ≡ a → r ≡ drop y s → y ≤ length s → CallAt f a y (Edits count next) list list′ cache cache′ → Called count next (got p r)
-  call-resolved p r y count next (rules.refused j) i e q h = absurd (let z : _≡_ {A = ℕ} 0 1 = cc in omega arith)
-  call-resolved p r y count next (rules.resolved es c) i e q h =
+  call-resolved : (p : Patch) (r : List ℕ) (y count met next : ℕ) (a : Answer) → call p ≡ a → r ≡ drop y s → y ≤ length s → CallAt f a y (Edits count met next) list list′ cache cache′ → Called count met next (got p r)
+  call-resolved p r y count met next (rules.refused j) i e q h = absurd (let z : _≡_ {A = ℕ} 0 1 = cc in omega arith)
+  call-resolved p r y count met next (rules.resolved es c m) i e q h =
       let n : count ≡ length es = cc in
       let x : next ≡ y = cc in
+      let z : met ≡ m = cc in
       record {
         p = p;
         rest = r;
         es = es;
         after = c;
         reads = refl;
-        calls = i;
+        calls = rw z i;
         on = rw x e;
         past = rw x q;
         counted = n;
@@ -84,11 +85,11 @@ module _ (t f s list cache list′ cache′ : List ℕ) where
         cached = h .4;
       }
 
-  pub called : (x : Read Patch) (count next : ℕ) → StepAt t f s x (Edits count next) list list′ cache cache′ → Called count next x
-  called (refused j) count next h = absurd (let z : _≡_ {A = ℕ} 0 1 = cc in omega arith)
-  called (got p r) count next h = call-resolved p r (h .0) count next (call p) refl (h .1) (h .2) (h .3)
+  pub called : (x : Read Patch) (count met next : ℕ) → StepAt t f s x (Edits count met next) list list′ cache cache′ → Called count met next x
+  called (refused j) count met next h = absurd (let z : _≡_ {A = ℕ} 0 1 = cc in omega arith)
+  called (got p r) count met next h = call-resolved p r (h .0) count met next (call p) refl (h .1) (h .2) (h .3)
 
   -- it has 1,024 edits at most: no more than the bound, which is that of 128 entries at most
-  pub few : (at count next : ℕ) → Checked t f → Called count next (patch T F (drop at s)) → count ≤ 1024
-  few at count next k g =
-      omega (arith, g .counted, bound-ok T F (k .target) (k .function) (g .p) (length list) (cacheOf cache) (g .after) (g .es) (accepted T F (g .p) (length list) (cacheOf cache) (g .after) (g .es) (g .calls)), room-for-every T F (drop at s) (g .p) (g .rest) (g .reads))
+  pub few : (at count met next : ℕ) → Checked t f → Called count met next (patch T F (drop at s)) → count ≤ 1024
+  few at count met next k g =
+      omega (arith, g .counted, bound-ok T F (k .target) (k .function) (g .p) (length list) (cacheOf cache) (g .after) (g .es) (accepted T F (g .p) (length list) (cacheOf cache) (g .after) (g .es) met (g .calls)), room-for-every T F (drop at s) (g .p) (g .rest) (g .reads))

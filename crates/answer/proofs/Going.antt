@@ -22,11 +22,11 @@ after l a = record { done = l ++ a .done; refusal = a .refusal }
 words-append : (l m : List Done) → wordsOf (l ++ m) ≡ wordsOf l ++ wordsOf m
 unfolding wordsOf
 words-append [] m = refl
-words-append (d ∷ l) m = rw (words-append l m) (sym (append-assoc (patchWords (d .edits) (d .made)) (wordsOf l) (wordsOf m)))
+words-append (d ∷ l) m = rw (words-append l m) (sym (append-assoc (patchWords (d .edits) (d .made) (d .position)) (wordsOf l) (wordsOf m)))
 
-words-one : (d : Done) → wordsOf (d ∷ []) ≡ patchWords (d .edits) (d .made)
+words-one : (d : Done) → wordsOf (d ∷ []) ≡ patchWords (d .edits) (d .made) (d .position)
 unfolding wordsOf
-words-one d = append-nil (patchWords (d .edits) (d .made))
+words-one d = append-nil (patchWords (d .edits) (d .made) (d .position))
 
 packed-append : (l m : List Done) → AllPacked l → AllPacked m → AllPacked (l ++ m)
 packed-append [] m p q = q
@@ -77,7 +77,7 @@ module _ (t f s : List ℕ) (a : Answers) (words₀ : List ℕ) where
     pub goes-on : (cache′ words′ : List ℕ) (next m : ℕ) → 0 < left → Next t f s at cache cache′ words words′ n (O.At next m) → Going t f s a words₀ cache′ words′ next m (left - 1)
     goes-on cache′ words′ next m h x =
         let l : List Done = g .done ++ (x .0 ∷ []) in
-        let e : wordsOf l ≡ wordsOf (g .done) ++ patchWords (x .0 .edits) (x .0 .made) = rw (words-append (g .done) (x .0 ∷ []), words-one (x .0)) in
+        let e : wordsOf l ≡ wordsOf (g .done) ++ patchWords (x .0 .edits) (x .0 .made) (x .0 .position) = rw (words-append (g .done) (x .0 ∷ []), words-one (x .0)) in
         record {
           done = l;
           is =

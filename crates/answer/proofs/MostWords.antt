@@ -53,9 +53,9 @@ module _ (t : RegInfo) (f : Function) where
         → (a : Answer) → resolve t f p 1024 c ≡ a
         → afterCall a (λ c′. patchesIn t f n c′ (left - wordsTaken a) r) ≡ afterCall a (λ c′. patches t f n c′ r)
     after-call n c left p r h on (rules.refused k) e = refl
-    after-call n c left p r h on (rules.resolved es c′) e =
-        let few = bound-ok t f at af p 1024 c c′ es (accepted t f p 1024 c c′ es e) in
-        ap (before (record { edits = es; made = c′ .made })) (on c′ (left - (1 + length es)) (omega arith))
+    after-call n c left p r h on (rules.resolved es c′ m) e =
+        let few = bound-ok t f at af p 1024 c c′ es (accepted t f p 1024 c c′ es m e) in
+        ap (before (record { edits = es; made = c′ .made; position = m })) (on c′ (left - (1 + length es)) (omega arith))
 
     same : (n : ℕ) (c : Cache) (left : ℕ) (l : List ℕ) → 2 * length l + n ≤ left → patchesIn t f n c left l ≡ patches t f n c l
     unfolding patchesIn patches

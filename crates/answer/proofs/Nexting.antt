@@ -35,7 +35,7 @@ module _ (t f s : List ℕ) (at : ℕ) (list : List ℕ) (len : length list ≡ 
   pub next-refused : (k : ℕ) → StepAt t f s (patch T F (drop at s)) (Refused k) list list′ cache cache′ → (left : ℕ) → rest t f s at cache (suc left) ≡ endsWith (some k)
   next-refused k h left = ends k left (turned t f s list cache list′ cache′ (patch T F (drop at s)) k h .0)
 
-  pub record Resolved (count next : ℕ) : Type 0 where
+  pub record Resolved (count met next : ℕ) : Type 0 where
     pub done : Done
     pub goes-on : (left : ℕ) → rest t f s at cache (suc left) ≡ before done (patches T F left (cacheOf cache′) (drop next s))
     pub counted : count ≡ length (done .edits)
@@ -46,15 +46,15 @@ module _ (t f s : List ℕ) (at : ℕ) (list : List ℕ) (len : length list ≡ 
     pub cached : CacheOk f cache′
     pub past : next ≤ length s
 
-  module _ (count next : ℕ) (g : Called t f s list cache list′ cache′ count next (patch T F (drop at s))) where
-    goes-on : (left : ℕ) → rest t f s at cache (suc left) ≡ before (record { edits = g .es; made = g .after .made }) (patches T F left (cacheOf cache′) (drop next s))
+  module _ (count met next : ℕ) (g : Called t f s list cache list′ cache′ count met next (patch T F (drop at s))) where
+    goes-on : (left : ℕ) → rest t f s at cache (suc left) ≡ before (record { edits = g .es; made = g .after .made; position = met }) (patches T F left (cacheOf cache′) (drop next s))
     unfolding patches
     goes-on left = rw (g .reads, rw len at (g .calls), g .cache-is, g .on)
 
-    is-resolved : Resolved count next
+    is-resolved : Resolved count met next
     is-resolved =
         record {
-          done = record { edits = g .es; made = g .after .made };
+          done = record { edits = g .es; made = g .after .made; position = met };
           goes-on = goes-on;
           counted = g .counted;
           listed = rw (g .counted) (front-words list′ _ (g .es) (g .ranged) (g .listed) .are);
@@ -65,5 +65,5 @@ module _ (t f s : List ℕ) (at : ℕ) (list : List ℕ) (len : length list ≡ 
           past = g .past;
         }
 
-  pub resolved : (count next : ℕ) → StepAt t f s (patch T F (drop at s)) (Edits count next) list list′ cache cache′ → Resolved count next
-  resolved count next h = is-resolved count next (called t f s list cache list′ cache′ (patch T F (drop at s)) count next h)
+  pub resolved : (count met next : ℕ) → StepAt t f s (patch T F (drop at s)) (Edits count met next) list list′ cache cache′ → Resolved count met next
+  resolved count met next h = is-resolved count met next (called t f s list cache list′ cache′ (patch T F (drop at s)) count met next h)

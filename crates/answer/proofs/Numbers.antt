@@ -144,7 +144,7 @@ in-rising (suc n) limit least l = after-tested _ l _ (λ u r. (refl, in-rising n
 
 after-resolved : (a : Answer) (next : Cache → List Condition) → ((c : Cache) → Numbers (next c)) → Numbers (afterResolved a next)
 after-resolved (rules.refused k) next h = tt
-after-resolved (rules.resolved es c) next h = h c
+after-resolved (rules.resolved es c n) next h = h c
 
 module _ (t : RegInfo) (f : Function) where
   in-place : (l : List ℕ) → Numbers (inPlace t f l)

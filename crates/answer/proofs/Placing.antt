@@ -92,16 +92,16 @@ module _ (words : List ℕ) (n from : ℕ) where
         go false h e = absurd (z e)
 
   -- the head before the words of the edits
-  module _ (one : from ≡ n + 1) (there : n < length words) (es : List Edit) (made : ℕ) (list : List ℕ) (listed : list ≡ map wordOf es ++ drop (length es) part) (kept : length list ≡ length part) where
+  module _ (one : from ≡ n + 1) (there : n < length words) (es : List Edit) (made position : ℕ) (list : List ℕ) (listed : list ≡ map wordOf es ++ drop (length es) part) (kept : length list ≡ length part) where
     pub edits-fit : from + length es ≤ length words
     edits-fit = omega (arith, kept, ap length listed, length-append (map wordOf es) (drop (length es) part), length-map es wordOf, length-drop (length es) part, part-length)
 
-    head-put : (w : ℕ) → w ≡ headWord (length es) made → Put words (set (back list) n w) n (patchWords es made) (from + length es)
+    head-put : (w : ℕ) → w ≡ headWord (length es) made position → Put words (set (back list) n w) n (patchWords es made position) (from + length es)
     head-put w e =
         let l : length (take n words) ≡ n = length-take-le n words (omega arith) in
-        let z : n + 1 + length es ≡ n + length (patchWords es made) = omega (arith, length-map es wordOf) in
+        let z : n + 1 + length es ≡ n + length (patchWords es made position) = omega (arith, length-map es wordOf) in
         let b : back list ≡ take n words ++ (getD words n 0 ∷ list) = back-is list ∙ rw (one, add-one n, take-suc words n 0 there) (append-assoc (take n words) (getD words n 0 ∷ []) list) in
-        let x : drop (length es) part ≡ drop (n + length (patchWords es made)) words = rw (part-is, one, drop-drop (length es) (n + 1) words, z) in
+        let x : drop (length es) part ≡ drop (n + length (patchWords es made position)) words = rw (part-is, one, drop-drop (length es) (n + 1) words, z) in
         record {
           room = omega (arith, edits-fit);
           stands = ap (λ (k : List ℕ). set k n w) b ∙ set-at (take n words) (getD words n 0) list w n l ∙ rw (e, listed, x);
@@ -133,7 +133,7 @@ module _ (t f s : List ℕ) (at : ℕ) (words : List ℕ) (n from : ℕ) (room :
       let w = turned t f s lentPart cache list cache′ (patch T F (drop at s)) k h in
       (λ left. turned-in k left (w .0), given-back words n from list (w .1))
 
-  module _ (count next : ℕ) (g : Called t f s lentPart cache list cache′ count next (patch T F (drop at s))) (kept : length list ≡ length lentPart) where
+  module _ (count met next : ℕ) (g : Called t f s lentPart cache list cache′ count met next (patch T F (drop at s))) (kept : length list ≡ length lentPart) where
     headless-in : (left : ℕ) → length words ≤ n → length lentPart ≡ 0 → restIn t f s at cache (suc left) (length words - n) ≡ endsWith (some 16)
     unfolding patchesIn
     headless-in left h z =
@@ -148,25 +148,25 @@ module _ (t f s : List ℕ) (at : ℕ) (words : List ℕ) (n from : ℕ) (room :
 
     goes-on : (left : ℕ) → from ≡ n + 1 → n < length words
         → restIn t f s at cache (suc left) (length words - n)
-        ≡ before (record { edits = g .es; made = g .after .made }) (patchesIn T F left (cacheOf cache′) (length words - (from + count)) (drop next s))
+        ≡ before (record { edits = g .es; made = g .after .made; position = met }) (patchesIn T F left (cacheOf cache′) (length words - (from + count)) (drop next s))
     unfolding patchesIn
     goes-on left one there =
         let y : length words - n ≡ suc (length lentPart) = omega (arith, part-length words n from) in
         let x : suc (length lentPart) - (1 + length (g .es)) ≡ length words - (from + count) = omega (arith, part-length words n from, g .counted) in
         rw (y, g .reads, g .calls, x, g .cache-is, g .on)
 
-    pub next-put : (from ≡ n → ⊥) → count ≤ 1024 → (made w : ℕ) → made < 65536 → made ≡ cacheOf cache′ .made → w ≡ headWord count made
+    pub next-put : (from ≡ n → ⊥) → count ≤ 1024 → (made position w : ℕ) → made < 65536 → made ≡ cacheOf cache′ .made → position < 65536 → position ≡ met → w ≡ headWord count made position
         → Next t f s at cache cache′ words (set (back words n from list) n w) n (O.At next (from + count))
-    next-put h few made w small m e =
+    next-put h few made position w small m low i e =
         let o = one-left words n from room is h in
-        let d : Done = record { edits = g .es; made = g .after .made } in
+        let d : Done = record { edits = g .es; made = g .after .made; position = met } in
         let y : made ≡ g .after .made = m ∙ ap (λ (c : Cache). c .made) (g .cache-is) in
-        let x : w ≡ headWord (length (g .es)) (g .after .made) = e ∙ rw (g .counted, y) in
+        let x : w ≡ headWord (length (g .es)) (g .after .made) met = e ∙ rw (g .counted, y, i) in
         let z : from + length (g .es) ≡ from + count = omega (arith, g .counted) in (
           d,
           λ left. goes-on left (o .0) (o .1),
-          rw z at (head-put words n from (o .0) (o .1) (g .es) (g .after .made) list (g .listed) kept w x),
+          rw z at (head-put words n from (o .0) (o .1) (g .es) (g .after .made) met list (g .listed) kept w x),
           g .cached,
           g .past,
-          record { ranged = g .ranged; few = omega (arith, g .counted); small = omega arith },
+          record { ranged = g .ranged; few = omega (arith, g .counted); small = omega arith; low = omega arith },
         )

@@ -12,7 +12,7 @@ done-printed : (k : ℕ) (l : List Done) → AllPacked l → answerLines k (word
 unfolding answerLines wordsOf doneText
 done-printed k [] p = refl
 done-printed k (d ∷ l) p =
-    patch-printed k (d .edits) (d .made) (wordsOf l) (p .0 .ranged) (p .0 .few) (p .0 .small) ∙ ap (λ (t : List ℕ). patchText k (d .edits) (d .made) ++ t) (done-printed (k + 1) l (p .1))
+    patch-printed k (d .edits) (d .made) (d .position) (wordsOf l) (p .0 .ranged) (p .0 .few) (p .0 .small) ∙ ap (λ (t : List ℕ). patchText k (d .edits) (d .made) ++ t) (done-printed (k + 1) l (p .1))
 
 pub job-printed : JobPrinted
 job-printed a p = ap (λ (t : List ℕ). t ++ refusalText (numberOf (a .refusal))) (done-printed 1 (a .done) p)

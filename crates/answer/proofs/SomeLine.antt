@@ -36,7 +36,7 @@ after-read (refused k) next h e = absurd (let z : _≡_ {A = ℕ} 0 1 = cc in om
 
 after-call : (a : Answer) (next : Cache → Answers) → Some (afterCall a next)
 after-call (rules.refused k) next e = absurd (let z : _≡_ {A = ℕ} 0 1 = cc in omega arith)
-after-call (rules.resolved es c) next e = omega arith
+after-call (rules.resolved es c n) next e = omega arith
 
 some-patch : (t : RegInfo) (f : Function) (n : ℕ) (c : Cache) (l : List ℕ) → 1 ≤ n → Some (patches t f n c l)
 unfolding patches

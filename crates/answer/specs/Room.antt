@@ -20,12 +20,12 @@ use Rattle.job.specs.Job.{Answers, afterRead, afterCall, leftOver, opening, job
 -- no word is left for the head
 abbrev pub headless : Answer → Answer
 headless (refused n) = refused n
-headless (resolved es c) = refused 16
+headless (resolved es c n) = refused 16
 
 -- a patch's head and its edits are words
 abbrev pub wordsTaken : Answer → ℕ
 wordsTaken (refused n) = 0
-wordsTaken (resolved es c) = 1 + length es
+wordsTaken (resolved es c n) = 1 + length es
 
 module _ (t : RegInfo) (f : Function) where
   -- a call with `left` words left, of which the head takes one
@@ -52,7 +52,7 @@ module _ (t : RegInfo) (f : Function) where
   -- "Each is given when its condition holds and none earlier does, else not."
   pub record RefusalsIn (p : Patch) (left : ℕ) (c : Cache) : Type 0 where
     pub given : (n : ℕ) → (callIn p left c ≡ refused n) ↔ Given (conditionsIn p left c) n
-    pub taken : ((es : List Edit) × (c′ : Cache) × (callIn p left c ≡ resolved es c′)) ↔ NoneHolds (conditionsIn p left c)
+    pub taken : ((es : List Edit) × (c′ : Cache) × (n : ℕ) × (callIn p left c ≡ resolved es c′ n)) ↔ NoneHolds (conditionsIn p left c)
 
 -- a whole job, answered into `room` words
 unfoldable pub jobIn : (room : ℕ) → List ℕ → Answers

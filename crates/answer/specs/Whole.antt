@@ -38,7 +38,7 @@ module _ (t f s : List ℕ) (at : ℕ) (cache : List ℕ) where
   Next cache′ words words′ n (O.At next m) =
       (d : Done)
       × ((left : ℕ) → restIn (suc left) (length words - n) ≡ before d (patchesIn (regInfoOf t) (functionOf f) left (cacheOf cache′) (length words - m) (drop next s)))
-      × Put words words′ n (patchWords (d .edits) (d .made)) m × CacheOk f cache′ × (next ≤ length s) × Packed d
+      × Put words words′ n (patchWords (d .edits) (d .made) (d .position)) m × CacheOk f cache′ × (next ≤ length s) × Packed d
   Next cache′ words words′ n (O.Refused k) = ((left : ℕ) → restIn (suc left) (length words - n) ≡ endsWith (some k)) × (words′ ≡ words)
 
 abbrev pub ended : Option ℕ → ℕ → Whole

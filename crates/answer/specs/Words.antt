@@ -16,7 +16,7 @@ use Rattle.job.specs.Job.{Done, Answers, job}
 -- patch by patch
 unfoldable pub wordsOf : List Done → List ℕ
 wordsOf [] = []
-wordsOf (d ∷ l) = patchWords (d .edits) (d .made) ++ wordsOf l
+wordsOf (d ∷ l) = patchWords (d .edits) (d .made) (d .position) ++ wordsOf l
 
 -- 01's number, 0 for none
 abbrev pub numberOf : Option ℕ → ℕ
@@ -32,11 +32,12 @@ doneText k (d ∷ l) = patchText k (d .edits) (d .made) ++ doneText (k + 1) l
 abbrev pub jobText : Answers → List ℕ
 jobText a = doneText 1 (a .done) ++ refusalText (numberOf (a .refusal))
 
--- each edit has a word of its own, and the head tells how many edits and slots there are
+-- each edit has a word of its own, and the head tells how many edits and slots there are, and the position
 pub record Packed (d : Done) : Type 0 where
   pub ranged : AllInRange (d .edits)
   pub few : length (d .edits) < 65536
   pub small : d .made < 65536
+  pub low : d .position < 65536
 
 abbrev pub AllPacked : List Done → Type 0
 AllPacked [] = Unit {0}

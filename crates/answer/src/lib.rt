@@ -44,12 +44,12 @@ fn long(x: u32) -> usize
     x as usize
 }
 
-// The word before a patch's edits: how many they are, and how many slots the function has made.
-fn head(count: usize, made: usize) -> u64
-    requires { ⌜ (count ≤ 1024) × (made < 65536) ⌝ }
-    ensures { λ r. ⌜ r ≡ headWord count made ⌝ }
+// The word before a patch's edits: how many they are, how many slots the function has made, and the greatest position that the patch met.
+fn head(count: usize, made: usize, position: usize) -> u64
+    requires { ⌜ (count ≤ 1024) × (made < 65536) × (position < 65536) ⌝ }
+    ensures { λ r. ⌜ r ≡ headWord count made position ⌝ }
 {
-    (made as u64 * 65536 + count as u64) * 8
+    ((position as u64 * 65536 + made as u64) * 65536 + count as u64) * 8
 }
 
 // Where the words behind the head at n begin: where no word is left for it, at the end.
@@ -107,11 +107,11 @@ fn answer_next(
         c,
     ) {
         Step::Refused(k) => Onward::Refused(k),
-        Step::Edits(count, next) => {
+        Step::Edits(count, met, next) => {
             if from == n {
                 return Onward::Refused(16);
             }
-            words[n] = head(count, wide(slots::made(cache)));
+            words[n] = head(count, wide(slots::made(cache)), wide(met));
             Onward::At(next, from + count)
         }
     }

@@ -11,18 +11,24 @@ use Rattle.rules.specs.Edit.{Edit, Move, Rematerialize, EmergencySpill, Emergen
 use Rattle.edit.specs.Word.{packed, kindIn, wordOf, AllInRange}
 use Rattle.print.specs.Text.{editLines, patchLine}
 use Rattle.print.proofs.Printing.{line-there}
-use Rattle.answer_text.specs.Heads.{headWord, isHead, countIn, madeIn}
+use Rattle.answer_text.specs.Heads.{headWord, isHead, countIn, madeIn, positionIn, HeadRead}
 use Rattle.answer_text.specs.Lines.{answerLines, PatchPrinted}
 
 -- ---- a head reads back
-pub is-head : (count made : ℕ) → isHead (headWord count made) ≡ true
-is-head count made = eq-eqb (kindIn (headWord count made)) 0 (omega arith)
+pub is-head : (count made position : ℕ) → isHead (headWord count made position) ≡ true
+is-head count made position = eq-eqb (kindIn (headWord count made position)) 0 (omega arith)
 
-pub count-there : (count made : ℕ) → count < 65536 → countIn (headWord count made) ≡ count
-count-there count made h = let q : headWord count made / 8 ≡ made * 65536 + count = omega arith in rw q (omega arith)
+pub count-there : (count made position : ℕ) → count < 65536 → countIn (headWord count made position) ≡ count
+count-there count made position h = let q : headWord count made position / 8 ≡ (position * 65536 + made) * 65536 + count = omega arith in rw q (omega arith)
 
-pub made-there : (count made : ℕ) → count < 65536 → made < 65536 → madeIn (headWord count made) ≡ made
-made-there count made h m = let q : headWord count made / 524288 ≡ made = omega arith in rw q (omega arith)
+pub made-there : (count made position : ℕ) → count < 65536 → made < 65536 → madeIn (headWord count made position) ≡ made
+made-there count made position h m = let q : headWord count made position / 524288 ≡ position * 65536 + made = omega arith in rw q (omega arith)
+
+position-there : (count made position : ℕ) → count < 65536 → made < 65536 → position < 65536 → positionIn (headWord count made position) ≡ position
+position-there count made position h m p = let q : headWord count made position / 34359738368 ≡ position = omega arith in rw q (omega arith)
+
+pub head-read : HeadRead
+head-read count made position h m p = (count-there count made position h, made-there count made position h m, position-there count made position h m p)
 
 -- ---- an edit's word is no head
 other-kind : (kind to from v : ℕ) → 0 < kind → kind < 8 → isHead (packed kind to from v) ≡ false
@@ -42,7 +48,7 @@ edits-printed k (e ∷ es) rest r = rw (no-head e, line-there e (r .0), edits-pr
 
 pub patch-printed : PatchPrinted
 unfolding answerLines
-patch-printed k es made rest r few low =
+patch-printed k es made position rest r few low =
     let n = length es in
-    rw (is-head n made, count-there n made few, made-there n made few low, edits-printed (k + 1) es rest r)
+    rw (is-head n made position, count-there n made position few, made-there n made position few low, edits-printed (k + 1) es rest r)
     (sym (append-assoc (patchLine k n made) (editLines es) (answerLines (k + 1) rest)))

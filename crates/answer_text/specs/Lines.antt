@@ -31,8 +31,8 @@ answerText words refusal = answerLines 1 words ++ refusalText refusal
 -- the lines of a patch's words are its text
 abbrev pub PatchPrinted : Type 0
 PatchPrinted =
-    (k : ℕ) (es : List Edit) (made : ℕ) (rest : List ℕ) → AllInRange es → length es < 65536 → made < 65536
-    → answerLines k (patchWords es made ++ rest) ≡ patchText k es made ++ answerLines (k + 1) rest
+    (k : ℕ) (es : List Edit) (made position : ℕ) (rest : List ℕ) → AllInRange es → length es < 65536 → made < 65536
+    → answerLines k (patchWords es made position ++ rest) ≡ patchText k es made ++ answerLines (k + 1) rest
 
 -- a byte in front of what stays behind it: where that is nothing, only a newline stays
 abbrev pub unlessCut : ℕ → List ℕ → List ℕ

@@ -22,8 +22,8 @@ abbrev pub OpenedBy : Read Opened → ℕ → (t f cache cache′ : List ℕ) �
 OpenedBy (read.refused k) r t f cache cache′ = (r ≡ k) × Anything t × Anything f × (cache′ ≡ cache)
 OpenedBy (read.got x rest) r t f cache cache′ = (r ≡ 0) × (regInfoOf t ≡ x .target) × (functionOf f ≡ x .function) × Checked t f × Cleared cache′ × CacheOk f cache′
 
--- `Gives` of crate parallel_moves, as a count and a number
-abbrev pub CalledAs : (f : List ℕ) → Answer → (r refusal : ℕ) → (list list′ cache cache′ : List ℕ) → Type 0
-CalledAs f (refused n) r refusal list list′ cache cache′ = (r ≡ 0) × (refusal ≡ n) × (list′ ≡ list) × (cache′ ≡ cache)
-CalledAs f (resolved es c) r refusal list list′ cache cache′ =
-    (r ≡ length es) × (refusal ≡ 0) × (list′ ≡ map wordOf es ++ drop (length es) list) × AllInRange es × (cacheOf cache′ ≡ c) × CacheOk f cache′
+-- `Gives` of crate parallel_moves, as a count and numbers
+abbrev pub CalledAs : (f : List ℕ) → Answer → (r refusal position position′ : ℕ) → (list list′ cache cache′ : List ℕ) → Type 0
+CalledAs f (refused n) r refusal position position′ list list′ cache cache′ = (r ≡ 0) × (refusal ≡ n) × (position′ ≡ position) × (list′ ≡ list) × (cache′ ≡ cache)
+CalledAs f (resolved es c n) r refusal position position′ list list′ cache cache′ =
+    (r ≡ length es) × (refusal ≡ 0) × (position′ ≡ n) × (list′ ≡ map wordOf es ++ drop (length es) list) × AllInRange es × (cacheOf cache′ ≡ c) × CacheOk f cache′

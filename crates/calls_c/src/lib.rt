@@ -42,7 +42,7 @@ pub extern "C" fn parallel_moves_open_2(
 }
 
 // One patch of free units, rising, and of entries as numbers, four to an entry: answers how many edits stand at the front of `list`, and sets
-// `refusal` to 01's number or 0. Asked is that target, function and cache are as `parallel_moves_open` left them when it answered 0, the cache
+// `refusal` to 01's number or 0, and `position`, unless it is refused, to the greatest position that its searches met. Asked is that target, function and cache are as `parallel_moves_open` left them when it answered 0, the cache
 // as the last call on it left it: "nothing else writes the cache between calls".
 #[no_mangle]
 pub extern "C" fn parallel_moves_resolve_2(
@@ -53,6 +53,7 @@ pub extern "C" fn parallel_moves_resolve_2(
     cache: &mut SlotCache,
     list: &mut [u64],
     refusal: &mut u8,
+    position: &mut u16,
     entries: &mut Entries,
     writers: &mut SparseMap,
     available: &mut RegUnitSet,
@@ -64,7 +65,7 @@ pub extern "C" fn parallel_moves_resolve_2(
     carried: &mut Carried,
 ) -> usize
     requires { ⌜ Checked (now target) (now function) × CacheOk (now function) (now cache) ⌝ }
-    ensures { λ r. ⌜ CalledAs (now (function .entry)) (callOf (regInfoOf (now (target .entry))) (functionOf (now (function .entry))) (now (free .entry)) (now (numbers .entry)) (length (now (list .entry))) (cacheOf (now (cache .entry)))) r (now (refusal .exit)) (now (list .entry)) (now (list .exit)) (now (cache .entry)) (now (cache .exit)) ⌝ }
+    ensures { λ r. ⌜ CalledAs (now (function .entry)) (callOf (regInfoOf (now (target .entry))) (functionOf (now (function .entry))) (now (free .entry)) (now (numbers .entry)) (length (now (list .entry))) (cacheOf (now (cache .entry)))) r (now (refusal .exit)) (now (position .entry)) (now (position .exit)) (now (list .entry)) (now (list .exit)) (now (cache .entry)) (now (cache .exit)) ⌝ }
     ensures { λ _. ⌜ Anything (now (entries .exit)) × Anything (now (writers .exit)) × Anything (now (available .exit)) × Anything (now (sources .exit)) × Anything (now (edits .exit)) × Anything (now (slots .exit)) × Anything (now (diverted .exit)) × Anything (now (marks .exit)) × Anything (now (carried .exit)) ⌝ }
 {
     match calls::resolve(
@@ -84,8 +85,9 @@ pub extern "C" fn parallel_moves_resolve_2(
         marks,
         carried,
     ) {
-        Resolved::Edits(count) => {
+        Resolved::Edits(count, met) => {
             *refusal = 0;
+            *position = met;
             count
         }
         Resolved::Refused(number) => {

@@ -25,7 +25,7 @@ use Rattle.rules.proofs.Writers.{writers-low}
 use Rattle.machine.proofs.Diversions.{Grown, carry-grown}
 use Rattle.carried.specs.Carried.{countOf, carriedBy}
 use Rattle.scratch.specs.declared.ScratchAllocator.{ScratchAllocator}
-use Rattle.scratch.specs.declared.Scratch.{Scratch}
+use Rattle.scratch.specs.declared.Divert.{Divert}
 use Rattle.scratch.specs.State.{T, F, PlaceFits}
 use Rattle.scratch.specs.Contracts.{Tables, stateOf, FitsIn, Moved}
 use Rattle.scratch.specs.Diversions.{Diversion, Diverting, countAt, allocAt, scratchAt, diversionAt, divertBy, Diverts}
@@ -101,7 +101,7 @@ module _ (t f cache e sparse : List ℕ) (given : Given t f e sparse) (m : ℕ) 
     fewer (omega arith) (omega arith) (omega arith) room,
   )
 
-  module _ (b added src : ℕ) (barred : ℕ → Bool) (d : List ℕ) (r : Scratch) (x : Tables) (div : Diverts t f cache b barred added src v (w .diverted) k (w .tables) d r x) where
+  module _ (b added src : ℕ) (barred : ℕ → Bool) (d : List ℕ) (r : Divert) (x : Tables) (div : Diverts t f cache b barred added src v (w .diverted) k (w .tables) d r x) where
     pub emit-room : FitsIn t f cache 0 1 4 (r .allocator) x
     emit-room = fewer (omega arith) (omega arith) (omega arith) (div .fits 0 1 6 room)
 
@@ -116,7 +116,7 @@ module _ (t f cache e sparse : List ℕ) (given : Given t f e sparse) (m : ℕ) 
   -- the tables after the sources were noted, the value carried and diverted, and the move emitted
   module _ (sources : List Bool) (marks : List ℕ) (states : statesOf marks ≡ statesOf (w .marks)) (noted : isNoted marks ≡ true) (are : setOf sources ≡ cycleMoveSources (T t) (F f) (movesOf e))
       (c : List ℕ) (added : ℕ) (did : CarriedAs (statesOf marks) v (w .carried) c added 8 (carry v (statesOf marks) (writers (T t) (F f) (movesOf e) m)))
-      (src : ℕ) (es : placeAt src ≡ getD (movesOf e) m noMove .source) (d : List ℕ) (r : Scratch) (x : Tables)
+      (src : ℕ) (es : placeAt src ≡ getD (movesOf e) m noMove .source) (d : List ℕ) (r : Divert) (x : Tables)
       (div : Diverts t f cache (valueBank (functionOf f) v) (barredBy true sources) added src v (w .diverted) k (w .tables) d r x) (k′ : ScratchAllocator) (x′ : Tables)
       (moved : Moved t f cache (r .allocator) x k′ x′ (doMove (T t) (F f) (valueBank (F f) v) (dest (T t) (F f) (movesOf e) m) (placeAt (r .place .0)) v)) where
     abbrev after : Work

@@ -41,7 +41,7 @@ module _ (t : RegInfo) (f : Function) where
   called : (n : ℕ) (c : Cache) (l : List ℕ) (p : Patch) (r : List ℕ) → patch t f l ≡ got p r → (a : Answer) → resolve t f p 1024 c ≡ a → Answered t f p a → All (cacheAfter c a)
       → (next : Cache → Answers) → ((c′ : Cache) → All c′ → Right (next c′) n c′ r) → Right (afterCall a next) (suc n) c l
   called n c l p r e (rules.refused k) is ok more next on = not-resolved k p r (omega arith) e is refl
-  called n c l p r e (rules.resolved es c′) is ok more next on =
+  called n c l p r e (rules.resolved es c′ m) is ok more next on =
       let one : suc n - 1 ≡ n = omega arith in
       (omega arith, record { p = p; rest = r; after = c′; reads = e; calls = is; made = refl; accepted = ok }, rw one (on c′ more))
 

@@ -30,11 +30,11 @@ use Rattle.job.proofs.WasRead.{patch-taken}
 module _ (f : List ℕ) (next : ℕ) (list list′ cache cache′ : List ℕ) where
   pub call-refused : (a : Answer) (k : ℕ) → Gives f a (R.Refused k) list list′ cache cache′ → CallAt f a next (Refused k) list list′ cache cache′
   call-refused (rules.refused n) k h = let e : k ≡ n = cc in (ap Refused e, h .1, h .2)
-  call-refused (rules.resolved es c) k h = absurd (let z : _≡_ {A = ℕ} 0 1 = cc in omega arith)
+  call-refused (rules.resolved es c m) k h = absurd (let z : _≡_ {A = ℕ} 0 1 = cc in omega arith)
 
-  pub call-edits : (a : Answer) (n : ℕ) → Gives f a (R.Edits n) list list′ cache cache′ → CallAt f a next (Edits n next) list list′ cache cache′
-  call-edits (rules.refused k) n h = absurd (let z : _≡_ {A = ℕ} 0 1 = cc in omega arith)
-  call-edits (rules.resolved es c) n h = let e : n ≡ length es = h .1 in (rw e, h .2, h .3, h .4, h .5)
+  pub call-edits : (a : Answer) (n m : ℕ) → Gives f a (R.Edits n m) list list′ cache cache′ → CallAt f a next (Edits n m next) list list′ cache cache′
+  call-edits (rules.refused k) n m h = absurd (let z : _≡_ {A = ℕ} 0 1 = cc in omega arith)
+  call-edits (rules.resolved es c i) n m h = let e : n ≡ length es = h .1 in let q : m ≡ i = h .6 in (rw (e, q), h .2, h .3, h .4, h .5)
 
 module _ (t f s : List ℕ) (x : Read Patch) (free : List Bool) (e w : List ℕ) where
   pub step-refused : (k : ℕ) (list cache : List ℕ) → PatchAt t f s x (X.Refused k) free e w → StepAt t f s x (Refused k) list list cache cache

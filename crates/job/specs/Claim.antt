@@ -15,14 +15,14 @@ use Rattle.job_patch.specs.Patches.{patch}
 use Rattle.job.specs.Job.{Header, Done, Answers, opening, job}
 
 module _ (t : RegInfo) (f : Function) where
-  -- the bytes l begin with a patch that is read, and d is what its call gives from the cache c: its edits, which are as demand 3 says, and how
-  -- many slots the function then has
+  -- the bytes l begin with a patch that is read, and d is what its call gives from the cache c: its edits, which are as demand 3 says, how
+  -- many slots the function then has, and the position
   pub record DoneAt (c : Cache) (l : List ℕ) (d : Done) : Type 0 where
     pub p : Patch
     pub rest : List ℕ
     pub after : Cache
     pub reads : patch t f l ≡ got p rest
-    pub calls : resolve t f p 1024 c ≡ rules.resolved (d .edits) after
+    pub calls : resolve t f p 1024 c ≡ rules.resolved (d .edits) after (d .position)
     pub made : d .made ≡ after .made
     pub accepted : Accepted t f p (d .edits)
 

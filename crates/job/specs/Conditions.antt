@@ -127,7 +127,7 @@ inRising (suc n) limit least l = afterBelow limit l (λ u r. cond 3 (ltb u least
 -- the conditions of what follows a call, where it was not refused
 abbrev pub afterResolved : Answer → (Cache → List Condition) → List Condition
 afterResolved (rules.refused k) next = []
-afterResolved (rules.resolved es c) next = next c
+afterResolved (rules.resolved es c n) next = next c
 
 module _ (t : RegInfo) (f : Function) where
   unfoldable pub inPlace : List ℕ → List Condition

@@ -43,10 +43,11 @@ withFunction t l = then (function t l) (λ f q. got (record { target = t; functi
 unfoldable pub beginning : List ℕ → Read Opened
 beginning l = pick (ltb 65536 (length l)) (refused 2) (then (target l) (λ t r. unlessGiven (targetRefusal t) (withFunction t r)))
 
--- of a patch that was resolved: its edits, and how many slots the function then has
+-- of a patch that was resolved: its edits, how many slots the function then has, and the greatest position that it met
 pub record Done : Type 0 where
   pub edits : List Edit
   pub made : ℕ
+  pub position : ℕ
 
 -- the patches resolved, and the refusal, if one came
 pub record Answers : Type 0 where
@@ -65,7 +66,7 @@ afterRead (refused k) next = endsWith (some k)
 
 abbrev pub afterCall : Answer → (Cache → Answers) → Answers
 afterCall (rules.refused k) next = endsWith (some k)
-afterCall (rules.resolved es c) next = before (record { edits = es; made = c .made }) (next c)
+afterCall (rules.resolved es c n) next = before (record { edits = es; made = c .made; position = n }) (next c)
 
 -- 8: bytes left over
 abbrev pub leftOver : List ℕ → Answers

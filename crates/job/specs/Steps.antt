@@ -40,8 +40,8 @@ HeaderAt s (got h rest) r t f =
 -- a patch resolved: its edits' words stand at the front of the list, and the cache is that of the rules; a refusal leaves list and cache
 abbrev pub CallAt : (f : List ℕ) → Answer → (next : ℕ) → Step → (list list′ cache cache′ : List ℕ) → Type 0
 CallAt f (rules.refused k) next r list list′ cache cache′ = (r ≡ Refused k) × (list′ ≡ list) × (cache′ ≡ cache)
-CallAt f (rules.resolved es c) next r list list′ cache cache′ =
-    (r ≡ Edits (length es) next) × (list′ ≡ map wordOf es ++ drop (length es) list) × AllInRange es × (cacheOf cache′ ≡ c) × CacheOk f cache′
+CallAt f (rules.resolved es c n) next r list list′ cache cache′ =
+    (r ≡ Edits (length es) n next) × (list′ ≡ map wordOf es ++ drop (length es) list) × AllInRange es × (cacheOf cache′ ≡ c) × CacheOk f cache′
 
 -- a patch read and resolved
 abbrev pub StepAt : (t f s : List ℕ) → Read Patch → Step → (list list′ cache cache′ : List ℕ) → Type 0

@@ -61,10 +61,10 @@ twoBanks more =
     ∷ 4 ∷ 0 ∷ 1 ∷ 1 ∷ 0 ∷ 1 ∷ 0 ∷ 0 ∷ 0 ∷ 1 ∷ 0 ∷ 1 ∷ 0 ∷ 1 ∷ 1 ∷ 1 ∷ 1 ∷ 1 ∷ 1 ∷ 1 ∷ 0 ∷ 1 ∷ 1 ∷ 1 ∷ 1 ∷ 1 ∷ 0 ∷ 1 ∷ more
 
 pub record Trials : Type 0 where
-  -- "M s0 r1 1", "M r1 r0 0", "M r0 s0 1"; made 1
+  -- "M s0 r1 1", "M r1 r0 0", "M r0 s0 1"; made 1; nothing of the order of three would do
   pub swap-full :
       job swapFull
-      ≡ before (record { edits = Move (slot 0) (reg 1) 1 ∷ Move (reg 1) (reg 0) 0 ∷ Move (reg 0) (slot 0) 1 ∷ []; made = 1 }) (endsWith none)
+      ≡ before (record { edits = Move (slot 0) (reg 1) 1 ∷ Move (reg 1) (reg 0) 0 ∷ Move (reg 0) (slot 0) 1 ∷ []; made = 1; position = 3 }) (endsWith none)
   -- the length, units, banks, a bank, registers, classes; 4 to 7; values, N, L, two values; the patch count; free units, entries; the call; 8
   pub in-order :
       numbers swapFull

@@ -32,9 +32,9 @@ ghost use Rattle.parallel_moves.specs.Given.{CacheOk};
 ghost use Rattle.job.specs.Job.{withFunction, beginning, opening};
 ghost use Rattle.job.specs.Steps.{BegunAt, HeaderAt, CallAt, StepAt};
 
-// How many edits a patch has and where the next one stands, or 01's number.
+// How many edits a patch has, the greatest position that it met and where the next one stands, or 01's number.
 pub enum Step {
-    Edits(usize, usize),
+    Edits(usize, u16, usize),
     Refused(u8),
 }
 
@@ -115,7 +115,7 @@ fn resolve_before(
         c,
     ) {
         Resolved::Refused(k) => Step::Refused(k),
-        Resolved::Edits(n) => Step::Edits(n, next),
+        Resolved::Edits(n, met) => Step::Edits(n, met, next),
     }
 }
 

@@ -91,7 +91,7 @@ module _ (t f s cache out : List ℕ) (p : Progress) (e : p .ended ≡ false) wh
     ended-less r x = rw (e, x .over) (omega arith)
 
     -- a patch answered, and its lines put
-    module _ (list : List ℕ) (len : length list ≡ 1024) (list′ cache′ : List ℕ) (count next : ℕ) (some : 0 < p .left) (g : Resolved t f s (p .at) list len cache list′ cache′ count next) where
+    module _ (list : List ℕ) (len : length list ≡ 1024) (list′ cache′ : List ℕ) (count met next : ℕ) (some : 0 < p .left) (g : Resolved t f s (p .at) list len cache list′ cache′ count met next) where
       to-come : toCome t f s cache p ≡ patchText (p .k) (g .done .edits) (g .done .made) ++ textFrom (p .k + 1) (rest t f s next cache′ (p .left - 1))
       to-come = some-left some ∙ ap (textFrom (p .k)) (g .goes-on (p .left - 1)) ∙ one-more (p .k) (g .done) (rest t f s next cache′ (p .left - 1))
 

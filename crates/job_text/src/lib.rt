@@ -167,7 +167,7 @@ pub fn next(
         c,
     ) {
         Step::Refused(number) => refuse(p, out, number),
-        Step::Edits(count, next) => {
+        Step::Edits(count, _, next) => {
             let made = wide(slots::made(cache));
             let n = p.held;
             let k = p.k;

@@ -19,7 +19,7 @@ use Rattle.function.specs.Function.{Function, numValues, valueBank, rematClass,
 use Rattle.function.specs.Refused as function
 use Rattle.function.proofs.Laws.{bank-there, class-there}
 use Rattle.rules.specs.Edit.{Edit, Rematerialize, andThen, each, find, filter}
-use Rattle.rules.specs.Scratch.{Cache, Evicted, ScratchAllocator, push, withEvicted, Found, unevict, unevictAll, overlapsEvicted, unevictForReg, acquire, releasePlace, usable, slotScratch, evictLast, reuse, orScratch, getScratchReg, nothingBarred, moveEdits, doMove}
+use Rattle.rules.specs.Scratch.{Cache, Evicted, ScratchAllocator, push, withEvicted, Found, unevict, unevictAll, overlapsEvicted, unevictForReg, acquire, releasePlace, usable, slotScratch, evictLast, reuse, orScratch, getScratchReg, nothingBarred, moveEdits, doMove, meeting, searchedTo}
 use Rattle.rules.specs.Order.{KeptMove, noMove, Remat, State, New, Pending, Done, isNew, isPending, Diverted, ParallelMoves, withState, carry, doRemat, remats, rematWithScratch, source, dest, value, bank, writers, cycleMoveSources, emit, noted, divert, carried, lead, lost, undivert, undivertAll, close, visit, visitUnlessMemory, start, moves}
 use Rattle.rules.specs.Patch.{Patch, Sorted, sorted, bound, run}
 use Rattle.rules.specs.Sorted.{MoveOk, RematOk, noRemat, SortedOk, Ran}
@@ -91,27 +91,27 @@ module _ (t : RegInfo) (f : Function) where
   Searched c m x = (owed (x .scratch) ≤ m) ⊎ ((owed (x .scratch) ≤ m + 2) × (x .place ≡ reg (lastInOrder t c)) × (includesSpillslots t c ≡ false))
 
   module _ (b c m : ℕ) where
-    slot-owed : (k : ScratchAllocator) → owed k ≤ m → All (Searched c m) (slotScratch t f b k)
+    slot-owed : (n : ℕ) (k : ScratchAllocator) → owed k ≤ m → All (Searched c m) (slotScratch t f n b k)
     unfolding slotScratch
-    slot-owed k h = all-after (Searched c m) (acquire t f (spillslotSize t b) (k .cache)) _ (λ a. inl h)
+    slot-owed n k h = all-after (Searched c m) (acquire t f (spillslotSize t b) (k .cache)) _ (λ a. inl h)
 
-    evict-owed : (k : ScratchAllocator) → owed k ≤ m → includesSpillslots t c ≡ false → All (Searched c m) (evictLast t f b c k)
+    evict-owed : (n : ℕ) (k : ScratchAllocator) → owed k ≤ m → includesSpillslots t c ≡ false → All (Searched c m) (evictLast t f n b c k)
     unfolding evictLast
-    evict-owed k h s = all-after (Searched c m) (acquire t f (spillslotSize t b) (k .cache)) _ (λ a. inr (omega arith, refl, s))
+    evict-owed n k h s = all-after (Searched c m) (acquire t f (spillslotSize t b) (k .cache)) _ (λ a. inr (omega arith, refl, s))
 
-    reuse-owed : (l : List Evicted) (k : ScratchAllocator) → owed k ≤ m → includesSpillslots t c ≡ false → All (Searched c m) (reuse t f l b c k)
+    reuse-owed : (l : List Evicted) (n : ℕ) (k : ScratchAllocator) → owed k ≤ m → includesSpillslots t c ≡ false → All (Searched c m) (reuse t f l n b c k)
     unfolding reuse
-    reuse-owed [] k h s = evict-owed (unevictAll t f k) (omega (arith, all-owed k)) s
-    reuse-owed (e ∷ l) k h s = branch (All (Searched c m)) (has (e .reg) (classMembers t c)) _ _ (λ _. inl h) (λ _. reuse-owed l k h s)
+    reuse-owed [] n k h s = evict-owed n (unevictAll t f k) (omega (arith, all-owed k)) s
+    reuse-owed (e ∷ l) n k h s = branch (All (Searched c m)) (has (e .reg) (classMembers t c)) _ _ (λ _. inl h) (λ _. reuse-owed l n k h s)
 
-    found-owed : (o : Option ℕ) (k : ScratchAllocator) → owed k ≤ m → All (Searched c m) (orScratch t f o b c k)
+    found-owed : (o : Option ℕ) (n : ℕ) (k : ScratchAllocator) → owed k ≤ m → All (Searched c m) (orScratch t f o n b c k)
     unfolding orScratch
-    found-owed (some r) k h = inl h
-    found-owed none k h = branch (All (Searched c m)) (includesSpillslots t c) _ _ (λ _. slot-owed k h) (λ s. reuse-owed (k .evicted) k h s)
+    found-owed (some r) n k h = inl h
+    found-owed none n k h = branch (All (Searched c m)) (includesSpillslots t c) _ _ (λ _. slot-owed n k h) (λ s. reuse-owed (k .evicted) n k h s)
 
     search-owed : (barred : ℕ → Bool) (k : ScratchAllocator) → owed k ≤ m → All (Searched c m) (getScratchReg t f b c barred k)
     unfolding getScratchReg
-    search-owed barred k h = found-owed (find (usable t f barred k) (allocationOrder t c)) k h
+    search-owed barred k h = found-owed (find (usable t f barred k) (allocationOrder t c)) (searchedTo t f c barred k) (meeting (searchedTo t f c barred k) k) h
 
     -- a class with slots evicts nothing
     slots-owed : includesSpillslots t c ≡ true → (barred : ℕ → Bool) (k : ScratchAllocator) → owed k ≤ m → All (λ x. owed (x .scratch) ≤ m) (getScratchReg t f b c barred k)
@@ -337,7 +337,7 @@ module _ (t : RegInfo) (f : Function) where
         (λ k h. all-map (λ k′. length (k′ .edits) ≤ owed k + 8 * length (a .moves)) (λ k′. length (k′ .edits) ≤ bound a) (moves t f (a .moves) k) (λ k′ q. omega arith) (moves-few (a .moves) (ok .moves) k))
       where
         k₀ : ScratchAllocator
-        k₀ = record { edits = []; available = λ u. has u (p .free); evicted = []; cache = c }
+        k₀ = record { edits = []; available = λ u. has u (p .free); evicted = []; cache = c; met = 0 }
 
 -- "the edits number at most 8 × kept moves + 5 × rebuilds with scratch + other rebuilds"
 pub bound-ok :

@@ -347,8 +347,8 @@ module _ (t : RegInfo) (f : Function) (ta : target.Accepted t) (fa : function.Ac
   -- one call: its answer is right, and the cache that it leaves is one to go on with
   called : (x : Call) (c : Cache) → CacheOk t f c → (r : Answer) → resolve t f (x .patch) (x .room) c ≡ r → Answered t f (x .patch) r × CacheOk t f (cacheAfter c r)
   called x c co (refused n) e = (tt, co)
-  called x c co (resolved es c′) e =
-      let ran = accepted t f (x .patch) (x .room) c c′ es e in (
+  called x c co (resolved es c′ n) e =
+      let ran = accepted t f (x .patch) (x .room) c c′ es n e in (
         record { right = λ content whole. right content whole (x .patch) (x .room) c c′ es ran co; few = bound-ok t f ta fa (x .patch) (x .room) c c′ es ran },
         rw (ran .cache) (done zeros zeros-whole (x .patch) (x .room) c c′ es ran co .cache-ok),
       )

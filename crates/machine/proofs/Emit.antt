@@ -35,7 +35,7 @@ module _ (t : RegInfo) (F : Function) (tk : TargetOk t) where
     K = Kept t F tk j em
 
     -- another list of edits
-    pub room-edits : (needs : Needs) (k : ScratchAllocator) (es : List Edit) → Room t F tk j em needs k → Room t F tk j em needs (record { edits = es; available = k .available; evicted = k .evicted; cache = k .cache })
+    pub room-edits : (needs : Needs) (k : ScratchAllocator) (es : List Edit) → Room t F tk j em needs k → Room t F tk j em needs (record { edits = es; available = k .available; evicted = k .evicted; cache = k .cache; met = k .met })
     room-edits needs k es h = record { few = h .few; inside = h .inside; spare = h .spare; cache-ok = h .cache-ok; waits = h .waits; empty = h .empty }
 
     -- a move asked for: what is needed after it is given is needed before

@@ -28,7 +28,7 @@ use Rattle.machine.proofs.Demand.{demand-3}
 module _ (t : RegInfo) (f : Function) (p : Patch) where
   given : (r : Answer) (es : List Edit) (made : ℕ) (stack : List ℕ) → Gives r es made stack → Answered t f p r → Accepted t f p es
   given (refused n) es made stack g h = absurd g
-  given (resolved es′ c) es made stack g h = rw (g .0) at h
+  given (resolved es′ c n) es made stack g h = rw (g .0) at h
 
 swap-fits : function.Accepted three (plain 0 1)
 unfolding three indices valueBank rematCost rematClass function.countsFit function.valueFits function.foreignClass function.valuesRefusal function.functionRefusal

@@ -15,9 +15,9 @@ use Rattle.entity.specs.Place.{Place, reg, slot}
 use Rattle.reginfo.specs.RegInfo.{RegInfo, regUnits, classMembers, allocationOrder, includesSpillslots, lastInOrder, spillslotSize, isMemoryReg, isMemory, placeUnits}
 use Rattle.function.specs.Function.{Function}
 use Rattle.rules.specs.Edit.{EmergencyReload, find, filter}
-use Rattle.rules.specs.Scratch.{Cache, Evicted, ScratchAllocator, Found, Acquired, withEvicted, withCache, push, acquire, release, unitsOfReg, unevict, unevictAll, overlapsEvicted, unevictForReg, usable, slotScratch, evictLast, reuse, orScratch, getScratchReg}
+use Rattle.rules.specs.Scratch.{Cache, Evicted, ScratchAllocator, Found, Acquired, withEvicted, withCache, push, acquire, release, unitsOfReg, unevict, unevictAll, overlapsEvicted, unevictForReg, usable, slotScratch, evictLast, reuse, orScratch, getScratchReg, meeting, searchedTo}
 use Rattle.machine.specs.Machine.{fits}
-use Rattle.rules.proofs.Steps.{All, all-then}
+use Rattle.rules.proofs.Steps.{All, all-then, all-map}
 use Rattle.machine.proofs.Tests.{hasIn, has-cons, all-has, find-all, or-split, or-l, and-split, if}
 use Rattle.machine.proofs.Memory.{TargetOk, covers, Apart}
 use Rattle.machine.proofs.Run.{Wait, idle, saved, Job}
@@ -225,9 +225,9 @@ module _ (t : RegInfo) (F : Function) (tk : TargetOk t) where
       reg-aside idle r = tt
       reg-aside (saved x s) r = tk .low r s
 
-      found-free : (k : ScratchAllocator) → Kept needs k → (r : ℕ) → T (usable t F bar k r) → T (hasIn (allocationOrder t c) r) → FoundOk k (record { place = reg r; scratch = k })
+      found-free : (m : ℕ) (k : ScratchAllocator) → Kept needs k → (r : ℕ) → T (usable t F bar k r) → T (hasIn (allocationOrder t c) r) → FoundOk k (record { place = reg r; position = m; scratch = k })
       unfolding covers
-      found-free k h r us o =
+      found-free m k h r us o =
           record {
             kept = h;
             len = ck .len r (ck .ordered r o);
@@ -247,9 +247,9 @@ module _ (t : RegInfo) (F : Function) (tk : TargetOk t) where
       unfolding covers under
       under-own r s u c = c
 
-      found-evict : (k₀ : ScratchAllocator) → T (not (includesSpillslots t c)) → Kept needs k₀ → All (FoundOk k₀) (evictLast t F b c (unevictAll t F k₀))
+      found-evict : (m : ℕ) (k₀ : ScratchAllocator) → T (not (includesSpillslots t c)) → Kept needs k₀ → All (FoundOk k₀) (evictLast t F m b c (unevictAll t F k₀))
       unfolding evictLast
-      found-evict k₀ ns h₀ =
+      found-evict m k₀ ns h₀ =
           all-then (Taken t F (k .cache)) (FoundOk k₀) (acquire t F (spillslotSize t b) (k .cache)) _ (take-ok t F (spillslotSize t b) (k .cache) (h .room .cache-ok)) next
         where
           bk : Back needs k₀ (unevictAll t F k₀)
@@ -271,6 +271,7 @@ module _ (t : RegInfo) (F : Function) (tk : TargetOk t) where
               → FoundOk k₀
               (record {
                 place = reg (lastInOrder t c);
+                position = m;
                 scratch = withEvicted (record { reg = lastInOrder t c; slot = x .slot; size = spillslotSize t b } ∷ k .evicted) (push (EmergencyReload (lastInOrder t c) (x .slot)) (withCache (x .cache) k));
               })
           next x ta =
@@ -302,12 +303,12 @@ module _ (t : RegInfo) (F : Function) (tk : TargetOk t) where
               loose s (inl e) = ta .isnt s e .0
               loose s (inr e) = subst (λ (y : ℕ). Loose t F (k .cache) y) (sym e) (ta .was)
 
-      found-slot : (k : ScratchAllocator) → Kept needs k → T (includesSpillslots t c) → All (FoundOk k) (slotScratch t F b k)
+      found-slot : (m : ℕ) (k : ScratchAllocator) → Kept needs k → T (includesSpillslots t c) → All (FoundOk k) (slotScratch t F m b k)
       unfolding slotScratch fits covers
-      found-slot k h sl =
+      found-slot m k h sl =
           all-then (Taken t F (k .cache)) (FoundOk k) (acquire t F (spillslotSize t b) (k .cache)) _ (take-ok t F (spillslotSize t b) (k .cache) (h .room .cache-ok)) next
         where
-          next : (x : Acquired) → Taken t F (k .cache) x → FoundOk k (record { place = slot (x .slot); scratch = withCache (x .cache) k })
+          next : (x : Acquired) → Taken t F (k .cache) x → FoundOk k (record { place = slot (x .slot); position = m; scratch = withCache (x .cache) k })
           next x ta =
               record {
                 kept =
@@ -358,38 +359,54 @@ module _ (t : RegInfo) (F : Function) (tk : TargetOk t) where
               aside idle o = tt
               aside (saved r s) o = not-T (eqb (512 + s) (512 + x .slot)) (λ e. other (saved r s) o (sym (add-left-cancel 512 (eqb→eq (512 + s) (512 + x .slot) e))))
 
-      found-held : (k : ScratchAllocator) → Kept needs k → T (not (includesSpillslots t c)) → (es : List Evicted) → k .evicted ≡ es → All (FoundOk k) (reuse t F es b c k)
+      found-held : (m : ℕ) (k : ScratchAllocator) → Kept needs k → T (not (includesSpillslots t c)) → (es : List Evicted) → k .evicted ≡ es → All (FoundOk k) (reuse t F es m b c k)
       unfolding reuse
-      found-held k h ns [] e = found-evict k ns h
-      found-held k h ns (x ∷ []) e =
-          if (All (FoundOk k)) (hasIn (classMembers t c) (x .reg)) (some (record { place = reg (x .reg); scratch = k })) (evictLast t F b c (unevictAll t F k)) (λ m. same m) (λ _. found-evict k ns h)
+      found-held m k h ns [] e = found-evict m k ns h
+      found-held m k h ns (x ∷ []) e =
+          if (All (FoundOk k)) (hasIn (classMembers t c) (x .reg)) (some (record { place = reg (x .reg); position = m; scratch = k })) (evictLast t F m b c (unevictAll t F k)) (λ i. same i) (λ _. found-evict m k ns h)
         where
-          same : T (hasIn (classMembers t c) (x .reg)) → FoundOk k (record { place = reg (x .reg); scratch = k })
-          same m =
+          same : T (hasIn (classMembers t c) (x .reg)) → FoundOk k (record { place = reg (x .reg); position = m; scratch = k })
+          same i =
               let sv : Saved (k .cache) (x .reg) (x .slot) = subst (λ (y : List Evicted). WaitOk (k .cache) (waitOf y)) e (h .room .waits) in
               record {
                 kept = h;
-                len = ck .len (x .reg) m;
+                len = ck .len (x .reg) i;
                 aside = reg-aside (wait k) (x .reg);
                 clean = λ u d. inr (ns, subst (λ (y : List Evicted). T (under t F tk (waitOf y) u)) (sym e) (under-own (x .reg) (x .slot) u d), sv .plain);
-                kind = inl (x .reg, refl, m);
+                kind = inl (x .reg, refl, i);
                 avails = λ u h. h;
                 still = λ q a b. a;
                 fewer = λ y i. i;
                 plain = λ _ pl. sv .plain;
               }
-      found-held k h ns (x ∷ y ∷ l) e = absurd (two (subst (λ (z : List Evicted). length z ≤ 1) e (h .room .few)))
+      found-held m k h ns (x ∷ y ∷ l) e = absurd (two (subst (λ (z : List Evicted). length z ≤ 1) e (h .room .few)))
         where
           two : suc (suc (length l)) ≤ 1 → ⊥
           two q = omega arith
 
       pub search-ok : (k : ScratchAllocator) → Kept needs k → All (FoundOk k) (getScratchReg t F b c bar k)
       unfolding getScratchReg orScratch
-      search-ok k h = go (find (usable t F bar k) (allocationOrder t c)) (find-all (usable t F bar k) (allocationOrder t c))
+      search-ok k h = all-map (FoundOk k₁) (FoundOk k) (getScratchReg t F b c bar k) unmet (go (find (usable t F bar k) (allocationOrder t c)) (find-all (usable t F bar k) (allocationOrder t c)))
         where
-          go : (o : Option ℕ) → All (λ r. T (usable t F bar k r) × T (hasIn (allocationOrder t c) r)) o → All (FoundOk k) (orScratch t F o b c k)
-          go (some r) a = found-free k h r (a .0) (a .1)
-          go none a = if (All (FoundOk k)) (includesSpillslots t c) (slotScratch t F b k) (reuse t F (k .evicted) b c k) (found-slot k h) (λ ns. found-held k h ns (k .evicted) refl)
+          m : ℕ
+          m = searchedTo t F c bar k
+
+          -- k with the position met
+          k₁ : ScratchAllocator
+          k₁ = meeting m k
+
+          h₁ : Kept needs k₁
+          h₁ =
+              let r = h .room in
+              record { sound = h .sound; room = record { few = r .few; inside = r .inside; spare = r .spare; cache-ok = r .cache-ok; waits = r .waits; empty = r .empty } }
+
+          go : (o : Option ℕ) → All (λ r. T (usable t F bar k r) × T (hasIn (allocationOrder t c) r)) o → All (FoundOk k₁) (orScratch t F o m b c k₁)
+          go (some r) a = found-free m k₁ h₁ r (a .0) (a .1)
+          go none a = if (All (FoundOk k₁)) (includesSpillslots t c) (slotScratch t F m b k₁) (reuse t F (k .evicted) m b c k₁) (found-slot m k₁ h₁) (λ ns. found-held m k₁ h₁ ns (k .evicted) refl)
+
+          unmet : (x : Found) → FoundOk k₁ x → FoundOk k x
+          unmet x f =
+              record { kept = f .kept; len = f .len; aside = f .aside; clean = f .clean; kind = f .kind; avails = f .avails; still = f .still; fewer = f .fewer; plain = f .plain }
 
     pub clear-of : (w : Wait) (p : Place) → ApartW w p → ((s : ℕ) → WaitsIn w s → Apart t F tk p (slot s)) → Clear t F tk w p
     clear-of idle p a f = tt

@@ -19,7 +19,7 @@ use Rattle.function.specs.Function.{Function, numValues, valueBank, rematClass}
 use Rattle.function.specs.Refused as function
 use Rattle.function.proofs.Laws.{bank-there, class-of-bank}
 use Rattle.rules.specs.Edit.{Edit, Rematerialize, updated, andThen, each, find, filter}
-use Rattle.rules.specs.Scratch.{Cache, emptyCache, Evicted, ScratchAllocator, Acquired, push, withEvicted, Found, unevict, unevictAll, overlapsEvicted, unevictForReg, acquireFrom, acquire, release, releasePlace, usable, slotScratch, evictLast, reuse, orScratch, getScratchReg, nothingBarred, moveEdits, doMove}
+use Rattle.rules.specs.Scratch.{Cache, emptyCache, Evicted, ScratchAllocator, Acquired, push, withEvicted, Found, unevict, unevictAll, overlapsEvicted, unevictForReg, acquireFrom, acquire, release, releasePlace, usable, slotScratch, evictLast, reuse, orScratch, getScratchReg, nothingBarred, moveEdits, doMove, meeting, searchedTo}
 use Rattle.rules.specs.Order.{KeptMove, noMove, Remat, State, Pending, Done, isNew, isPending, Diverted, ParallelMoves, withState, carry, remats, doRemat, rematWithScratch, source, dest, value, bank, writers, cycleMoveSources, emit, noted, divert, carried, lead, lost, undivert, undivertAll, close, visit, visitUnlessMemory, start, moves}
 use Rattle.rules.specs.Patch.{Patch, Sorted, sorted, run, Answer, refused, resolved, resolve, Call, cacheAfter}
 use Rattle.rules.specs.Sorted.{MoveOk, RematOk, noRemat, SortedOk, Ran}
@@ -242,37 +242,37 @@ module _ (t : RegInfo) (f : Function) (c₀ : Cache) where
     plain : includesSpillslots t c ≡ false → (s z : ℕ) → holds (x .place) (spillslotSize t b) s z ≡ 0
 
   module _ (b c : ℕ) (extra : Count) where
-    reg-found : (r : ℕ) (k : ScratchAllocator) → Kept extra k → Search b c extra (record { place = reg r; scratch = k })
+    reg-found : (r n : ℕ) (k : ScratchAllocator) → Kept extra k → Search b c extra (record { place = reg r; position = n; scratch = k })
     unfolding Kept holds
-    reg-found r k g = record { good = kept-cong extra (λ s z. 0 + extra s z) k (λ s z. omega arith) g; plain = λ _ s z. refl }
+    reg-found r n k g = record { good = kept-cong extra (λ s z. 0 + extra s z) k (λ s z. omega arith) g; plain = λ _ s z. refl }
 
-    slot-good : (k : ScratchAllocator) → includesSpillslots t c ≡ true → Kept extra k → All (Search b c extra) (slotScratch t f b k)
+    slot-good : (n : ℕ) (k : ScratchAllocator) → includesSpillslots t c ≡ true → Kept extra k → All (Search b c extra) (slotScratch t f n b k)
     unfolding slotScratch Kept holds Taken
-    slot-good k i g =
+    slot-good n k i g =
         all-then (Taken (spillslotSize t b) (λ s z. waits (k .evicted) s z + extra s z)) (Search b c extra) (acquire t f (spillslotSize t b) (k .cache)) _
         (acquire-good (spillslotSize t b) (k .cache) (λ s z. waits (k .evicted) s z + extra s z) g)
         (λ a q. record { good = good-cong _ _ (a .cache .made) (λ s z. omega arith) q; plain = λ e. absurd (false≢true (sym e ∙ i)) })
 
-    evict-good : (k : ScratchAllocator) → Kept extra k → All (Search b c extra) (evictLast t f b c k)
+    evict-good : (n : ℕ) (k : ScratchAllocator) → Kept extra k → All (Search b c extra) (evictLast t f n b c k)
     unfolding evictLast Kept holds Taken waits
-    evict-good k g =
+    evict-good n k g =
         all-then (Taken (spillslotSize t b) (λ s z. waits (k .evicted) s z + extra s z)) (Search b c extra) (acquire t f (spillslotSize t b) (k .cache)) _
         (acquire-good (spillslotSize t b) (k .cache) (λ s z. waits (k .evicted) s z + extra s z) g)
         (λ a q. record { good = good-cong _ _ (a .cache .made) (λ s z. omega arith) q; plain = λ _ s z. refl })
 
-    reuse-good : (l : List Evicted) (k : ScratchAllocator) → Kept extra k → All (Search b c extra) (reuse t f l b c k)
+    reuse-good : (l : List Evicted) (n : ℕ) (k : ScratchAllocator) → Kept extra k → All (Search b c extra) (reuse t f l n b c k)
     unfolding reuse
-    reuse-good [] k g = evict-good (unevictAll t f k) (all-good k extra g)
-    reuse-good (e ∷ l) k g = branch (All (Search b c extra)) (has (e .reg) (classMembers t c)) _ _ (λ _. reg-found (e .reg) k g) (λ _. reuse-good l k g)
+    reuse-good [] n k g = evict-good n (unevictAll t f k) (all-good k extra g)
+    reuse-good (e ∷ l) n k g = branch (All (Search b c extra)) (has (e .reg) (classMembers t c)) _ _ (λ _. reg-found (e .reg) n k g) (λ _. reuse-good l n k g)
 
-    found-good : (o : Option ℕ) (k : ScratchAllocator) → Kept extra k → All (Search b c extra) (orScratch t f o b c k)
+    found-good : (o : Option ℕ) (n : ℕ) (k : ScratchAllocator) → Kept extra k → All (Search b c extra) (orScratch t f o n b c k)
     unfolding orScratch
-    found-good (some r) k g = reg-found r k g
-    found-good none k g = branch (All (Search b c extra)) (includesSpillslots t c) _ _ (λ i. slot-good k i g) (λ _. reuse-good (k .evicted) k g)
+    found-good (some r) n k g = reg-found r n k g
+    found-good none n k g = branch (All (Search b c extra)) (includesSpillslots t c) _ _ (λ i. slot-good n k i g) (λ _. reuse-good (k .evicted) n k g)
 
     search-good : (barred : ℕ → Bool) (k : ScratchAllocator) → Kept extra k → All (Search b c extra) (getScratchReg t f b c barred k)
-    unfolding getScratchReg
-    search-good barred k g = found-good (find (usable t f barred k) (allocationOrder t c)) k g
+    unfolding getScratchReg Kept
+    search-good barred k g = found-good (find (usable t f barred k) (allocationOrder t c)) (searchedTo t f c barred k) (meeting (searchedTo t f c barred k) k) g
 
   remats-good : (l : List Remat) (k : ScratchAllocator) (extra : Count) → Kept extra k → Kept extra (remats t f l k)
   unfolding remats Kept
@@ -562,7 +562,7 @@ module _ (t : RegInfo) (f : Function) (c₀ : Cache) where
         (λ k g. moves-good (a .moves) (ok .moves) k g)
       where
         k₀ : ScratchAllocator
-        k₀ = record { edits = []; available = λ u. has u (p .free); evicted = []; cache = c₀ }
+        k₀ = record { edits = []; available = λ u. has u (p .free); evicted = []; cache = c₀; met = 0 }
 
         begin : Good (λ s z. stacked c₀ s z + (waits [] s z + 0)) (c₀ .made)
         begin = record { grows = omega arith; old = λ s z h. omega arith; fresh = λ s h k. absurd (omega arith); none = λ s z h. omega (arith, occurs-none s (c₀ .stacks z) (never-true (has s (c₀ .stacks z)) (λ e. omega (arith, ins .below s z e)))) }
@@ -669,7 +669,7 @@ slots-lie t f at af calls = claim calls emptyCache (slots-empty f)
   where
     called : (x : Call) (c : Cache) (r : Answer) → resolve t f (x .patch) (x .room) c ≡ r → InStacks f c → InStacks f (cacheAfter c r) × Stays c (cacheAfter c r)
     called x c (refused n) e ins = (ins, λ s z h. h)
-    called x c (resolved es c′) e ins = slots-ok t f at af (x .patch) (x .room) c c′ es (accepted t f (x .patch) (x .room) c c′ es e) ins
+    called x c (resolved es c′ n) e ins = slots-ok t f at af (x .patch) (x .room) c c′ es (accepted t f (x .patch) (x .room) c c′ es n e) ins
 
     claim : (calls : List Call) (c : Cache) → InStacks f c → SlotsClaim t f calls c
     claim [] c ins = ins

@@ -119,7 +119,7 @@ module _ (t : RegInfo) (F : Function) (tk : TargetOk t) (j : Job) (em : (s : ℕ
       pub cache-ok : CacheOk t F (k .cache)
 
     abbrev begin : Cache → ScratchAllocator
-    begin c = record { edits = []; available = λ u. has u free; evicted = []; cache = c }
+    begin c = record { edits = []; available = λ u. has u free; evicted = []; cache = c; met = 0 }
 
     pub whole-ok : (c : Cache) → CacheOk t F c → PatchStart → All Done (andThen (each (rematWithScratch t F) ss (remats t F ps (begin c))) (moves t F ms))
     whole-ok c co st =

@@ -85,7 +85,7 @@ module _ (t : RegInfo) (f : Function) where
 
   abbrev pub Answered : Patch → Answer → Type 0
   Answered p (refused n) = Unit {0}
-  Answered p (resolved es c) = Accepted p es
+  Answered p (resolved es c n) = Accepted p es
 
   -- call by call, each with the cache that the last one returned or left
   abbrev pub Claim : List Call → Cache → Type 0

@@ -31,12 +31,12 @@ module _ (t f : List ℕ) where
 
   pub outcome : (x : Made) (cache : List ℕ) (c : Cache) (r : Answer) → ruled t f x c ≡ r → Gave x cache r → rules.Answered (regInfoOf t) (functionOf f) (x .patch) r → Outcome t f x cache c
   outcome x cache c (refused n) e g a = turned n e (g .0) (g .1) (g .2)
-  outcome x cache c (resolved es c′) e g a = taken es c′ e (g .0) (g .1) (g .2) (g .3) (g .4) (g .5) a
+  outcome x cache c (resolved es c′ n) e g a = taken es c′ n e (g .0) (g .1) (g .2) (g .3) (g .4) (g .5) (g .6) a
 
   -- the cache that the next call gets
   pub next : (x : Made) (cache : List ℕ) (c : Cache) (r : Answer) → cacheOf cache ≡ c → CacheOk f cache → Gave x cache r → (cacheOf (x .cache) ≡ cacheAfter c r) × CacheOk f (x .cache)
   next x cache c (refused n) e ok g = (ap cacheOf (g .2) ∙ e, subst (CacheOk f) (sym (g .2)) ok)
-  next x cache c (resolved es c′) e ok g = (g .4, g .5)
+  next x cache c (resolved es c′ n) e ok g = (g .4, g .5)
 
   claims : (calls : List Made) (cache : List ℕ) (c : Cache) → cacheOf cache ≡ c → CacheOk f cache → Called t f calls cache → rules.Claim (regInfoOf t) (functionOf f) (map call calls) c → Claim t f calls cache c
   claims [] cache c e ok h g = tt

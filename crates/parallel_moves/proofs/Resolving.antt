@@ -27,7 +27,7 @@ use Rattle.machine.proofs.Bound.{run-few}
 use Rattle.machine.proofs.Slots.{slots-empty, run-stacks, stack-few}
 use Rattle.edit.specs.Buffer.{countOf, wordsOf, editsOf}
 use Rattle.edit.proofs.Laws.{length-edits, all-in-range}
-use Rattle.slots.specs.Stacks.{cacheOf}
+use Rattle.slots.specs.Stacks.{cacheOf, metOf}
 use Rattle.slots.specs.Steps.{Cleared, Committed}
 use Rattle.scratch.specs.declared.ScratchAllocator.{ScratchAllocator}
 use Rattle.scratch.specs.State.{T, F, cacheIn}
@@ -50,8 +50,8 @@ module _ (f cache list : List ℕ) (k : ScratchAllocator) (edits slots : List �
   pub too-many : limit < made → HandedOver f cache list k edits slots (R.the-variants.Refused 17) list cache
   too-many h = record { over = λ _. (refl, refl, refl); within = λ q. absurd (omega arith) }
 
-  pub handed : (n : ℕ) (list′ cache′ : List ℕ) → made ≤ limit → (n ≡ countOf edits) × (list′ ≡ wordsOf edits ++ drop (countOf edits) list) → Committed slots cache cache′ (k .made) → HandedOver f cache list k edits slots (R.the-variants.Edits n) list′ cache′
-  handed n list′ cache′ h out done = record { over = λ q. absurd (omega arith); within = λ _. (refl, out .0, out .1, done) }
+  pub handed : (n m : ℕ) (list′ cache′ : List ℕ) → made ≤ limit → (n ≡ countOf edits) × (list′ ≡ wordsOf edits ++ drop (countOf edits) list) → Committed slots cache cache′ (k .made) → m ≡ metOf slots → HandedOver f cache list k edits slots (R.the-variants.Edits n m) list′ cache′
+  handed n m list′ cache′ h out done e = record { over = λ q. absurd (omega arith); within = λ _. (refl, out .0, out .1, done, e) }
 
 same-sorted : (t f e w : List ℕ) → Checked t f → EntriesOk t f e w → SortedOk (T t) (F f) (sortedOf e)
 same-sorted t f e w known ok =
@@ -121,7 +121,7 @@ module _ (t f cache e w list : List ℕ) (known : Checked t f) (ok : EntriesOk t
           let len : length (editsOf (x .edits)) ≡ countOf (x .edits) = length-edits (x .edits) in
           let is : cacheOf cache′ ≡ cacheIn k (x .slots) cache = o .3 .is in
           rw (← passed p q, limited p q .same (inl h))
-          (o .0, o .1 ∙ sym len, rw (← ran .fits .written, len) (o .2), all-in-range (x .edits), is, record { fits = o .3 .fits; stacks = rw is (in-stacks h); made = rw is h })
+          (o .0, o .1 ∙ sym len, rw (← ran .fits .written, len) (o .2), all-in-range (x .edits), is, record { fits = o .3 .fits; stacks = rw is (in-stacks h); made = rw is h }, o .4)
 
       pub gives : Gives f (answered p) r list list′ cache cache′
       gives = go (ltb (functionOf f .limit) (k .made)) refl

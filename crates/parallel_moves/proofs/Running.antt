@@ -94,10 +94,10 @@ module _ (t f cache e w : List ℕ) (known : Checked t f) (ok : EntriesOk t f e 
             refit (8 * length (movesOf e))
             (let q : owed (k₁ .evicted) ≡ 0 = rw (direct .kept) in omega (arith, rebuilt .few, direct .count, nil, few-places)) (rebuilt .fits)
 
-        begin-is : (p : Patch) → ((u : ℕ) → has u (p .free) ≡ setOf free u) → stateOf t f cache k₀ (tables edits free slots) ≡ record { edits = []; available = λ u. has u (p .free); evicted = []; cache = cacheOf cache }
+        begin-is : (p : Patch) → ((u : ℕ) → has u (p .free) ≡ setOf free u) → stateOf t f cache k₀ (tables edits free slots) ≡ record { edits = []; available = λ u. has u (p .free); evicted = []; cache = cacheOf cache; met = 0 }
         begin-is p q =
             let a : setOf free ≡ (λ u. has u (p .free)) = fun-ext (λ u. sym (q u)) in
-            rw (none, begun .stacks, is, a)
+            rw (none, begun .stacks, is, a, begun .met)
 
         pub ran : (k₃ : ScratchAllocator) (x₃ : Tables) → Moves t f cache e k₂ x₂ k₃ x₃ → Ran t f cache e free k₃ x₃
         unfolding run andThen sortedOf

@@ -19,20 +19,26 @@ use Rattle.parallel_moves.specs.Given.{Numbered, CacheOk}
 
 -- 01's number, if refused
 abbrev pub numberOf : Resolved → Option ℕ
-numberOf (R.the-variants.Edits n) = none
+numberOf (R.the-variants.Edits n m) = none
 numberOf (R.the-variants.Refused n) = some n
 
 -- how many edits were handed out
 abbrev pub editsIn : Resolved → ℕ
-editsIn (R.the-variants.Edits n) = n
+editsIn (R.the-variants.Edits n m) = n
 editsIn (R.the-variants.Refused n) = 0
 
+-- 02 d: "the greatest position it met"
+abbrev pub positionIn : Resolved → ℕ
+positionIn (R.the-variants.Edits n m) = m
+positionIn (R.the-variants.Refused n) = 0
+
 -- "a refused call returns the number and no edits; the list and the cache stay as at that call"; else the words of the edits stand at the
--- list's front, each the word of one edit only, "Words past the edits are the caller's own, unaltered", and the cache is that of the rules
+-- list's front, each the word of one edit only, "Words past the edits are the caller's own, unaltered", and the cache and the position are
+-- those of the rules
 abbrev pub Gives : List ℕ → Answer → Resolved → List ℕ → List ℕ → List ℕ → List ℕ → Type 0
 Gives f (refused n) r list list′ cache cache′ = (numberOf r ≡ some n) × (list′ ≡ list) × (cache′ ≡ cache)
-Gives f (resolved es c) r list list′ cache cache′ =
-    (numberOf r ≡ none) × (editsIn r ≡ length es) × (list′ ≡ map wordOf es ++ drop (length es) list) × AllInRange es × (cacheOf cache′ ≡ c) × CacheOk f cache′
+Gives f (resolved es c n) r list list′ cache cache′ =
+    (numberOf r ≡ none) × (editsIn r ≡ length es) × (list′ ≡ map wordOf es ++ drop (length es) list) × AllInRange es × (cacheOf cache′ ≡ c) × CacheOk f cache′ × (positionIn r ≡ n)
 
 -- of free units and of entries that became what the table e holds: the rules' answer to every patch with these free units, once its entries
 -- became that

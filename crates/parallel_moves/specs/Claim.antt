@@ -17,7 +17,7 @@ use Rattle.slots.specs.Stacks.{cacheOf}
 use Rattle.slots.specs.Steps.{Cleared}
 use Rattle.parallel_moves.specs.declared.Resolved.{Resolved}
 use Rattle.parallel_moves.specs.Given.{Numbered, Built, CacheOk}
-use Rattle.parallel_moves.specs.Answers.{numberOf, editsIn, Resolves, ResolvesPatch}
+use Rattle.parallel_moves.specs.Answers.{numberOf, editsIn, positionIn, Resolves, ResolvesPatch}
 
 -- a call that was made: the patch and the list that it was given beside the cache, and what it answered and left
 pub record Made : Type 0 where
@@ -48,8 +48,8 @@ module _ (t f : List ℕ) where
   -- the cache
   pub data Outcome (x : Made) (cache : List ℕ) (c : Cache) : Type 0 where
     turned : (n : ℕ) → ruled x c ≡ refused n → numberOf (x .answer) ≡ some n → x .after ≡ x .list → x .cache ≡ cache → Outcome x cache c
-    taken : (es : List Edit) (c′ : Cache) → ruled x c ≡ resolved es c′ → numberOf (x .answer) ≡ none → editsIn (x .answer) ≡ length es → x .after ≡ map wordOf es ++ drop (length es) (x .list) → AllInRange es
-        → cacheOf (x .cache) ≡ c′ → CacheOk f (x .cache) → Accepted (regInfoOf t) (functionOf f) (x .patch) es → Outcome x cache c
+    taken : (es : List Edit) (c′ : Cache) (n : ℕ) → ruled x c ≡ resolved es c′ n → numberOf (x .answer) ≡ none → editsIn (x .answer) ≡ length es → x .after ≡ map wordOf es ++ drop (length es) (x .list) → AllInRange es
+        → cacheOf (x .cache) ≡ c′ → CacheOk f (x .cache) → positionIn (x .answer) ≡ n → Accepted (regInfoOf t) (functionOf f) (x .patch) es → Outcome x cache c
 
   -- call by call, from the cache c of the rules
   abbrev pub Claim : List Made → List ℕ → Cache → Type 0

@@ -12,7 +12,7 @@ use Rattle.small_set.specs.Set.{setOf}
 use Rattle.rules.specs.Patch.{Entry, Patch, sortedFrom, run}
 use Rattle.rules.specs.Refusals.{entriesConditions}
 use Rattle.edit.specs.Buffer.{countOf, wordsOf}
-use Rattle.slots.specs.Stacks.{cacheOf, stacksOf, SlotsFit, Untouched}
+use Rattle.slots.specs.Stacks.{cacheOf, metOf, stacksOf, SlotsFit, Untouched}
 use Rattle.slots.specs.Steps.{Committed}
 use Rattle.scratch.specs.declared.ScratchAllocator.{ScratchAllocator}
 use Rattle.scratch.specs.State.{T, F}
@@ -20,7 +20,7 @@ use Rattle.scratch.specs.Contracts.{Tables, stateOf, FitsIn}
 use Rattle.entries.specs.Table.{sortedOf}
 use Rattle.entries.specs.Known.{EntriesOk}
 use Rattle.parallel_moves.specs.declared.Resolved.{Resolved}
-use Rattle.parallel_moves.specs.Answers.{numberOf, editsIn}
+use Rattle.parallel_moves.specs.Answers.{numberOf, editsIn, positionIn}
 
 -- the run of a patch, with a limit that is never met
 pub record Ran (t f cache e : List ℕ) (free : List Bool) (k : ScratchAllocator) (w : Tables) : Type 0 where
@@ -38,7 +38,7 @@ pub record CanHandOver (f cache list : List ℕ) (k : ScratchAllocator) (edits s
 pub record HandedOver (f cache list : List ℕ) (k : ScratchAllocator) (edits slots : List ℕ) (r : Resolved) (list′ cache′ : List ℕ) : Type 0 where
   pub over : functionOf f .limit < k .made → (numberOf r ≡ some 17) × (list′ ≡ list) × (cache′ ≡ cache)
   pub within : k .made ≤ functionOf f .limit
-      → (numberOf r ≡ none) × (editsIn r ≡ countOf edits) × (list′ ≡ wordsOf edits ++ drop (countOf edits) list) × Committed slots cache cache′ (k .made)
+      → (numberOf r ≡ none) × (editsIn r ≡ countOf edits) × (list′ ≡ wordsOf edits ++ drop (countOf edits) list) × Committed slots cache cache′ (k .made) × (positionIn r ≡ metOf slots)
 
 -- entries added one after the other: the number of the first that is refused; where none is, the table holds what they became
 pub record AllAdded (t f e e′ w′ : List ℕ) (l : List Entry) (r : Option ℕ) : Type 0 where

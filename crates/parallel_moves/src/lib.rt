@@ -29,9 +29,9 @@ ghost use Rattle.parallel_moves.specs.Given.{entryOf, entriesOf, CacheOk
 ghost use Rattle.parallel_moves.specs.Answers.{Resolves, ResolvesPatch};
 ghost use Rattle.parallel_moves.specs.Steps.{Ran, CanHandOver, HandedOver, AllAdded};
 
-// How many edits were handed out, or 01's number.
+// How many edits were handed out and the greatest position met, or 01's number.
 pub enum Resolved {
-    Edits(usize),
+    Edits(usize, u16),
     Refused(u8),
 }
 
@@ -187,7 +187,7 @@ fn hand_over(
     }
     let n = edit::hand_out(edits, list);
     slots::commit(slots, cache, made);
-    Resolved::Edits(n)
+    Resolved::Edits(n, slots::met(slots))
 }
 
 // The entry that stands at `at`.

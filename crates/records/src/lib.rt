@@ -96,7 +96,7 @@ pub fn put_text(job: &[u8], out: &mut [u8]) -> usize
     let mut available = [false; 512];
     let mut sources = [false; 512];
     let mut edits = [0u64; 1025];
-    let mut slots = [0u16; 32834];
+    let mut slots = [0u16; 32835];
     let mut d = [0u16; 12288];
     let mut marks = [0u8; 129];
     let mut c = [0u16; 2049];

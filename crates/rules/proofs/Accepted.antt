@@ -48,14 +48,14 @@ map-snoc g [] x = refl
 map-snoc g (y ∷ l) x = ap (g y ∷_) (map-snoc g l x)
 
 -- what an answer that is no refusal came from
-not-refused : (o : Option ℕ) (r : Answer) (es : List Edit) (c : Cache) → unlessRefused o r ≡ resolved es c → (o ≡ none) × (r ≡ resolved es c)
-not-refused none r es c e = (refl, e)
-not-refused (some n) r es c e = let z : _≡_ {A = ℕ} 0 1 = cc in absurd (omega arith)
+not-refused : (o : Option ℕ) (r : Answer) (es : List Edit) (c : Cache) (m : ℕ) → unlessRefused o r ≡ resolved es c m → (o ≡ none) × (r ≡ resolved es c m)
+not-refused none r es c m e = (refl, e)
+not-refused (some n) r es c m e = let z : _≡_ {A = ℕ} 0 1 = cc in absurd (omega arith)
 
-answered : (o : Option ScratchAllocator) (es : List Edit) (c : Cache) → answerOf o ≡ resolved es c
+answered : (o : Option ScratchAllocator) (es : List Edit) (c : Cache) (m : ℕ) → answerOf o ≡ resolved es c m
     → (k : ScratchAllocator) × (o ≡ some k) × (es ≡ k .edits) × (c ≡ k .cache)
-answered none es c e = let z : _≡_ {A = ℕ} 0 1 = cc in absurd (omega arith)
-answered (some k) es c e = (k, refl, cc, cc)
+answered none es c m e = let z : _≡_ {A = ℕ} 0 1 = cc in absurd (omega arith)
+answered (some k) es c m e = (k, refl, cc, cc)
 
 pub same-self : (p : Place) → samePlace p p ≡ true
 same-self (reg r) = eq-eqb r r refl
@@ -254,22 +254,22 @@ module _ (t : RegInfo) (f : Function) where
   sorted-add e a ok h =
       good-ok (add t f e a) (good-add e a record { moves = ok .moves; remats = ok .remats; rematsWithScratch = ok .rematsWithScratch; apart = at-apart (destinations a) (ok .apart); sources = ok .sources } h)
 
-  good-from : (p : Patch) (room : ℕ) (c c′ : Cache) (es : List Edit) (l : List Entry) (a : Sorted) → Good a → resolveFrom t f p room c l a ≡ resolved es c′
-      → Good (sortedFrom t f l a) × (resolveSorted t f p room c (sortedFrom t f l a) ≡ resolved es c′)
+  good-from : (p : Patch) (room : ℕ) (c c′ : Cache) (es : List Edit) (m : ℕ) (l : List Entry) (a : Sorted) → Good a → resolveFrom t f p room c l a ≡ resolved es c′ m
+      → Good (sortedFrom t f l a) × (resolveSorted t f p room c (sortedFrom t f l a) ≡ resolved es c′ m)
   unfolding sortedFrom resolveFrom
-  good-from p room c c′ es [] a g h = (g, h)
-  good-from p room c c′ es (e ∷ l) a g h =
-      let q = not-refused (firstOf (entryConditions t f a e)) (resolveFrom t f p room c l (add t f e a)) es c′ h in
-      good-from p room c c′ es l (add t f e a) (good-add e a g (q .0)) (q .1)
+  good-from p room c c′ es m [] a g h = (g, h)
+  good-from p room c c′ es m (e ∷ l) a g h =
+      let q = not-refused (firstOf (entryConditions t f a e)) (resolveFrom t f p room c l (add t f e a)) es c′ m h in
+      good-from p room c c′ es m l (add t f e a) (good-add e a g (q .0)) (q .1)
 
-  pub accepted : (p : Patch) (room : ℕ) (c c′ : Cache) (es : List Edit) → resolve t f p room c ≡ resolved es c′ → Ran t f p room c es c′
+  pub accepted : (p : Patch) (room : ℕ) (c c′ : Cache) (es : List Edit) (m : ℕ) → resolve t f p room c ≡ resolved es c′ m → Ran t f p room c es c′
   unfolding resolve resolveSorted patchConditions destinations
-  accepted p room c c′ es h =
+  accepted p room c c′ es m h =
       let a = sorted t f p in
-      let g = good-from p room c c′ es (p .entries) nothingSorted
+      let g = good-from p room c c′ es m (p .entries) nothingSorted
       record { moves = λ i l. absurd (omega arith); remats = λ i l. absurd (omega arith); rematsWithScratch = λ i l. absurd (omega arith); apart = tt; sources = λ i k l q. absurd (omega arith) } h in
-      let q = not-refused (firstOf (patchConditions t f p room a)) (answerOf (run t f p a c)) es c′ (g .1) in
-      let k = answered (run t f p a c) es c′ (q .1) in
+      let q = not-refused (firstOf (patchConditions t f p room a)) (answerOf (run t f p a c)) es c′ m (g .1) in
+      let k = answered (run t f p a c) es c′ m (q .1) in
       record {
         ok = good-ok a (g .0);
         free = first-none _ (q .0) 0 (omega arith);

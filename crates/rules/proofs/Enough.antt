@@ -13,7 +13,7 @@ use Rattle.entity.specs.Place.{Place}
 use Rattle.reginfo.specs.RegInfo.{RegInfo, includesSpillslots, classMembers, allocationOrder, stackToStackClass, topLevelClass, isMemory}
 use Rattle.function.specs.Function.{Function, valueBank, rematClass}
 use Rattle.rules.specs.Edit.{andThen, each, find}
-use Rattle.rules.specs.Scratch.{Cache, ScratchAllocator, Evicted, acquireFrom, unevict, unevictAll, unevictForReg, usable, slotScratch, evictLast, reuse, orScratch, getScratchReg, nothingBarred, moveEdits, doMove}
+use Rattle.rules.specs.Scratch.{Cache, ScratchAllocator, Evicted, acquireFrom, unevict, unevictAll, unevictForReg, usable, meeting, searchedTo, slotScratch, evictLast, reuse, orScratch, getScratchReg, nothingBarred, moveEdits, doMove}
 use Rattle.rules.specs.Order.{KeptMove, Remat, ParallelMoves, remats, rematWithScratch, source, dest, value, writerFrom, writersOf, writers, cycleMoveSources, emit, noted, divert, carried, lead, lost, undivert, undivertAll, close, visit, visitUnlessMemory, start, moves, withState, Pending, Done, isNew, isPending}
 use Rattle.rules.specs.Counts.{news}
 use Rattle.rules.specs.Patch.{Patch, Sorted, run}
@@ -70,27 +70,27 @@ module _ (t : RegInfo) (f : Function) where
   acquire-ends z c (s ∷ xs) = stay _
   acquire-ends z c [] = record { from = c .made + 1; end = record { slot = f .slots + c .made; cache = record { stacks = c .stacks; made = c .made + 1 } }; is = λ l h. rw (lt-ltb (c .made) l (omega arith)) }
 
-  slot-ends : (b : ℕ) (k : ScratchAllocator) → Ends (λ l. slotScratch t (F l) b k)
+  slot-ends : (n b : ℕ) (k : ScratchAllocator) → Ends (λ l. slotScratch t (F l) n b k)
   unfolding slotScratch
-  slot-ends b k = bind _ _ (acquire-ends _ (k .cache) _) (λ a. stay _)
+  slot-ends n b k = bind _ _ (acquire-ends _ (k .cache) _) (λ a. stay _)
 
-  evict-ends : (b c : ℕ) (k : ScratchAllocator) → Ends (λ l. evictLast t (F l) b c k)
+  evict-ends : (n b c : ℕ) (k : ScratchAllocator) → Ends (λ l. evictLast t (F l) n b c k)
   unfolding evictLast
-  evict-ends b c k = bind _ _ (acquire-ends _ (k .cache) _) (λ a. stay _)
+  evict-ends n b c k = bind _ _ (acquire-ends _ (k .cache) _) (λ a. stay _)
 
-  reuse-ends : (es : List Evicted) (b c : ℕ) (k : ScratchAllocator) → Ends (λ l. reuse t (F l) es b c k)
+  reuse-ends : (es : List Evicted) (n b c : ℕ) (k : ScratchAllocator) → Ends (λ l. reuse t (F l) es n b c k)
   unfolding reuse unevict
-  reuse-ends [] b c k = evict-ends b c (unevictAll t f k)
-  reuse-ends (e ∷ es) b c k = choose (has (e .reg) (classMembers t c)) _ _ (λ _. stay _) (λ _. reuse-ends es b c k)
+  reuse-ends [] n b c k = evict-ends n b c (unevictAll t f k)
+  reuse-ends (e ∷ es) n b c k = choose (has (e .reg) (classMembers t c)) _ _ (λ _. stay _) (λ _. reuse-ends es n b c k)
 
-  or-ends : (o : Option ℕ) (b c : ℕ) (k : ScratchAllocator) → Ends (λ l. orScratch t (F l) o b c k)
+  or-ends : (o : Option ℕ) (n b c : ℕ) (k : ScratchAllocator) → Ends (λ l. orScratch t (F l) o n b c k)
   unfolding orScratch
-  or-ends (some r) b c k = stay _
-  or-ends none b c k = choose (includesSpillslots t c) _ _ (λ _. slot-ends b k) (λ _. reuse-ends (k .evicted) b c k)
+  or-ends (some r) n b c k = stay _
+  or-ends none n b c k = choose (includesSpillslots t c) _ _ (λ _. slot-ends n b k) (λ _. reuse-ends (k .evicted) n b c k)
 
   search-ends : (b c : ℕ) (barred : ℕ → Bool) (k : ScratchAllocator) → Ends (λ l. getScratchReg t (F l) b c barred k)
   unfolding getScratchReg
-  search-ends b c barred k = or-ends (find (usable t f barred k) (allocationOrder t c)) b c k
+  search-ends b c barred k = or-ends (find (usable t f barred k) (allocationOrder t c)) (searchedTo t f c barred k) b c (meeting (searchedTo t f c barred k) k)
 
   edits-ends : (b : ℕ) (to from : Place) (v : ℕ) (k : ScratchAllocator) → Ends (λ l. moveEdits t (F l) b to from v k)
   unfolding moveEdits
@@ -174,7 +174,7 @@ module _ (t : RegInfo) (f : Function) where
   run-ends p a c =
       bind _ _
       (each-ends (λ k. Unit {0}) (λ r. Unit {0}) (λ l. rematWithScratch t (F l)) (λ r k _ _. remat-ends r k) (λ r k _ _ l. any-result (rematWithScratch t (F l) r k)) (a .rematsWithScratch)
-      (all-there (a .rematsWithScratch)) (remats t f (a .remats) (record { edits = []; available = λ u. has u (p .free); evicted = []; cache = c })) tt)
+      (all-there (a .rematsWithScratch)) (remats t f (a .remats) (record { edits = []; available = λ u. has u (p .free); evicted = []; cache = c; met = 0 })) tt)
       (moves-ends (a .moves))
     where
       all-there : (l : List Remat) → Every (λ r. Unit {0}) l

@@ -2,6 +2,7 @@ pub mod Steps
 pub mod Sum
 pub mod News
 pub mod Writers
+pub mod Position
 pub mod Fuel
 pub mod Trials
 pub mod Accepted

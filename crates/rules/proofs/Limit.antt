@@ -14,7 +14,7 @@ use Rattle.entity.specs.Place.{Place, reg, slot}
 use Rattle.reginfo.specs.RegInfo.{RegInfo, includesSpillslots, classMembers, allocationOrder, stackToStackClass, topLevelClass, isMemory}
 use Rattle.function.specs.Function.{Function, valueBank, rematClass}
 use Rattle.rules.specs.Edit.{andThen, each, find}
-use Rattle.rules.specs.Scratch.{Cache, ScratchAllocator, Evicted, Found, Acquired, acquireFrom, unevict, unevictAll, unevictForReg, usable, slotScratch, evictLast, reuse, orScratch, getScratchReg, nothingBarred, moveEdits, doMove, releasePlace, withEvicted}
+use Rattle.rules.specs.Scratch.{Cache, ScratchAllocator, Evicted, Found, Acquired, acquireFrom, unevict, unevictAll, unevictForReg, usable, meeting, searchedTo, slotScratch, evictLast, reuse, orScratch, getScratchReg, nothingBarred, moveEdits, doMove, releasePlace, withEvicted}
 use Rattle.rules.specs.Order.{KeptMove, Remat, ParallelMoves, doRemat, remats, rematWithScratch, source, dest, value, writerFrom, writersOf, writers, cycleMoveSources, emit, noted, divert, carried, lead, lost, undivert, undivertAll, close, visit, visitUnlessMemory, start, moves, withState, Pending, Done, isNew, isPending}
 use Rattle.rules.specs.Patch.{Patch, Sorted, run}
 use Rattle.rules.specs.Refusals.{withLimit, ByLimit}
@@ -117,27 +117,27 @@ module _ (t : RegInfo) (f : Function) (l : ℕ) where
   release-made z (reg r) k = refl
   release-made z (slot s) k = refl
 
-  slot-same : (b : ℕ) (k : ScratchAllocator) → Same ofFound (ofKeeper k) (slotScratch t f b k) (slotScratch t f′ b k)
+  slot-same : (n b : ℕ) (k : ScratchAllocator) → Same ofFound (ofKeeper k) (slotScratch t f n b k) (slotScratch t f′ n b k)
   unfolding slotScratch
-  slot-same b k = bind ofCache ofFound (ofKeeper k) _ _ _ _ (acquire-same _ (k .cache) _) (λ a. stay ofFound (ofCache a) _ refl)
+  slot-same n b k = bind ofCache ofFound (ofKeeper k) _ _ _ _ (acquire-same _ (k .cache) _) (λ a. stay ofFound (ofCache a) _ refl)
 
-  evict-same : (b c : ℕ) (k : ScratchAllocator) → Same ofFound (ofKeeper k) (evictLast t f b c k) (evictLast t f′ b c k)
+  evict-same : (n b c : ℕ) (k : ScratchAllocator) → Same ofFound (ofKeeper k) (evictLast t f n b c k) (evictLast t f′ n b c k)
   unfolding evictLast
-  evict-same b c k = bind ofCache ofFound (ofKeeper k) _ _ _ _ (acquire-same _ (k .cache) _) (λ a. stay ofFound (ofCache a) _ refl)
+  evict-same n b c k = bind ofCache ofFound (ofKeeper k) _ _ _ _ (acquire-same _ (k .cache) _) (λ a. stay ofFound (ofCache a) _ refl)
 
-  reuse-same : (es : List Evicted) (b c : ℕ) (k : ScratchAllocator) → Same ofFound (ofKeeper k) (reuse t f es b c k) (reuse t f′ es b c k)
+  reuse-same : (es : List Evicted) (n b c : ℕ) (k : ScratchAllocator) → Same ofFound (ofKeeper k) (reuse t f es n b c k) (reuse t f′ es n b c k)
   unfolding reuse unevict
-  reuse-same [] b c k = from ofFound (ofKeeper (unevictAll t f k)) (ofKeeper k) _ _ (unevict-made (k .evicted) (withEvicted [] k)) (evict-same b c (unevictAll t f k))
-  reuse-same (e ∷ es) b c k = choose ofFound (ofKeeper k) (has (e .reg) (classMembers t c)) _ _ _ _ (stay ofFound (ofKeeper k) _ refl) (reuse-same es b c k)
+  reuse-same [] n b c k = from ofFound (ofKeeper (unevictAll t f k)) (ofKeeper k) _ _ (unevict-made (k .evicted) (withEvicted [] k)) (evict-same n b c (unevictAll t f k))
+  reuse-same (e ∷ es) n b c k = choose ofFound (ofKeeper k) (has (e .reg) (classMembers t c)) _ _ _ _ (stay ofFound (ofKeeper k) _ refl) (reuse-same es n b c k)
 
-  or-same : (o : Option ℕ) (b c : ℕ) (k : ScratchAllocator) → Same ofFound (ofKeeper k) (orScratch t f o b c k) (orScratch t f′ o b c k)
+  or-same : (o : Option ℕ) (n b c : ℕ) (k : ScratchAllocator) → Same ofFound (ofKeeper k) (orScratch t f o n b c k) (orScratch t f′ o n b c k)
   unfolding orScratch
-  or-same (some r) b c k = stay ofFound (ofKeeper k) _ refl
-  or-same none b c k = choose ofFound (ofKeeper k) (includesSpillslots t c) _ _ _ _ (slot-same b k) (reuse-same (k .evicted) b c k)
+  or-same (some r) n b c k = stay ofFound (ofKeeper k) _ refl
+  or-same none n b c k = choose ofFound (ofKeeper k) (includesSpillslots t c) _ _ _ _ (slot-same n b k) (reuse-same (k .evicted) n b c k)
 
   search-same : (b c : ℕ) (barred : ℕ → Bool) (k : ScratchAllocator) → Same ofFound (ofKeeper k) (getScratchReg t f b c barred k) (getScratchReg t f′ b c barred k)
   unfolding getScratchReg
-  search-same b c barred k = or-same (find (usable t f barred k) (allocationOrder t c)) b c k
+  search-same b c barred k = or-same (find (usable t f barred k) (allocationOrder t c)) (searchedTo t f c barred k) b c (meeting (searchedTo t f c barred k) k)
 
   edits-same : (b : ℕ) (to from : Place) (v : ℕ) (k : ScratchAllocator) → Same ofKeeper (ofKeeper k) (moveEdits t f b to from v k) (moveEdits t f′ b to from v k)
   unfolding moveEdits
@@ -226,7 +226,7 @@ module _ (t : RegInfo) (f : Function) (l : ℕ) where
   run-same : (p : Patch) (a : Sorted) (c : Cache) → Same ofKeeper (c .made) (run t f p a c) (run t f′ p a c)
   unfolding run remats
   run-same p a c =
-      let k : ScratchAllocator = record { edits = []; available = λ u. has u (p .free); evicted = []; cache = c } in
+      let k : ScratchAllocator = record { edits = []; available = λ u. has u (p .free); evicted = []; cache = c; met = 0 } in
       bind ofKeeper ofKeeper (c .made) _ _ _ _
       (from ofKeeper (ofKeeper (remats t f (a .remats) k)) (c .made) _ _ (remats-made (a .remats) k) (each-same ofKeeper (rematWithScratch t f) (rematWithScratch t f′) remat-same (a .rematsWithScratch) (remats t f (a .remats) k)))
       (moves-same (a .moves))

@@ -50,13 +50,13 @@ refused-some (some m) r n h e = cc
 refused-some none none n h e = let z : _≡_ {A = Bool} true false = h refl in let z : _≡_ {A = ℕ} 0 1 = cc in absurd (omega arith)
 refused-some none (some k) n h e = let z : _≡_ {A = ℕ} 0 1 = cc in absurd (omega arith)
 
-resolved-none : (o : Option ℕ) (r : Answer) (es : List Edit) (c : Cache) → unlessRefused o r ≡ resolved es c → o ≡ none
-resolved-none (some m) r es c e = let z : _≡_ {A = ℕ} 0 1 = cc in absurd (omega arith)
-resolved-none none r es c e = refl
+resolved-none : (o : Option ℕ) (r : Answer) (es : List Edit) (c : Cache) (n : ℕ) → unlessRefused o r ≡ resolved es c n → o ≡ none
+resolved-none (some m) r es c n e = let z : _≡_ {A = ℕ} 0 1 = cc in absurd (omega arith)
+resolved-none none r es c n e = refl
 
-none-resolved : (r : Option ScratchAllocator) → ranOut r ≡ false → (es : List Edit) × (c : Cache) × (answerOf r ≡ resolved es c)
+none-resolved : (r : Option ScratchAllocator) → ranOut r ≡ false → (es : List Edit) × (c : Cache) × (n : ℕ) × (answerOf r ≡ resolved es c n)
 none-resolved none h = let z : _≡_ {A = ℕ} 0 1 = cc in absurd (omega arith)
-none-resolved (some k) h = (k .edits, k .cache, refl)
+none-resolved (some k) h = (k .edits, k .cache, k .met, refl)
 
 not-made : (b : Bool) (x : Acquired) → pick b (some x) none ≡ none → b ≡ false
 not-made true x e = let z : _≡_ {A = ℕ} 0 1 = cc in absurd (omega arith)
@@ -89,11 +89,11 @@ module _ (t : RegInfo) (f : Function) where
     unfolding callConditions ending ran
     not-out e = first-none ending (first-behind (patchConditions t f p room (sorted t f p)) ending (first-behind (entriesConditions t f (p .entries) nothingSorted) _ e)) 0 (omega arith)
 
-    taken-if : NoneHolds (callConditions t f p room c) → (es : List Edit) × (c′ : Cache) × (resolve t f p room c ≡ resolved es c′)
+    taken-if : NoneHolds (callConditions t f p room c) → (es : List Edit) × (c′ : Cache) × (m : ℕ) × (resolve t f p room c ≡ resolved es c′ m)
     taken-if h =
         let e = none-first (callConditions t f p room c) h in
         let w = none-resolved ran (not-out e) in
-        (w .0, w .1, by-first ∙ ap (λ (o : Option ℕ). unlessRefused o (answerOf ran)) e ∙ w .2)
+        (w .0, w .1, w .2, by-first ∙ ap (λ (o : Option ℕ). unlessRefused o (answerOf ran)) e ∙ w .3)
 
     pub refusals : Refusals t f p room c
     refusals =
@@ -102,7 +102,7 @@ module _ (t : RegInfo) (f : Function) where
             λ e. first-given (callConditions t f p room c) n (refused-some _ ran n not-out (sym by-first ∙ e)),
             λ g. by-first ∙ ap (λ (o : Option ℕ). unlessRefused o (answerOf ran)) (given-first (callConditions t f p room c) n g),
           );
-          taken = (λ w. first-none (callConditions t f p room c) (resolved-none _ (answerOf ran) (w .0) (w .1) (sym by-first ∙ w .2)), taken-if);
+          taken = (λ w. first-none (callConditions t f p room c) (resolved-none _ (answerOf ran) (w .0) (w .1) (w .2) (sym by-first ∙ w .3)), taken-if);
           cache-stays = λ n e. ap (cacheAfter c) e;
         }
 

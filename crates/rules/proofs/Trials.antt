@@ -4,14 +4,14 @@ use Rattle.entity.specs.Logic.{any, all, has, meets, twice, lastOr, indices}
 use Rattle.reginfo.specs.RegInfo.{spillslotSize, topLevelClass, stackToStackClass, regMemory, bankForReg, regUnits, bankForClass, classSlots, classMembers, allocationOrder}
 use Rattle.reginfo.specs.Refused.{orderTotal, countsFit, bankFits, regFits, classFits, outsideLimits, listedTwice, unequalWidths, foreignMember, sharedMemory, unfitClass, firstOf, targetRefusal}
 use Rattle.function.specs.Function.{valueBank, rematCost, rematClass}
-use Rattle.rules.specs.Edit.{updated, andThen, each, find, filter}
+use Rattle.rules.specs.Edit.{updated, andThen, each, find, firstAt, filter}
 use Rattle.rules.specs.Scratch.{acquireFrom, unevict, unevictForReg, slotScratch, evictLast, reuse, orScratch, getScratchReg, moveEdits, doMove}
 use Rattle.rules.specs.Order.{carryOne, carry, remats, rematWithScratch, writerFrom, writersOf, writers, cycleMoveSources, divert, lead, undivert, undivertAll, close, visit, visitUnlessMemory, start, moves}
 use Rattle.rules.specs.Patch.{destinations, add, entryConditions, patchConditions, run, resolveSorted, resolveFrom, resolve}
-use Rattle.rules.specs.Trials.{three, chained, five, six, halves, between, sizes, slotsAlone, memory, eight, doubled, Trials, ToldApart, Overlaps, Sources, ArgumentWords}
+use Rattle.rules.specs.Trials.{three, chained, five, six, halves, between, sizes, slotsAlone, memory, eight, doubled, ordered, Trials, ToldApart, Overlaps, Sources, ArgumentWords, Positions}
 
-all-trials : Trials × ToldApart × Overlaps × Sources × ArgumentWords
-unfolding any all has meets lastOr indices spillslotSize topLevelClass stackToStackClass regMemory bankForReg regUnits bankForClass classSlots classMembers allocationOrder firstOf valueBank rematCost rematClass updated andThen each find filter acquireFrom unevict unevictForReg slotScratch evictLast reuse orScratch getScratchReg moveEdits doMove carryOne carry remats rematWithScratch writerFrom writersOf writers cycleMoveSources divert lead undivert undivertAll close visit visitUnlessMemory start moves destinations add entryConditions patchConditions run resolveSorted resolveFrom resolve three chained five six halves between sizes slotsAlone memory eight doubled orderTotal countsFit bankFits regFits classFits outsideLimits listedTwice unequalWidths foreignMember sharedMemory unfitClass targetRefusal twice
+all-trials : Trials × ToldApart × Overlaps × Sources × ArgumentWords × Positions
+unfolding any all has meets lastOr indices spillslotSize topLevelClass stackToStackClass regMemory bankForReg regUnits bankForClass classSlots classMembers allocationOrder firstOf valueBank rematCost rematClass updated andThen each find firstAt filter acquireFrom unevict unevictForReg slotScratch evictLast reuse orScratch getScratchReg moveEdits doMove carryOne carry remats rematWithScratch writerFrom writersOf writers cycleMoveSources divert lead undivert undivertAll close visit visitUnlessMemory start moves destinations add entryConditions patchConditions run resolveSorted resolveFrom resolve three chained five six halves between sizes slotsAlone memory eight ordered orderTotal countsFit bankFits regFits classFits outsideLimits listedTwice unequalWidths foreignMember sharedMemory unfitClass targetRefusal twice doubled
 all-trials = (
   record {
     swap-full = (refl, refl, refl);
@@ -80,6 +80,17 @@ all-trials = (
     words-swapped = (refl, refl, refl);
     word-stored = (refl, refl, refl);
   },
+  record {
+    target = refl;
+    of-a-slot = refl;
+    of-the-third = refl;
+    of-the-first = refl;
+    without = refl;
+    greatest = refl;
+    taken-again = refl;
+    newly-evicted = refl;
+    of-the-second-scratch = refl;
+  },
 )
 
 pub trials : Trials
@@ -96,3 +107,6 @@ sources = all-trials .3
 
 pub argument-words : ArgumentWords
 argument-words = all-trials .4
+
+pub positions : Positions
+positions = all-trials .5

@@ -1,5 +1,5 @@
 -- Edits, and the few operations that the rules are written with.
-use Prim.Native.Nat.{ℕ}
+use Prim.Native.Nat.{ℕ, suc}
 use mathlib.Core.Bool.{Bool}
 use mathlib.Core.List.{List, [], _∷_}
 use mathlib.Core.Option.{Option, none, some}
@@ -32,6 +32,11 @@ each step (x ∷ l) a = andThen (step x a) (each step l)
 unfoldable pub find : (ℕ → Bool) → List ℕ → Option ℕ
 find p [] = none
 find p (x ∷ l) = pick (p x) (some x) (find p l)
+
+-- 02 d: where it stands, "counted from 0", or the list's length where none passes
+unfoldable pub firstAt : (ℕ → Bool) → List ℕ → ℕ
+firstAt p [] = 0
+firstAt p (x ∷ l) = pick (p x) 0 (suc (firstAt p l))
 
 unfoldable pub filter : {A : Type 0} → (A → Bool) → List A → List A
 filter p [] = []

@@ -3,6 +3,7 @@ pub mod Scratch
 pub mod Order
 pub mod Counts
 pub mod Depth
+pub mod Position
 pub mod Patch
 pub mod Sorted
 pub mod Trials

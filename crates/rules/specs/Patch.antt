@@ -41,14 +41,14 @@ destinations a = map (λ (m : KeptMove). m .dest) (a .moves) ++ (map (λ (r : Re
 abbrev pub bound : Sorted → ℕ
 bound a = 8 * length (a .moves) + (5 * length (a .rematsWithScratch) + length (a .remats))
 
--- a call's answer: a number, or the edits and the cache left
+-- a call's answer: a number, or the edits, the cache left and the greatest position met
 pub data Answer : Type 0 where
   refused : ℕ → Answer
-  resolved : List Edit → Cache → Answer
+  resolved : List Edit → Cache → ℕ → Answer
 
 abbrev pub answerOf : Option ScratchAllocator → Answer
 answerOf none = refused 17
-answerOf (some k) = resolved (k .edits) (k .cache)
+answerOf (some k) = resolved (k .edits) (k .cache) (k .met)
 
 abbrev pub unlessRefused : Option ℕ → Answer → Answer
 unlessRefused (some n) r = refused n
@@ -61,7 +61,7 @@ pub record Call : Type 0 where
 
 abbrev pub cacheAfter : Cache → Answer → Cache
 cacheAfter c (refused n) = c
-cacheAfter c (resolved es c′) = c′
+cacheAfter c (resolved es c′ n) = c′
 
 -- 02 h, 21: "has a source that overlaps an unequal source of an earlier kept move"
 abbrev pub overlapsSource : RegInfo → Sorted → Place → Bool
@@ -154,7 +154,7 @@ module _ (t : RegInfo) (f : Function) where
   -- "rebuilds without scratch, then those with, then two passes over the kept moves"; every unit that is free is available
   unfoldable pub run : Patch → Sorted → Cache → Option ScratchAllocator
   run p a c =
-      andThen (each (rematWithScratch t f) (a .rematsWithScratch) (remats t f (a .remats) (record { edits = []; available = λ u. has u (p .free); evicted = []; cache = c })))
+      andThen (each (rematWithScratch t f) (a .rematsWithScratch) (remats t f (a .remats) (record { edits = []; available = λ u. has u (p .free); evicted = []; cache = c; met = 0 })))
       (moves t f (a .moves))
 
   unfoldable pub resolveSorted : Patch → ℕ → Cache → Sorted → Answer

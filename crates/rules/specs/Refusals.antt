@@ -32,7 +32,7 @@ module _ (t : RegInfo) (f : Function) where
     -- refused with n: n's condition holds and none earlier does
     pub given : (n : ℕ) → (resolve t f p room c ≡ refused n) ↔ Given (callConditions p room c) n
     -- not refused: no condition holds
-    pub taken : ((es : List Edit) × (c′ : Cache) × (resolve t f p room c ≡ resolved es c′)) ↔ NoneHolds (callConditions p room c)
+    pub taken : ((es : List Edit) × (c′ : Cache) × (m : ℕ) × (resolve t f p room c ≡ resolved es c′ m)) ↔ NoneHolds (callConditions p room c)
     -- "a refused call returns the number and no edits; the list and the cache stay as at that call"
     pub cache-stays : (n : ℕ) → resolve t f p room c ≡ refused n → cacheAfter c (resolve t f p room c) ≡ c
 

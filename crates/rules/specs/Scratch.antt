@@ -8,7 +8,7 @@ use Rattle.entity.specs.Logic.{pick, and, or, no, all, has}
 use Rattle.entity.specs.Place.{Place, reg, slot}
 use Rattle.reginfo.specs.RegInfo.{RegInfo, regUnits, allocationOrder, classMembers, includesSpillslots, lastInOrder, spillslotSize, stackToStackClass, overlap, isMemory}
 use Rattle.function.specs.Function.{Function}
-use Rattle.rules.specs.Edit.{Edit, Move, EmergencySpill, EmergencyReload, updated, andThen, find, filter}
+use Rattle.rules.specs.Edit.{Edit, Move, EmergencySpill, EmergencyReload, updated, andThen, find, firstAt, filter}
 
 -- "Emergency slots lie in 32 stacks by size": the top of a stack stands first; `made` counts the function's slots so far
 pub record Cache : Type 0 where
@@ -26,28 +26,34 @@ pub record Evicted : Type 0 where
   pub size : ℕ
 
 -- 01: the scratch keeper. `edits` stands in the order handed out, so a new edit is put in front; of several evicted registers the
--- newest stands first (there is one at most).
+-- newest stands first (there is one at most). 02 d: `met` is the greatest position that a search of the patch met, 0 without searches.
 pub record ScratchAllocator : Type 0 where
   pub edits : List Edit
   pub available : ℕ → Bool
   pub evicted : List Evicted
   pub cache : Cache
+  pub met : ℕ
 
 abbrev pub push : Edit → ScratchAllocator → ScratchAllocator
-push e k = record { edits = e ∷ k .edits; available = k .available; evicted = k .evicted; cache = k .cache }
+push e k = record { edits = e ∷ k .edits; available = k .available; evicted = k .evicted; cache = k .cache; met = k .met }
 
 abbrev pub withAvailable : (ℕ → Bool) → ScratchAllocator → ScratchAllocator
-withAvailable a k = record { edits = k .edits; available = a; evicted = k .evicted; cache = k .cache }
+withAvailable a k = record { edits = k .edits; available = a; evicted = k .evicted; cache = k .cache; met = k .met }
 
 abbrev pub withEvicted : List Evicted → ScratchAllocator → ScratchAllocator
-withEvicted e k = record { edits = k .edits; available = k .available; evicted = e; cache = k .cache }
+withEvicted e k = record { edits = k .edits; available = k .available; evicted = e; cache = k .cache; met = k .met }
 
 abbrev pub withCache : Cache → ScratchAllocator → ScratchAllocator
-withCache c k = record { edits = k .edits; available = k .available; evicted = k .evicted; cache = c }
+withCache c k = record { edits = k .edits; available = k .available; evicted = k .evicted; cache = c; met = k .met }
 
--- a place and the allocator after finding it
+-- 02 d: "a patch returns the greatest position it met"
+abbrev pub meeting : ℕ → ScratchAllocator → ScratchAllocator
+meeting n k = record { edits = k .edits; available = k .available; evicted = k .evicted; cache = k .cache; met = pick (ltb (k .met) n) n (k .met) }
+
+-- a place, the position that the search reports and the allocator after it
 pub record Found : Type 0 where
   pub place : Place
+  pub position : ℕ
   pub scratch : ScratchAllocator
 
 -- a slot and the cache without it
@@ -106,32 +112,39 @@ module _ (t : RegInfo) (f : Function) where
   usable barred k r = all (λ u. and (k .available u) (no (barred u))) (regUnits t r)
 
   -- "an emergency slot if the class includes slots"
-  unfoldable pub slotScratch : ℕ → ScratchAllocator → Option Found
-  slotScratch b k = andThen (acquire (spillslotSize t b) (k .cache)) (λ a. some (record { place = slot (a .slot); scratch = withCache (a .cache) k }))
+  unfoldable pub slotScratch : ℕ → ℕ → ScratchAllocator → Option Found
+  slotScratch n b k = andThen (acquire (spillslotSize t b) (k .cache)) (λ a. some (record { place = slot (a .slot); position = n; scratch = withCache (a .cache) k }))
 
   -- "take a slot of the bank's size, evict the order's last into it and emit its reload"
-  unfoldable pub evictLast : ℕ → ℕ → ScratchAllocator → Option Found
-  evictLast b c k =
+  unfoldable pub evictLast : ℕ → ℕ → ℕ → ScratchAllocator → Option Found
+  evictLast n b c k =
       andThen (acquire (spillslotSize t b) (k .cache))
       (λ a. some (record {
         place = reg (lastInOrder t c);
+        position = n;
         scratch =
             withEvicted (record { reg = lastInOrder t c; slot = a .slot; size = spillslotSize t b } ∷ k .evicted)
             (push (EmergencyReload (lastInOrder t c) (a .slot)) (withCache (a .cache) k));
       }))
 
   -- "the evicted register if a member; else bring back the evicted one", and evict
-  unfoldable pub reuse : List Evicted → ℕ → ℕ → ScratchAllocator → Option Found
-  reuse [] b c k = evictLast b c (unevictAll k)
-  reuse (e ∷ l) b c k = pick (has (e .reg) (classMembers t c)) (some (record { place = reg (e .reg); scratch = k })) (reuse l b c k)
+  unfoldable pub reuse : List Evicted → ℕ → ℕ → ℕ → ScratchAllocator → Option Found
+  reuse [] n b c k = evictLast n b c (unevictAll k)
+  reuse (e ∷ l) n b c k = pick (has (e .reg) (classMembers t c)) (some (record { place = reg (e .reg); position = n; scratch = k })) (reuse l n b c k)
 
-  unfoldable pub orScratch : Option ℕ → ℕ → ℕ → ScratchAllocator → Option Found
-  orScratch (some r) b c k = some (record { place = reg r; scratch = k })
-  orScratch none b c k = pick (includesSpillslots t c) (slotScratch b k) (reuse (k .evicted) b c k)
+  unfoldable pub orScratch : Option ℕ → ℕ → ℕ → ℕ → ScratchAllocator → Option Found
+  orScratch (some r) n b c k = some (record { place = reg r; position = n; scratch = k })
+  orScratch none n b c k = pick (includesSpillslots t c) (slotScratch n b k) (reuse (k .evicted) n b c k)
+
+  -- 02 d: "the position in the order, counted from 0, at which it found its register, or the order's length where none there would do, an
+  -- evicted one taken again included"
+  abbrev pub searchedTo : ℕ → (ℕ → Bool) → ScratchAllocator → ℕ
+  searchedTo c barred k = firstAt (usable barred k) (allocationOrder t c)
 
   -- "Search for a class: the first register of its order whose units are all available", and failing that
   unfoldable pub getScratchReg : ℕ → ℕ → (ℕ → Bool) → ScratchAllocator → Option Found
-  getScratchReg b c barred k = orScratch (find (usable barred k) (allocationOrder t c)) b c k
+  getScratchReg b c barred k =
+      orScratch (find (usable barred k) (allocationOrder t c)) (searchedTo c barred k) b c (meeting (searchedTo c barred k) k)
 
   abbrev pub nothingBarred : ℕ → Bool
   nothingBarred u = false

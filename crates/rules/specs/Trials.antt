@@ -45,7 +45,7 @@ swap = move (reg 0) (reg 1) 0 ∷ move (reg 1) (reg 0) 1 ∷ []
 -- what an answer must be: the edits, the slots made and the 32 stacks
 abbrev pub Leaves : Answer → List Edit → ℕ → (ℕ → List ℕ) → Type 0
 Leaves (refused n) es made stacks = ⊥
-Leaves (resolved es′ c) es made stacks = (es′ ≡ es) × (c .made ≡ made) × (map (c .stacks) (indices 0 32) ≡ map stacks (indices 0 32))
+Leaves (resolved es′ c n) es made stacks = (es′ ≡ es) × (c .made ≡ made) × (map (c .stacks) (indices 0 32) ≡ map stacks (indices 0 32))
 
 -- the same, where all stacks but that of size 3 are empty
 abbrev pub Gives : Answer → List Edit → ℕ → List ℕ → Type 0
@@ -395,3 +395,43 @@ pub record ArgumentWords : Type 0 where
   pub word-stored :
       Gives (resolve arguments (plain 2 2) (patch (2 ∷ []) (move (reg 2) (slot 0) 0 ∷ [])) 8 emptyCache)
       (EmergencySpill 2 1 ∷ Move (reg 1) (reg 2) 0 ∷ Move (slot 0) (reg 1) 0 ∷ EmergencyReload 1 2 ∷ []) 1 (2 ∷ [])
+
+-- ---- 02 d, which candidate was taken: the greatest position that an answer's searches met
+abbrev pub Met : Answer → ℕ → Type 0
+Met (refused n) m = ⊥
+Met (resolved es c n) m = n ≡ m
+
+-- three, with a class without slots of r2 alone and one of all registers, and with a class of slots alone; r3 is memory
+unfoldable pub ordered : RegInfo
+ordered =
+    record {
+      units = 4;
+      banks = record { size = 3; top = 0; stack = 1 } ∷ [];
+      regs = single 0 ∷ single 1 ∷ single 2 ∷ record { memory = 1; bank = 0; units = 3 ∷ [] } ∷ [];
+      classes =
+          record { bank = 0; slots = 1; members = 0 ∷ 1 ∷ 2 ∷ []; order = 0 ∷ 1 ∷ 2 ∷ [] }
+          ∷ record { bank = 0; slots = 0; members = 0 ∷ 1 ∷ 2 ∷ []; order = 0 ∷ 1 ∷ 2 ∷ [] }
+          ∷ record { bank = 0; slots = 0; members = 2 ∷ []; order = 2 ∷ [] }
+          ∷ record { bank = 0; slots = 1; members = []; order = [] }
+          ∷ [];
+    }
+
+pub record Positions : Type 0 where
+  pub target : target.Accepted ordered
+  -- a slot, since nothing of three would do
+  pub of-a-slot : Met (resolve three (plain 0 1) (patch [] swap) 16 emptyCache) 3
+  -- r2, the third
+  pub of-the-third : Met (resolve three (plain 0 1) (patch (2 ∷ []) swap) 16 emptyCache) 2
+  -- r0, the first
+  pub of-the-first : Met (resolve three (plain 2 1) (patch (0 ∷ []) (move (slot 0) (slot 1) 0 ∷ [])) 8 emptyCache) 0
+  -- without searches
+  pub without : Met (resolve three (plain 0 1) (patch [] (move (reg 0) (reg 1) 0 ∷ move (reg 1) (reg 2) 1 ∷ [])) 16 emptyCache) 0
+  -- the greatest of 0, 1 and 0
+  pub greatest :
+      Met (resolve three (over (fixed 0 ∷ fixed 0 ∷ fixed 0 ∷ []) 4 1) (patch (0 ∷ 1 ∷ 2 ∷ []) (move (slot 0) (slot 1) 0 ∷ move (slot 1) (slot 0) 1 ∷ move (slot 2) (slot 3) 2 ∷ [])) 24 emptyCache) 1
+  -- r2 evicted, at 1; then taken again by a class whose order has it at 2: that order's length
+  pub taken-again : Met (resolve ordered (over (rebuilt 2 ∷ rebuilt 1 ∷ []) 2 1) (patch [] (remat (slot 0) 0 ∷ remat (slot 1) 1 ∷ [])) 10 emptyCache) 3
+  -- r2 evicted: the order's length, and not where it stands in it
+  pub newly-evicted : Met (resolve three (plain 2 1) (patch [] (move (slot 0) (slot 1) 0 ∷ [])) 8 emptyCache) 3
+  -- the first scratch of a rebuild at 0, the length of an empty order, the second at 1
+  pub of-the-second-scratch : Met (resolve ordered (over (rebuilt 3 ∷ []) 0 1) (patch (1 ∷ []) (remat (reg 3) 0 ∷ [])) 5 emptyCache) 1

@@ -15,7 +15,7 @@ use Rattle.rules.specs.Edit.{updated}
 use Rattle.edit.specs.Buffer.{countOf, Written}
 use Rattle.slots.specs.declared.Popped.{Popped}
 use Rattle.slots.specs.Stacks.{stacksOf}
-use Rattle.slots.specs.Steps.{topOf, withoutTop, Taken, PutBack}
+use Rattle.slots.specs.Steps.{topOf, withoutTop, Taken, PutBack, Meets}
 use Rattle.slots.proofs.Laws.{fits-more}
 use Rattle.scratch.specs.declared.Evicted.{Evicted}
 use Rattle.scratch.specs.declared.Evicted.the-variants.{Nothing, Held}
@@ -104,6 +104,21 @@ module _ {a b n : ℕ} {t : List ℕ} {k : ScratchAllocator} {edits slots cache 
         held = h .held;
         written = h .written;
         untouched = p .untouched (h .untouched);
+      }
+
+  -- a position met
+  pub met-one : {slots′ : List ℕ} {m : ℕ} → Meets slots slots′ m → Fits a b n t k edits slots cache → Fits a b n t k edits slots′ cache
+  met-one {slots′} p h =
+      record {
+        few = h .few;
+        most = h .most;
+        put = p .fits (h .most) (h .put);
+        own = h .own;
+        made = h .made;
+        stacked = rw (p .stacks cache (fits-more (h .most) 1024 slots (omega (arith, h .own, h .few)) (h .put))) (h .stacked);
+        held = h .held;
+        written = h .written;
+        untouched = p .untouched cache (h .untouched);
       }
 
 -- a slot made

@@ -3,8 +3,9 @@ use Prim.Native.Nat.{ℕ, _+_, _<_, _≤_}
 use mathlib.Core.Path.{_≡_, refl, sym, ap, _∙_}
 use mathlib.Core.Bool.{Bool, true, false}
 use mathlib.Core.List.{List, [], _∷_}
-use mathlib.Core.Option.{Option, some}
+use mathlib.Core.Option.{Option, none, some}
 use native.Mathlib.Omega.{arith}
+use lib.ListN.{length}
 use Rattle.entity.specs.declared.AllocationKind.{AllocationKind}
 use Rattle.entity.specs.declared.AllocationKind.the-variants as kind
 use Rattle.entity.specs.declared.PhysReg.{PhysReg}
@@ -19,14 +20,14 @@ use Rattle.function.specs.Table.{functionOf}
 use Rattle.small_set.specs.Set.{setOf}
 use Rattle.rules.specs.Edit.{Move, EmergencySpill, EmergencyReload, find, andThen}
 use Rattle.rules.specs.Scratch as rules
-use Rattle.rules.specs.Scratch.{unevict, unevictAll, unevictForReg, slotScratch, evictLast, reuse, orScratch, getScratchReg, moveEdits, doMove, makeAvailable, makeUnavailable, releasePlace}
+use Rattle.rules.specs.Scratch.{meeting, searchedTo, unevict, unevictAll, unevictForReg, slotScratch, evictLast, reuse, orScratch, getScratchReg, moveEdits, doMove, makeAvailable, makeUnavailable, releasePlace}
 use Rattle.search.specs.declared.Search.{Search}
 use Rattle.search.specs.declared.Search.the-variants as search
 use Rattle.search.specs.declared.Search.the-variants.{At}
-use Rattle.search.specs.Search.{searchOf, barredBy, usableIn, withUnits, withoutUnits}
+use Rattle.search.specs.Search.{searchOf, positionIn, Searched, barredBy, usableIn, withUnits, withoutUnits}
 use Rattle.edit.specs.Buffer.{countOf, editsOf, Written}
 use Rattle.slots.specs.declared.Popped.the-variants as popped
-use Rattle.slots.specs.Stacks.{stacksOf}
+use Rattle.slots.specs.Stacks.{stacksOf, SlotsFit}
 use Rattle.slots.specs.Steps as slots
 use Rattle.scratch.specs.declared.Evicted.{Evicted}
 use Rattle.scratch.specs.declared.Evicted.the-variants.{Nothing, Held}
@@ -35,8 +36,8 @@ use Rattle.scratch.specs.declared.Scratch.{Scratch}
 use Rattle.scratch.specs.declared.Taken.{Taken}
 use Rattle.function.specs.Known.{Checked}
 use Rattle.scratch.specs.State.{T, F, evictedOf, cacheIn, allocatorOf, Stocked, Fits, PlaceFits, Evictable}
-use Rattle.scratch.specs.Contracts.{Tables, tables, stateOf, Acquired, Brought, Found, Moved, Released}
-use Rattle.scratch.proofs.Bounds.{top-low, fewer, pushed, put-back, taken, one-made, let-go, hold, held-fits}
+use Rattle.scratch.specs.Contracts.{Tables, tables, failing, stateOf, Acquired, Brought, Found, Moved, Released}
+use Rattle.scratch.proofs.Bounds.{top-low, fewer, pushed, put-back, taken, met-one, one-made, let-go, hold, held-fits}
 use Rattle.scratch.proofs.Steps.{took, made, all-none, for-none, for-apart, for-met, reuse-member, reuse-stranger, find-has}
 
 -- a class without slots has a last register
@@ -44,8 +45,8 @@ pub last-low : (t f : List ℕ) (b c : ℕ) → Evictable t f b c → (r : ℕ) 
 last-low t f b c ok r e = rw e (ordered-fits (T t) (ok .checked .target) c (ok .class) _ (last-ordered (T t) (ok .checked .target) c (ok .class) (ok .slotless)))
 
 -- what a search finds is a register
-pub found-low : (t f : List ℕ) (c : ℕ) (p : ℕ → Bool) (s : Search) (r : PhysReg) → Checked t f → c < numClasses (T t) → searchOf s ≡ find p (allocationOrder (T t) c) → s ≡ At r → r .0 < numRegs (T t)
-found-low t f c p s r ok h e q = ordered-fits (T t) (ok .target) c h (r .0) (find-has p (allocationOrder (T t) c) (r .0) (sym e ∙ ap searchOf q))
+pub found-low : (t f : List ℕ) (c : ℕ) (p : ℕ → Bool) (s : Search) (r : PhysReg) (i : ℕ) → Checked t f → c < numClasses (T t) → Searched p (allocationOrder (T t) c) s → s ≡ At r i → r .0 < numRegs (T t)
+found-low t f c p s r i ok h e q = ordered-fits (T t) (ok .target) c h (r .0) (find-has p (allocationOrder (T t) c) (r .0) (sym (e .is) ∙ ap searchOf q))
 
 module _ (t f cache : List ℕ) where
   -- a slot of the stack, and a new one
@@ -54,6 +55,7 @@ module _ (t f cache : List ℕ) where
       record {
         is = took (T t) (F f) z (cacheIn k s cache) (stacksOf s cache z) x (stacksOf s′ cache) (p .got) (p .stacks);
         kept = refl;
+        met = p .met;
         small = top-low (stacksOf s cache z) x (h .stacked z) (p .got);
         fits = λ a b n edits h. taken p (fewer (omega arith) (omega arith) (omega arith) h);
       }
@@ -63,6 +65,7 @@ module _ (t f cache : List ℕ) where
       record {
         is = rw e (made (T t) (F f) z (cacheIn k s cache) (stacksOf s cache z) (stacksOf s′ cache) (p .got) (p .stacks) (h .made));
         kept = refl;
+        met = p .met;
         small = omega arith;
         fits = λ a b n edits h. taken p (one-made h);
       }
@@ -75,7 +78,7 @@ module _ (t f cache : List ℕ) where
   unfolding unevict
   brought-held k e e′ s s′ r x z ok v p q available =
       record {
-        is = rw (p .0, q .stacks cache, v);
+        is = rw (p .0, q .stacks cache, v, q .met);
         fits = λ a b n h. put-back q (held-fits v ok .1) (pushed (omega arith) (omega arith) (omega arith) (p .1) (p .2) (let-go v h));
       }
 
@@ -121,85 +124,102 @@ module _ (t f cache : List ℕ) where
       let few = regs-fit (T t) (ok .target) .1 in
       record { known = rw (q, place-there (reg r)) (known-units (T t) (ok .target) r h); small = omega arith }
 
-  pub found-slot : (b z : ℕ) (k : ScratchAllocator) (e : List ℕ) (available : List Bool) (s s′ : List ℕ) (r : Taken) (p : Allocation) → z ≡ spillslotSize (T t) b → Acquired t f cache z k s r s′ → p .0 ≡ codeOf (slot (r .slot .0)) → Found t f cache k (tables e available s) (record { place = p; allocator = r .allocator }) (tables e available s′) (slotScratch (T t) (F f) b)
+  pub found-slot : (m b z : ℕ) (k : ScratchAllocator) (e : List ℕ) (available : List Bool) (s s′ : List ℕ) (r : Taken) (p : Allocation) → z ≡ spillslotSize (T t) b → Acquired t f cache z k s r s′ → p .0 ≡ codeOf (slot (r .slot .0)) → Found t f cache k (tables e available s) (record { place = p; position = m; allocator = r .allocator }) (tables e available s′) (slotScratch (T t) (F f) m b)
   unfolding slotScratch andThen
-  found-slot b z k e available s s′ r p y h q =
+  found-slot m b z k e available s s′ r p y h q =
       let i = rw y at (h .is) in
       record {
-        is = rw (i, q, place-there (slot (r .slot .0)), h .kept);
+        is = rw (i, q, place-there (slot (r .slot .0)), h .kept, h .met);
         place = slot-fits (p .0) (r .slot .0) q (h .small);
         fits = λ a b n g. fewer (omega arith) (omega arith) (omega arith) (h .fits a b (n + 2) e g);
       }
 
-  pub found-last : (b c z y : ℕ) (k : ScratchAllocator) (e e′ : List ℕ) (available : List Bool) (s s′ : List ℕ) (r : Taken) (q : PhysReg) (p : Allocation) → Evictable t f b c → k .evicted ≡ Nothing → z ≡ spillslotSize (T t) b → Acquired t f cache z k s r s′ → q .0 ≡ lastInOrder (T t) c → (editsOf e′ ≡ EmergencyReload (q .0) (r .slot .0) ∷ editsOf e) × (countOf e′ ≡ countOf e + 1) × (Written e → Written e′) → y ≡ z → p .0 ≡ codeOf (reg (q .0)) → Found t f cache k (tables e available s) (record { place = p; allocator = record { evicted = Held q (r .slot) y; made = r .allocator .made } }) (tables e′ available s′) (evictLast (T t) (F f) b c)
+  pub found-last : (m b c z y : ℕ) (k : ScratchAllocator) (e e′ : List ℕ) (available : List Bool) (s s′ : List ℕ) (r : Taken) (q : PhysReg) (p : Allocation) → Evictable t f b c → k .evicted ≡ Nothing → z ≡ spillslotSize (T t) b → Acquired t f cache z k s r s′ → q .0 ≡ lastInOrder (T t) c → (editsOf e′ ≡ EmergencyReload (q .0) (r .slot .0) ∷ editsOf e) × (countOf e′ ≡ countOf e + 1) × (Written e → Written e′) → y ≡ z → p .0 ≡ codeOf (reg (q .0)) → Found t f cache k (tables e available s) (record { place = p; position = m; allocator = record { evicted = Held q (r .slot) y; made = r .allocator .made } }) (tables e′ available s′) (evictLast (T t) (F f) m b c)
   unfolding evictLast andThen
-  found-last b c z y k e e′ available s s′ r q p ok v u h l m d o =
+  found-last n b c z y k e e′ available s s′ r q p ok v u h l m d o =
       let i = rw u at (h .is) in
       let low = last-low t f b c ok (q .0) l in
       let size = size-fits (T t) (ok .checked .target) b (ok .bank) in
       record {
-        is = rw (i, o, place-there (reg (q .0)), m .0, d, u, v, l);
+        is = rw (i, o, place-there (reg (q .0)), m .0, d, u, v, l, h .met);
         place = reg-fits (p .0) (q .0) (ok .checked) o low;
         fits = λ a b n g. hold (h .kept ∙ v) (low, h .small, omega arith) (pushed (omega arith) (omega arith) (omega arith) (m .1) (m .2) (h .fits a b (n + 2) e g));
       }
 
-  pub found-evicted : (b c : ℕ) (k k′ : ScratchAllocator) (w w′ : Tables) (r : Scratch) (w″ : Tables) → Brought t f cache k w k′ w′ (unevictAll (T t) (F f)) → Found t f cache k′ w′ r w″ (evictLast (T t) (F f) b c) → Found t f cache k w r w″ (reuse (T t) (F f) [] b c)
+  pub found-evicted : (m b c : ℕ) (k k′ : ScratchAllocator) (w w′ : Tables) (r : Scratch) (w″ : Tables) → Brought t f cache k w k′ w′ (unevictAll (T t) (F f)) → Found t f cache k′ w′ r w″ (evictLast (T t) (F f) m b c) → Found t f cache k w r w″ (reuse (T t) (F f) [] m b c)
   unfolding reuse
-  found-evicted b c k k′ w w′ r w″ h g =
-      record { is = ap (evictLast (T t) (F f) b c) (sym (h .is)) ∙ g .is; place = g .place; fits = λ a b n i. g .fits a b n (h .fits a (b + 1) (n + 2) i) }
+  found-evicted m b c k k′ w w′ r w″ h g =
+      record { is = ap (evictLast (T t) (F f) m b c) (sym (h .is)) ∙ g .is; place = g .place; fits = λ a b n i. g .fits a b n (h .fits a (b + 1) (n + 2) i) }
 
   -- what another step of the rules gives too
   found-as : (k : ScratchAllocator) (w : Tables) (r : Scratch) (w′ : Tables) (by by′ : rules.ScratchAllocator → Option rules.Found) → by′ (stateOf t f cache k w) ≡ by (stateOf t f cache k w) → Found t f cache k w r w′ by → Found t f cache k w r w′ by′
   found-as k w r w′ by by′ e h = record { is = e ∙ h .is; place = h .place; fits = h .fits }
 
   -- a register that changes nothing
-  found-reg : (k : ScratchAllocator) (w : Tables) (p : Allocation) (r : ℕ) (by : rules.ScratchAllocator → Option rules.Found) → Checked t f → p .0 ≡ codeOf (reg r) → r < numRegs (T t) → by (stateOf t f cache k w) ≡ some (record { place = reg r; scratch = stateOf t f cache k w }) → Found t f cache k w (record { place = p; allocator = k }) w by
-  found-reg k w p r by ok q h e =
+  found-reg : (k : ScratchAllocator) (w : Tables) (p : Allocation) (r m : ℕ) (by : rules.ScratchAllocator → Option rules.Found) → Checked t f → p .0 ≡ codeOf (reg r) → r < numRegs (T t) → by (stateOf t f cache k w) ≡ some (record { place = reg r; position = m; scratch = stateOf t f cache k w }) → Found t f cache k w (record { place = p; position = m; allocator = k }) w by
+  found-reg k w p r m by ok q h e =
       record {
         is = rw (q, place-there (reg r)) e;
         place = reg-fits (p .0) r ok q h;
         fits = λ a b n g. fewer (omega arith) (omega arith) (omega arith) g;
       }
 
-  pub found-none : (b c : ℕ) (k : ScratchAllocator) (w : Tables) (r : Scratch) (w′ : Tables) → k .evicted ≡ Nothing → Found t f cache k w r w′ (reuse (T t) (F f) [] b c) → Found t f cache k w r w′ (reuse (T t) (F f) (evictedOf (k .evicted)) b c)
-  found-none b c k w r w′ e h =
-      found-as k w r w′ (reuse (T t) (F f) [] b c) (reuse (T t) (F f) (evictedOf (k .evicted)) b c) (ap (λ (v : Evicted). reuse (T t) (F f) (evictedOf v) b c (stateOf t f cache k w)) e) h
+  pub found-none : (m b c : ℕ) (k : ScratchAllocator) (w : Tables) (r : Scratch) (w′ : Tables) → k .evicted ≡ Nothing → Found t f cache k w r w′ (reuse (T t) (F f) [] m b c) → Found t f cache k w r w′ (reuse (T t) (F f) (evictedOf (k .evicted)) m b c)
+  found-none m b c k w r w′ e h =
+      found-as k w r w′ (reuse (T t) (F f) [] m b c) (reuse (T t) (F f) (evictedOf (k .evicted)) m b c) (ap (λ (v : Evicted). reuse (T t) (F f) (evictedOf v) m b c (stateOf t f cache k w)) e) h
 
-  module _ (b c : ℕ) (k : ScratchAllocator) (w : Tables) (v : PhysReg) (x : SpillSlot) (z : ℕ) (e : k .evicted ≡ Held v x z) where
-    pub found-member : (p : Allocation) → Checked t f → v .0 < numRegs (T t) → p .0 ≡ codeOf (reg (v .0)) → (m : Bool) → m ≡ has (v .0) (classMembers (T t) c) → m ≡ true → Found t f cache k w (record { place = p; allocator = k }) w (reuse (T t) (F f) (evictedOf (k .evicted)) b c)
+  module _ (y b c : ℕ) (k : ScratchAllocator) (w : Tables) (v : PhysReg) (x : SpillSlot) (z : ℕ) (e : k .evicted ≡ Held v x z) where
+    pub found-member : (p : Allocation) → Checked t f → v .0 < numRegs (T t) → p .0 ≡ codeOf (reg (v .0)) → (m : Bool) → m ≡ has (v .0) (classMembers (T t) c) → m ≡ true → Found t f cache k w (record { place = p; position = y; allocator = k }) w (reuse (T t) (F f) (evictedOf (k .evicted)) y b c)
     found-member p ok h q m n o =
-        found-reg k w p (v .0) (reuse (T t) (F f) (evictedOf (k .evicted)) b c) ok q h
-        (reuse-member (T t) (F f) b c (stateOf t f cache k w) (evictedOf (k .evicted)) (record { reg = v .0; slot = x .0; size = z }) (ap evictedOf e) (sym n ∙ o))
+        found-reg k w p (v .0) y (reuse (T t) (F f) (evictedOf (k .evicted)) y b c) ok q h
+        (reuse-member (T t) (F f) y b c (stateOf t f cache k w) (evictedOf (k .evicted)) (record { reg = v .0; slot = x .0; size = z }) (ap evictedOf e) (sym n ∙ o))
 
-    pub found-stranger : (r : Scratch) (w′ : Tables) (m : Bool) → m ≡ has (v .0) (classMembers (T t) c) → m ≡ false → Found t f cache k w r w′ (reuse (T t) (F f) [] b c) → Found t f cache k w r w′ (reuse (T t) (F f) (evictedOf (k .evicted)) b c)
+    pub found-stranger : (r : Scratch) (w′ : Tables) (m : Bool) → m ≡ has (v .0) (classMembers (T t) c) → m ≡ false → Found t f cache k w r w′ (reuse (T t) (F f) [] y b c) → Found t f cache k w r w′ (reuse (T t) (F f) (evictedOf (k .evicted)) y b c)
     found-stranger r w′ m n o h =
-        found-as k w r w′ (reuse (T t) (F f) [] b c) (reuse (T t) (F f) (evictedOf (k .evicted)) b c)
-        (reuse-stranger (T t) (F f) b c (stateOf t f cache k w) (evictedOf (k .evicted)) (record { reg = v .0; slot = x .0; size = z }) (ap evictedOf e) (sym n ∙ o)) h
+        found-as k w r w′ (reuse (T t) (F f) [] y b c) (reuse (T t) (F f) (evictedOf (k .evicted)) y b c)
+        (reuse-stranger (T t) (F f) y b c (stateOf t f cache k w) (evictedOf (k .evicted)) (record { reg = v .0; slot = x .0; size = z }) (ap evictedOf e) (sym n ∙ o)) h
 
-  -- a search
-  module _ (b c : ℕ) (k : ScratchAllocator) (w : Tables) (cycle : Bool) (sources : List Bool) where
-    abbrev searched : Option ℕ
-    searched = find (usableIn (T t) (w .available) sources cycle) (allocationOrder (T t) c)
+  -- a position met, and what is found then
+  module _ (m : ℕ) (k : ScratchAllocator) (w : Tables) (s : List ℕ) (put : SlotsFit 1024 (w .slots)) (u : slots.Meets (w .slots) s m) where
+    met-state : stateOf t f cache k (tables (w .edits) (w .available) s) ≡ meeting m (stateOf t f cache k w)
+    met-state = rw (u .stacks cache put, u .met)
 
-    pub found-first : (s : Search) (r : PhysReg) (p : Allocation) → Checked t f → c < numClasses (T t) → searchOf s ≡ searched → s ≡ At r → p .0 ≡ codeOf (reg (r .0)) → Found t f cache k w (record { place = p; allocator = k }) w (getScratchReg (T t) (F f) b c (barredBy cycle sources))
+    found-met : (r : Scratch) (w′ : Tables) (by by′ : rules.ScratchAllocator → Option rules.Found) → by′ (stateOf t f cache k w) ≡ by (meeting m (stateOf t f cache k w)) → Found t f cache k (tables (w .edits) (w .available) s) r w′ by → Found t f cache k w r w′ by′
+    found-met r w′ by by′ e h = record { is = e ∙ ap by (sym met-state) ∙ h .is; place = h .place; fits = λ a b n g. h .fits a b n (met-one u g) }
+
+    -- the first of an order
+    pub found-first : (b c : ℕ) (cycle : Bool) (sources : List Bool) (x : Search) (r : PhysReg) (p : Allocation) → Checked t f → c < numClasses (T t) → Searched (usableIn (T t) (w .available) sources cycle) (allocationOrder (T t) c) x → x ≡ At r m → p .0 ≡ codeOf (reg (r .0))
+        → Found t f cache k w (record { place = p; position = m; allocator = k }) (tables (w .edits) (w .available) s) (getScratchReg (T t) (F f) b c (barredBy cycle sources))
     unfolding getScratchReg orScratch
-    found-first s r p ok h e d q =
-        found-reg k w p (r .0) (getScratchReg (T t) (F f) b c (barredBy cycle sources)) ok q
-        (found-low t f c (usableIn (T t) (w .available) sources cycle) s r ok h e d)
-        (ap (λ (o : Option ℕ). orScratch (T t) (F f) o b c (stateOf t f cache k w)) (sym e ∙ ap searchOf d))
+    found-first b c cycle sources x r p ok h e d q =
+        let state = stateOf t f cache k w in
+        let by : rules.ScratchAllocator → Option rules.Found = λ z. some (record { place = reg (r .0); position = m; scratch = z }) in
+        found-met _ _ by (getScratchReg (T t) (F f) b c (barredBy cycle sources))
+        (ap (λ (o : Option ℕ). orScratch (T t) (F f) o (searchedTo (T t) (F f) c (barredBy cycle sources) state) b c (meeting (searchedTo (T t) (F f) c (barredBy cycle sources) state) state)) (sym (e .is) ∙ ap searchOf d)
+        ∙ ap (λ (i : ℕ). orScratch (T t) (F f) (some (r .0)) i b c (meeting i state)) (sym (e .position) ∙ ap (positionIn (length (allocationOrder (T t) c))) d))
+        (found-reg k (tables (w .edits) (w .available) s) p (r .0) m by ok q (found-low t f c (usableIn (T t) (w .available) sources cycle) x r m ok h e d) refl)
 
-    module _ (s : Search) (r : Scratch) (w′ : Tables) (e : searchOf s ≡ searched) (d : s ≡ search.Nothing) (i : Bool) (j : i ≡ includesSpillslots (T t) c) where
-      none-found : (u : Bool) → i ≡ u → getScratchReg (T t) (F f) b c (barredBy cycle sources) (stateOf t f cache k w) ≡ pick u (slotScratch (T t) (F f) b (stateOf t f cache k w)) (reuse (T t) (F f) (evictedOf (k .evicted)) b c (stateOf t f cache k w))
-      unfolding getScratchReg orScratch
-      none-found u q =
-          ap (λ (o : Option ℕ). orScratch (T t) (F f) o b c (stateOf t f cache k w)) (sym e ∙ ap searchOf d)
-          ∙ ap (λ (u : Bool). pick u (slotScratch (T t) (F f) b (stateOf t f cache k w)) (reuse (T t) (F f) (evictedOf (k .evicted)) b c (stateOf t f cache k w))) (sym j ∙ q)
+    -- a slot or an evicted register, failing the order
+    module _ (b c : ℕ) (r : Scratch) (w′ : Tables) (e : m ≡ length (allocationOrder (T t) c)) (i : Bool) (j : i ≡ includesSpillslots (T t) c) where
+      none-found : (u : Bool) → i ≡ u → failing t f b c (stateOf t f cache k w) ≡ pick u (slotScratch (T t) (F f) m b (meeting m (stateOf t f cache k w))) (reuse (T t) (F f) (evictedOf (k .evicted)) m b c (meeting m (stateOf t f cache k w)))
+      unfolding orScratch
+      none-found u q = rw (← e, ← j, q)
 
-      pub found-slotted : i ≡ true → Found t f cache k w r w′ (slotScratch (T t) (F f) b) → Found t f cache k w r w′ (getScratchReg (T t) (F f) b c (barredBy cycle sources))
-      found-slotted q h = found-as k w r w′ (slotScratch (T t) (F f) b) (getScratchReg (T t) (F f) b c (barredBy cycle sources)) (none-found true q) h
+      pub found-slotted : i ≡ true → Found t f cache k (tables (w .edits) (w .available) s) r w′ (slotScratch (T t) (F f) m b) → Found t f cache k w r w′ (failing t f b c)
+      found-slotted q h = found-met r w′ (slotScratch (T t) (F f) m b) (failing t f b c) (none-found true q) h
 
-      pub found-reused : i ≡ false → Found t f cache k w r w′ (reuse (T t) (F f) (evictedOf (k .evicted)) b c) → Found t f cache k w r w′ (getScratchReg (T t) (F f) b c (barredBy cycle sources))
-      found-reused q h = found-as k w r w′ (reuse (T t) (F f) (evictedOf (k .evicted)) b c) (getScratchReg (T t) (F f) b c (barredBy cycle sources)) (none-found false q) h
+      pub found-reused : i ≡ false → Found t f cache k (tables (w .edits) (w .available) s) r w′ (reuse (T t) (F f) (evictedOf (k .evicted)) m b c) → Found t f cache k w r w′ (failing t f b c)
+      found-reused q h = found-met r w′ (reuse (T t) (F f) (evictedOf (k .evicted)) m b c) (failing t f b c) (none-found false q) h
+
+  pub found-failing : (b c : ℕ) (k : ScratchAllocator) (w : Tables) (cycle : Bool) (sources : List Bool) (x : Search) (r : Scratch) (w′ : Tables) → Searched (usableIn (T t) (w .available) sources cycle) (allocationOrder (T t) c) x → x ≡ search.Nothing → Found t f cache k w r w′ (failing t f b c)
+      → Found t f cache k w r w′ (getScratchReg (T t) (F f) b c (barredBy cycle sources))
+  unfolding getScratchReg
+  found-failing b c k w cycle sources x r w′ e d h =
+      let state = stateOf t f cache k w in
+      found-as k w r w′ (failing t f b c) (getScratchReg (T t) (F f) b c (barredBy cycle sources))
+      (ap (λ (o : Option ℕ). orScratch (T t) (F f) o (searchedTo (T t) (F f) c (barredBy cycle sources) state) b c (meeting (searchedTo (T t) (F f) c (barredBy cycle sources) state) state)) (sym (e .is) ∙ ap searchOf d)
+      ∙ ap (λ (i : ℕ). orScratch (T t) (F f) none i b c (meeting i state)) (sym (e .position) ∙ ap (positionIn (length (allocationOrder (T t) c))) d))
+      h
 
   -- a move emitted
   module _ (b : ℕ) (to from : Place) (v : ℕ) where
@@ -244,4 +264,4 @@ module _ (t f cache : List ℕ) where
     released-slot s′ p x z h q d y u =
         let at : slot (x .0) ≡ placeAt c = sym (ap placeOf d) ∙ q in
         let low : x .0 < 8192 = omega (arith, ap codeOf at ∙ code-there c) in
-        record { is = rw (← at, ← y, u .stacks cache); fits = λ a b n g. put-back u low g }
+        record { is = rw (← at, ← y, u .stacks cache, u .met); fits = λ a b n g. put-back u low g }

@@ -54,12 +54,12 @@ module _ (t : RegInfo) (f : Function) (k : ScratchAllocator) where
     unfolding unevictForReg
     for-met e h o = ap split h ∙ at e true o ∙ ap (λ (l : List Evicted). unevict t f l (withEvicted [] k)) (sym h)
 
-module _ (t : RegInfo) (f : Function) (b c : ℕ) (k : ScratchAllocator) (l : List Evicted) (e : Evicted) (h : l ≡ e ∷ []) where
-  pub reuse-member : has (e .reg) (classMembers t c) ≡ true → reuse t f l b c k ≡ some (record { place = reg (e .reg); scratch = k })
+module _ (t : RegInfo) (f : Function) (n b c : ℕ) (k : ScratchAllocator) (l : List Evicted) (e : Evicted) (h : l ≡ e ∷ []) where
+  pub reuse-member : has (e .reg) (classMembers t c) ≡ true → reuse t f l n b c k ≡ some (record { place = reg (e .reg); position = n; scratch = k })
   unfolding reuse
   reuse-member m = rw (h, m)
 
-  pub reuse-stranger : has (e .reg) (classMembers t c) ≡ false → reuse t f l b c k ≡ reuse t f [] b c k
+  pub reuse-stranger : has (e .reg) (classMembers t c) ≡ false → reuse t f l n b c k ≡ reuse t f [] n b c k
   unfolding reuse
   reuse-stranger m = rw (h, m)
 

@@ -3,9 +3,12 @@ use Prim.Native.Nat.{ℕ, _+_, _<_}
 use mathlib.Core.Path.{_≡_}
 use mathlib.Core.Bool.{Bool}
 use mathlib.Core.List.{List}
-use mathlib.Core.Option.{Option, some}
+use mathlib.Core.Option.{Option, none, some}
+use lib.ListN.{length}
 use Rattle.entity.specs.Place.{placeAt}
+use Rattle.reginfo.specs.RegInfo.{allocationOrder}
 use Rattle.rules.specs.Scratch as rules
+use Rattle.slots.specs.Stacks.{metOf}
 use Rattle.scratch.specs.declared.ScratchAllocator.{ScratchAllocator}
 use Rattle.scratch.specs.declared.Scratch.{Scratch}
 use Rattle.scratch.specs.declared.Taken.{Taken}
@@ -20,6 +23,10 @@ pub record Tables : Type 0 where
 abbrev pub tables : List ℕ → List Bool → List ℕ → Tables
 tables e a s = record { edits = e; available = a; slots = s }
 
+-- a search that nothing of the class's order would do for
+abbrev pub failing : List ℕ → List ℕ → ℕ → ℕ → rules.ScratchAllocator → Option rules.Found
+failing t f b c k = rules.orScratch (T t) (F f) none (length (allocationOrder (T t) c)) b c (rules.meeting (length (allocationOrder (T t) c)) k)
+
 module _ (t f cache : List ℕ) where
   abbrev pub stateOf : ScratchAllocator → Tables → rules.ScratchAllocator
   stateOf k w = allocatorOf k (w .edits) (w .available) (w .slots) cache
@@ -31,6 +38,7 @@ module _ (t f cache : List ℕ) where
   pub record Acquired (z : ℕ) (k : ScratchAllocator) (slots : List ℕ) (r : Taken) (slots′ : List ℕ) : Type 0 where
     pub is : rules.acquire (T t) (F f) z (cacheIn k slots cache) ≡ some (record { slot = r .slot .0; cache = cacheIn (r .allocator) slots′ cache })
     pub kept : r .allocator .evicted ≡ k .evicted
+    pub met : metOf slots′ ≡ metOf slots
     pub small : r .slot .0 < 8192
     pub fits : (a b n : ℕ) (edits : List ℕ) → Fits a (b + 1) n t k edits slots cache → Fits a b n t (r .allocator) edits slots′ cache
 
@@ -41,7 +49,7 @@ module _ (t f cache : List ℕ) where
 
   -- a scratch found: a reload at most and the save then owed, and a slot made at most
   pub record Found (k : ScratchAllocator) (w : Tables) (r : Scratch) (w′ : Tables) (by : rules.ScratchAllocator → Option rules.Found) : Type 0 where
-    pub is : by (stateOf k w) ≡ some (record { place = placeAt (r .place .0); scratch = stateOf (r .allocator) w′ })
+    pub is : by (stateOf k w) ≡ some (record { place = placeAt (r .place .0); position = r .position; scratch = stateOf (r .allocator) w′ })
     pub place : PlaceFits t (r .place .0)
     pub fits : (a b n : ℕ) → FitsIn a (b + 1) (n + 2) k w → FitsIn a b n (r .allocator) w′
 

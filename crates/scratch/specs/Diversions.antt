@@ -14,7 +14,7 @@ use Rattle.function.specs.Function.{Function}
 use Rattle.rules.specs.Edit.{andThen}
 use Rattle.rules.specs.Scratch as rules
 use Rattle.scratch.specs.declared.ScratchAllocator.{ScratchAllocator}
-use Rattle.scratch.specs.declared.Scratch.{Scratch}
+use Rattle.scratch.specs.declared.Divert.{Divert}
 use Rattle.scratch.specs.State.{T, F, PlaceFits}
 use Rattle.scratch.specs.Contracts.{Tables, stateOf, FitsIn}
 
@@ -75,7 +75,7 @@ pub record Noted (v n source scratch : ℕ) (d d′ : List ℕ) : Type 0 where
   pub others : OthersStay v d d′
 
 module _ (t f cache : List ℕ) where
-  pub record Diverts (b : ℕ) (barred : ℕ → Bool) (added source v : ℕ) (d : List ℕ) (k : ScratchAllocator) (w : Tables) (d′ : List ℕ) (r : Scratch) (w′ : Tables) : Type 0 where
+  pub record Diverts (b : ℕ) (barred : ℕ → Bool) (added source v : ℕ) (d : List ℕ) (k : ScratchAllocator) (w : Tables) (d′ : List ℕ) (r : Divert) (w′ : Tables) : Type 0 where
     pub is :
         divertBy (T t) (F f) b barred added (placeAt source) (diversionAt d v) (stateOf t f cache k w)
         ≡ some (record { place = placeAt (r .place .0); allocator = stateOf t f cache (r .allocator) w′; diversion = diversionAt d′ v })

@@ -14,7 +14,7 @@ use Rattle.function.specs.Table.{functionOf}
 use Rattle.small_set.specs.Set.{setOf}
 use Rattle.rules.specs.Scratch as rules
 use Rattle.edit.specs.Buffer.{countOf, editsOf, Written}
-use Rattle.slots.specs.Stacks.{stacksOf, SlotsFit, Untouched}
+use Rattle.slots.specs.Stacks.{metOf, stacksOf, SlotsFit, Untouched}
 use Rattle.scratch.specs.declared.Evicted.{Evicted}
 use Rattle.scratch.specs.declared.Evicted.the-variants.{Nothing, Held}
 use Rattle.scratch.specs.declared.ScratchAllocator.{ScratchAllocator}
@@ -38,7 +38,7 @@ cacheIn k slots cache = record { stacks = stacksOf slots cache; made = k .made }
 
 abbrev pub allocatorOf : ScratchAllocator → List ℕ → List Bool → List ℕ → List ℕ → rules.ScratchAllocator
 allocatorOf k edits available slots cache =
-    record { edits = editsOf edits; available = setOf available; evicted = evictedOf (k .evicted); cache = cacheIn k slots cache }
+    record { edits = editsOf edits; available = setOf available; evicted = evictedOf (k .evicted); cache = cacheIn k slots cache; met = metOf slots }
 
 -- every slot in the stacks has a place code
 abbrev pub Stacked : (ℕ → List ℕ) → Type 0

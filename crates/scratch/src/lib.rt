@@ -34,7 +34,7 @@ ghost use Rattle.function.specs.Table.{functionOf};
 ghost use Rattle.scratch.specs.Diversions.{countAt, allocAt, scratchAt, Noted, Diverts, Ended, Undiverts};
 ghost use Rattle.function.specs.Known.{Checked};
 ghost use Rattle.scratch.specs.State.{T, F, evictedOf, allocatorOf, Stocked, Fits, PlaceFits, Evictable, Movable};
-ghost use Rattle.scratch.specs.Contracts.{tables, Acquired, Brought, Found, Moved, Released};
+ghost use Rattle.scratch.specs.Contracts.{tables, failing, Acquired, Brought, Found, Moved, Released};
 
 // The evicted register, its slot and the slot's size.
 pub enum Evicted {
@@ -47,8 +47,15 @@ pub struct ScratchAllocator {
     pub made: u16,
 }
 
-// What a search found, and the allocator after it.
+// What a search found, the position that it reports, and the allocator after it.
 pub struct Scratch {
+    pub place: Allocation,
+    pub position: u16,
+    pub allocator: ScratchAllocator,
+}
+
+// Where a diverted move is read, and the allocator then.
+pub struct Divert {
     pub place: Allocation,
     pub allocator: ScratchAllocator,
 }
@@ -221,7 +228,7 @@ impl ScratchAllocator {
         self
     }
 
-    // An emergency slot as scratch.
+    // An emergency slot as scratch; n is the position to report, here and below.
     fn slot_scratch(
         mut self,
         t: &RegInfo,
@@ -229,15 +236,17 @@ impl ScratchAllocator {
         cache: &SlotCache,
         slots: &mut Slots,
         b: RegBank,
+        n: u16,
     ) -> Scratch
         requires { ⌜ Checked (now t) (now f) × (b .0 < numBanks (T (now t))) × Stocked self (now slots) (now cache) ⌝ }
-        ensures { λ r. ⌜ ((edits : List ℕ) (available : List Bool) → Found (now (t .entry)) (now (f .entry)) (now (cache .entry)) self (tables edits available (now (slots .entry))) r (tables edits available (now (slots .exit))) (slotScratch (T (now (t .entry))) (F (now (f .entry))) (b .0))) ⌝ }
+        ensures { λ r. ⌜ ((edits : List ℕ) (available : List Bool) → Found (now (t .entry)) (now (f .entry)) (now (cache .entry)) self (tables edits available (now (slots .entry))) r (tables edits available (now (slots .exit))) (slotScratch (T (now (t .entry))) (F (now (f .entry))) n (b .0))) ⌝ }
     {
         let got = self.acquire(t, f, cache, slots, reginfo::spillslot_size(t, b));
         let s = got.slot;
         let k = got.allocator;
         Scratch {
             place: Allocation::spillslot(s),
+            position: n,
             allocator: k,
         }
     }
@@ -252,9 +261,10 @@ impl ScratchAllocator {
         slots: &mut Slots,
         b: RegBank,
         c: RegClass,
+        n: u16,
     ) -> Scratch
         requires { ⌜ Evictable (now t) (now f) (b .0) (c .0) × (self .evicted ≡ Evicted.Nothing) × Fits 0 1 2 (now t) self (now edits) (now slots) (now cache) ⌝ }
-        ensures { λ r. ⌜ ((available : List Bool) → Found (now (t .entry)) (now (f .entry)) (now (cache .entry)) self (tables (now (edits .entry)) available (now (slots .entry))) r (tables (now (edits .exit)) available (now (slots .exit))) (evictLast (T (now (t .entry))) (F (now (f .entry))) (b .0) (c .0))) ⌝ }
+        ensures { λ r. ⌜ ((available : List Bool) → Found (now (t .entry)) (now (f .entry)) (now (cache .entry)) self (tables (now (edits .entry)) available (now (slots .entry))) r (tables (now (edits .exit)) available (now (slots .exit))) (evictLast (T (now (t .entry))) (F (now (f .entry))) n (b .0) (c .0))) ⌝ }
     {
         let z = reginfo::spillslot_size(t, b);
         let got = self.acquire(t, f, cache, slots, z);
@@ -264,6 +274,7 @@ impl ScratchAllocator {
         edit::push_reload(edits, r, s);
         Scratch {
             place: Allocation::reg(r),
+            position: n,
             allocator: ScratchAllocator {
                 evicted: Evicted::Held(r, s, narrow(z)),
                 made: k.made,
@@ -281,12 +292,13 @@ impl ScratchAllocator {
         slots: &mut Slots,
         b: RegBank,
         c: RegClass,
+        n: u16,
     ) -> Scratch
         requires { ⌜ Evictable (now t) (now f) (b .0) (c .0) × Fits 0 1 2 (now t) self (now edits) (now slots) (now cache) ⌝ }
-        ensures { λ r. ⌜ ((available : List Bool) → Found (now (t .entry)) (now (f .entry)) (now (cache .entry)) self (tables (now (edits .entry)) available (now (slots .entry))) r (tables (now (edits .exit)) available (now (slots .exit))) (reuse (T (now (t .entry))) (F (now (f .entry))) [] (b .0) (c .0))) ⌝ }
+        ensures { λ r. ⌜ ((available : List Bool) → Found (now (t .entry)) (now (f .entry)) (now (cache .entry)) self (tables (now (edits .entry)) available (now (slots .entry))) r (tables (now (edits .exit)) available (now (slots .exit))) (reuse (T (now (t .entry))) (F (now (f .entry))) [] n (b .0) (c .0))) ⌝ }
     {
         let k = self.unevict_all(t, f, cache, edits, slots);
-        k.evict_last(t, f, cache, edits, slots, b, c)
+        k.evict_last(t, f, cache, edits, slots, b, c, n)
     }
 
     // The evicted register if it is a member of the class, else the order's last.
@@ -299,21 +311,45 @@ impl ScratchAllocator {
         slots: &mut Slots,
         b: RegBank,
         c: RegClass,
+        n: u16,
     ) -> Scratch
         requires { ⌜ Evictable (now t) (now f) (b .0) (c .0) × Fits 0 1 2 (now t) self (now edits) (now slots) (now cache) ⌝ }
-        ensures { λ r. ⌜ ((available : List Bool) → Found (now (t .entry)) (now (f .entry)) (now (cache .entry)) self (tables (now (edits .entry)) available (now (slots .entry))) r (tables (now (edits .exit)) available (now (slots .exit))) (reuse (T (now (t .entry))) (F (now (f .entry))) (evictedOf (self .evicted)) (b .0) (c .0))) ⌝ }
+        ensures { λ r. ⌜ ((available : List Bool) → Found (now (t .entry)) (now (f .entry)) (now (cache .entry)) self (tables (now (edits .entry)) available (now (slots .entry))) r (tables (now (edits .exit)) available (now (slots .exit))) (reuse (T (now (t .entry))) (F (now (f .entry))) (evictedOf (self .evicted)) n (b .0) (c .0))) ⌝ }
     {
         let e = self.evicted;
         let Evicted::Held(r, _, _) = e else {
-            return self.evict(t, f, cache, edits, slots, b, c);
+            return self.evict(t, f, cache, edits, slots, b, c, n);
         };
         if reginfo::class_has_reg(t, c, r) {
             return Scratch {
                 place: Allocation::reg(r),
+                position: n,
                 allocator: self,
             };
         }
-        self.evict(t, f, cache, edits, slots, b, c)
+        self.evict(t, f, cache, edits, slots, b, c, n)
+    }
+
+    // Failing the class's order, whose length is then the position: a slot or an evicted register.
+    fn or_scratch(
+        mut self,
+        t: &RegInfo,
+        f: &Function,
+        cache: &SlotCache,
+        edits: &mut Edits,
+        slots: &mut Slots,
+        b: RegBank,
+        c: RegClass,
+    ) -> Scratch
+        requires { ⌜ Checked (now t) (now f) × (b .0 < numBanks (T (now t))) × (c .0 < numClasses (T (now t))) × Fits 0 1 2 (now t) self (now edits) (now slots) (now cache) ⌝ }
+        ensures { λ r. ⌜ ((available : List Bool) → Found (now (t .entry)) (now (f .entry)) (now (cache .entry)) self (tables (now (edits .entry)) available (now (slots .entry))) r (tables (now (edits .exit)) available (now (slots .exit))) (failing (now (t .entry)) (now (f .entry)) (b .0) (c .0))) ⌝ }
+    {
+        let n = narrow(reginfo::order_len(t, c));
+        slots::meet(slots, n);
+        if reginfo::class_includes_spillslots(t, c) {
+            return self.slot_scratch(t, f, cache, slots, b, n);
+        }
+        self.reuse(t, f, cache, edits, slots, b, c, n)
     }
 
     // A scratch of a class: the first register of its order that is usable, failing that a slot or an evicted register.
@@ -335,16 +371,15 @@ impl ScratchAllocator {
         ensures { λ r. ⌜ Found (now (t .entry)) (now (f .entry)) (now (cache .entry)) self (tables (now (edits .entry)) (now (available .entry)) (now (slots .entry))) r (tables (now (edits .exit)) (now (available .entry)) (now (slots .exit))) (getScratchReg (T (now (t .entry))) (F (now (f .entry))) (b .0) (c .0) (barredBy cycle (now (sources .entry)))) ⌝ }
     {
         let found = search::first_usable(t, available, sources, cycle, c);
-        if let Search::At(r) = found {
+        if let Search::At(r, i) = found {
+            slots::meet(slots, i);
             return Scratch {
                 place: Allocation::reg(r),
+                position: i,
                 allocator: self,
             };
         }
-        if reginfo::class_includes_spillslots(t, c) {
-            return self.slot_scratch(t, f, cache, slots, b);
-        }
-        self.reuse(t, f, cache, edits, slots, b, c)
+        self.or_scratch(t, f, cache, edits, slots, b, c)
     }
 
     // Memory to memory goes through a scratch of the stack class.
@@ -511,7 +546,7 @@ impl ScratchAllocator {
         added: u16,
         v: Value,
         source: Allocation,
-    ) -> Scratch
+    ) -> Divert
         requires { ⌜ Checked (now t) (now f) × (v .0 < numValues (functionOf (now f))) × (countAt (now d) (v .0) ≡ 0) × Fits 0 1 2 (now t) self (now edits) (now slots) (now cache) ⌝ }
         ensures { λ r. ⌜ Diverts (now (t .entry)) (now (f .entry)) (now (cache .entry)) (valueBank (functionOf (now (f .entry))) (v .0)) (barredBy true (now (sources .entry))) added (source .0) (v .0) (now (d .entry)) self (tables (now (edits .entry)) (now (available .entry)) (now (slots .entry))) (now (d .exit)) r (tables (now (edits .exit)) (now (available .exit)) (now (slots .exit))) ⌝ }
     {
@@ -522,7 +557,7 @@ impl ScratchAllocator {
         let k = found.allocator;
         note(d, v, added, source, p);
         let marked = k.make_unavailable(t, available, p);
-        Scratch {
+        Divert {
             place: p,
             allocator: marked,
         }
@@ -542,7 +577,7 @@ impl ScratchAllocator {
         added: u16,
         v: Value,
         source: Allocation,
-    ) -> Scratch
+    ) -> Divert
         requires { ⌜ Checked (now t) (now f) × (v .0 < numValues (functionOf (now f))) × (countAt (now d) (v .0) + added < 65536) × (0 < countAt (now d) (v .0) → PlaceFits (now t) (scratchAt (now d) (v .0))) × Fits 0 1 2 (now t) self (now edits) (now slots) (now cache) ⌝ }
         ensures { λ r. ⌜ Diverts (now (t .entry)) (now (f .entry)) (now (cache .entry)) (valueBank (functionOf (now (f .entry))) (v .0)) (barredBy true (now (sources .entry))) added (source .0) (v .0) (now (d .entry)) self (tables (now (edits .entry)) (now (available .entry)) (now (slots .entry))) (now (d .exit)) r (tables (now (edits .exit)) (now (available .exit)) (now (slots .exit))) ⌝ }
     {
@@ -551,7 +586,7 @@ impl ScratchAllocator {
             let first = first_of(d, v);
             let p = scratch_of(d, v);
             note(d, v, narrow(n + wide(added)), first, p);
-            return Scratch {
+            return Divert {
                 place: p,
                 allocator: self,
             };

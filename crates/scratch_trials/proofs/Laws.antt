@@ -23,6 +23,7 @@ use Rattle.slots.specs.Steps.{Cleared, Begun}
 use Rattle.scratch.specs.declared.Evicted.the-variants.{Nothing}
 use Rattle.scratch.specs.declared.ScratchAllocator.{ScratchAllocator}
 use Rattle.scratch.specs.declared.Scratch.{Scratch}
+use Rattle.scratch.specs.declared.Divert.{Divert}
 use Rattle.scratch.specs.State.{T, F, Stacked, PlaceFits, allocatorOf}
 use Rattle.scratch.specs.Contracts.{Tables, tables, stateOf, FitsIn, Brought, Found, Moved, Released}
 use Rattle.scratch.specs.Diversions.{Diversion, Diverting, countAt, allocAt, scratchAt, diversionAt, divertBy, Diverts, Undiverts}
@@ -46,7 +47,7 @@ pub started : (available : List Bool) (edits slots cache : List ℕ) → setOf a
 started available edits slots cache a e n o cleared begun =
     let stacks : stacksOf slots cache ≡ (λ z. []) = begun .stacks ∙ ap (λ c. c .stacks) (cleared .empty) in
     record {
-      is = rw (a, e, stacks);
+      is = rw (a, e, stacks, begun .met);
       fits = λ t. record { few = omega (arith, n); most = 0; put = begun .fits; own = omega arith; made = omega arith; stacked = rw stacks none-stacked; held = tt; written = o; untouched = begun .untouched };
     }
 
@@ -81,7 +82,7 @@ module _ (t f cache : List ℕ) where
         few = omega (arith, a .fits 0 0 0 (fewer (omega arith) (omega arith) (omega arith) (m .fits 0 0 0 h)) .few);
       }
 
-  module _ (b v w : ℕ) (barred : ℕ → Bool) (p q : ℕ) (d d₁ : List ℕ) (k : ScratchAllocator) (x : Tables) (r : Scratch) (x₁ : Tables) (z : countAt d w ≡ 0) (div : Diverts t f cache b barred 1 q w d k x d₁ r x₁) where
+  module _ (b v w : ℕ) (barred : ℕ → Bool) (p q : ℕ) (d d₁ : List ℕ) (k : ScratchAllocator) (x : Tables) (r : Divert) (x₁ : Tables) (z : countAt d w ≡ 0) (div : Diverts t f cache b barred 1 q w d k x d₁ r x₁) where
     new-cells : (countAt d₁ w ≡ 1) × (placeAt (allocAt d₁ w) ≡ placeAt q) × (placeAt (scratchAt d₁ w) ≡ placeAt (r .place .0))
     unfolding divertBy
     new-cells = cells _ _ 1 (placeAt q) (placeAt (r .place .0)) _ (diversionAt d₁ w) (rw (eq-eqb (countAt d w) 0 z) at (div .is))

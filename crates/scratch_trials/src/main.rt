@@ -209,7 +209,7 @@ fn report_slot_to_slot(t: &RegInfo, f: &Function)
     requires { ⌜ Checked (now t) (now f) × (1 < numValues (functionOf (now f))) ⌝ }
 {
     let mut cache = [0u16; 65600];
-    let mut slots = [0u16; 32834];
+    let mut slots = [0u16; 32835];
     let mut edits = [0u64; 1025];
     let mut available = [false; 512];
     let sources = [false; 512];
@@ -245,7 +245,7 @@ fn report_slots_swapped(t: &RegInfo, f: &Function)
     requires { ⌜ Checked (now t) (now f) × (1 < numValues (functionOf (now f))) ⌝ }
 {
     let mut cache = [0u16; 65600];
-    let mut slots = [0u16; 32834];
+    let mut slots = [0u16; 32835];
     let mut edits = [0u64; 1025];
     let mut d = [0u16; 12288];
     let mut available = [false; 512];
@@ -284,7 +284,7 @@ fn report_rebuild(t: &RegInfo, f: &Function)
     requires { ⌜ Checked (now t) (now f) × (1 < numValues (functionOf (now f))) ⌝ }
 {
     let mut cache = [0u16; 65600];
-    let mut slots = [0u16; 32834];
+    let mut slots = [0u16; 32835];
     let mut edits = [0u64; 1025];
     let mut available = [false; 512];
     let sources = [false; 512];

@@ -1,9 +1,9 @@
 -- Laws of a walk over a register's units and over a class's order: what is left to do, one element on.
-use Prim.Native.Nat.{ℕ, _+_, _<_, _≤_}
+use Prim.Native.Nat.{ℕ, suc, _+_, _<_, _≤_}
 use mathlib.Core.Path.{_≡_, refl, ap, _∙_, fun-ext}
-use mathlib.Core.Bool.{Bool, and-comm}
+use mathlib.Core.Bool.{Bool, true, false, and-comm}
 use mathlib.Core.List.{List, [], _∷_}
-use mathlib.Core.Option.{some}
+use mathlib.Core.Option.{none, some}
 use native.Mathlib.Omega.{arith}
 use lib.ListN.{getD, length, drop, drop-of-length-le}
 use Rattle.entity.specs.Logic.{pick, and, no, all, has}
@@ -13,7 +13,7 @@ use Rattle.reginfo.specs.RegInfo.{RegInfo, regUnits}
 use Rattle.reginfo.specs.Known.{KnownUnits}
 use Rattle.small_set.specs.Set.{setOf, inserted, removed, insertedAll, removedAll}
 use Rattle.small_set.proofs.Laws.{in-insertedAll, in-removedAll}
-use Rattle.rules.specs.Edit.{find}
+use Rattle.rules.specs.Edit.{find, firstAt}
 use Rattle.search.specs.Search.{barredBy, unitsOf, withUnits, withoutUnits}
 
 -- a unit of a known register is below 512
@@ -29,9 +29,36 @@ unfolding all
 usable-step t available sources cycle r j u a b h e p q =
     ap (all (λ v. and (setOf available v) (no (barredBy cycle sources v)))) (drop-step (regUnits t r) j 0 h) ∙ rw (p, q, e)
 
-pub find-step : (p : ℕ → Bool) (l : List ℕ) (i x : ℕ) (b : Bool) → i < length l → x ≡ getD l i 0 → b ≡ p x → find p (drop i l) ≡ pick b (some x) (find p (drop (i + 1) l))
-unfolding find
-find-step p l i x b h e q = ap (find p) (drop-step l i 0 h) ∙ rw (q, e)
+-- in a walk over an order, at i: what a search finds, and where, is what it finds from here on
+pub record Searching (p : ℕ → Bool) (l : List ℕ) (i : ℕ) : Type 0 where
+  pub same : find p l ≡ find p (drop i l)
+  pub past : firstAt p l ≡ i + firstAt p (drop i l)
+  pub within : i ≤ length l
+
+pub searching : (p : ℕ → Bool) (l : List ℕ) → Searching p l 0
+searching p l = record { same = refl; past = omega arith; within = omega arith }
+
+module _ (p : ℕ → Bool) (l : List ℕ) (i : ℕ) (s : Searching p l i) where
+  module _ (x : ℕ) (h : i < length l) (e : x ≡ getD l i 0) where
+    find-step : (b : Bool) → b ≡ p x → find p (drop i l) ≡ pick b (some x) (find p (drop (i + 1) l))
+    unfolding find
+    find-step b q = ap (find p) (drop-step l i 0 h) ∙ rw (q, e)
+
+    first-step : (b : Bool) → b ≡ p x → firstAt p (drop i l) ≡ pick b 0 (suc (firstAt p (drop (i + 1) l)))
+    unfolding firstAt
+    first-step b q = ap (firstAt p) (drop-step l i 0 h) ∙ rw (q, e)
+
+    pub found-here : true ≡ p x → (find p l ≡ some x) × (firstAt p l ≡ i)
+    found-here q = (s .same ∙ find-step true q, omega (arith, s .past, first-step true q))
+
+    pub searching-on : false ≡ p x → Searching p l (i + 1)
+    searching-on q = record { same = s .same ∙ find-step false q; past = omega (arith, s .past, first-step false q); within = omega arith }
+
+  pub found-nowhere : length l ≤ i → (find p l ≡ none) × (firstAt p l ≡ length l)
+  unfolding find firstAt
+  found-nowhere h =
+      let e = drop-of-length-le l {i = i} h in
+      (s .same ∙ ap (find p) e, omega (arith, s .past, ap (firstAt p) e, s .within))
 
 -- in a walk over a register's units, at j: `every`, which puts each unit of a list into a set or takes each out, gives from the set here with
 -- the units left what it gives from the first set with all units

@@ -1,19 +1,32 @@
 -- 01, Scratch keeper: "the first register of its order whose units are all available (none of them a source unit of a kept move, if asked
 -- for a cycle)", on lent sets of units.
 use Prim.Native.Nat.{ℕ}
+use mathlib.Core.Path.{_≡_}
 use mathlib.Core.Bool.{Bool}
 use mathlib.Core.List.{List, []}
 use mathlib.Core.Option.{Option, none, some}
+use lib.ListN.{length}
 use Rattle.entity.specs.Logic.{and, or, no, all, has}
 use Rattle.entity.specs.Place.{Place, reg, slot}
 use Rattle.reginfo.specs.RegInfo.{RegInfo, regUnits}
 use Rattle.small_set.specs.Set.{setOf}
+use Rattle.rules.specs.Edit.{find, firstAt}
 use Rattle.search.specs.declared.Search as SE
 use Rattle.search.specs.declared.Search.{Search}
 
 abbrev pub searchOf : Search → Option ℕ
-searchOf (SE.the-variants.At r) = some (r .0)
+searchOf (SE.the-variants.At r i) = some (r .0)
 searchOf SE.the-variants.Nothing = none
+
+-- 02 d: "the position in the order, counted from 0, [..] or the order's length", which is n
+abbrev pub positionIn : ℕ → Search → ℕ
+positionIn n (SE.the-variants.At r i) = i
+positionIn n SE.the-variants.Nothing = n
+
+-- the first of an order that passes a test, and where it stands
+pub record Searched (p : ℕ → Bool) (order : List ℕ) (s : Search) : Type 0 where
+  pub is : searchOf s ≡ find p order
+  pub position : positionIn (length order) s ≡ firstAt p order
 
 -- source units of kept moves, if asked for a cycle
 abbrev pub barredBy : Bool → List Bool → ℕ → Bool

@@ -4,6 +4,7 @@ use entity::AllocationKind;
 use entity::PhysReg;
 use entity::RegClass;
 use entity::RegUnit;
+use entity::narrow;
 use reginfo::RegInfo;
 use small_set::RegUnitSet;
 ghost use mathlib.Core.Path.{_≡_};
@@ -14,12 +15,11 @@ ghost use Rattle.reginfo.specs.Refused.{Accepted};
 ghost use Rattle.reginfo.specs.Known.{KnownUnits, KnownPlace};
 ghost use Rattle.reginfo.specs.Table.{regInfoOf};
 ghost use Rattle.small_set.specs.Set.{setOf};
-ghost use Rattle.rules.specs.Edit.{find};
-ghost use Rattle.search.specs.Search.{searchOf, barredBy, usableIn, withUnits, withoutUnits};
+ghost use Rattle.search.specs.Search.{barredBy, usableIn, Searched, withUnits, withoutUnits};
 
-// A register of a class's order, or none that would do.
+// A register of a class's order and its position there, or none that would do.
 pub enum Search {
-    At(PhysReg),
+    At(PhysReg, u16),
     Nothing,
 }
 
@@ -60,7 +60,7 @@ pub fn usable(
     true
 }
 
-// The first register of a class's order that is usable.
+// The first register of a class's order that is usable, and its position.
 pub fn first_usable(
     t: &RegInfo,
     available: &RegUnitSet,
@@ -69,14 +69,14 @@ pub fn first_usable(
     c: RegClass,
 ) -> Search
     requires { ⌜ Accepted (regInfoOf (now t)) × (c .0 < numClasses (regInfoOf (now t))) ⌝ }
-    ensures { λ s. ⌜ searchOf s ≡ find (usableIn (regInfoOf (now (t .entry))) (now (available .entry)) (now (sources .entry)) cycle) (allocationOrder (regInfoOf (now (t .entry))) (c .0)) ⌝ }
+    ensures { λ s. ⌜ Searched (usableIn (regInfoOf (now (t .entry))) (now (available .entry)) (now (sources .entry)) cycle) (allocationOrder (regInfoOf (now (t .entry))) (c .0)) s ⌝ }
 {
     let n = reginfo::order_len(t, c);
     let mut i: usize = 0;
     while i < n {
         let r = reginfo::order_at(t, c, i);
         if usable(t, available, sources, cycle, r) {
-            return Search::At(r);
+            return Search::At(r, narrow(i));
         }
         i += 1;
     }

@@ -13,8 +13,8 @@ use borrow.Author.Tests.{eqb-true, eqb-false, lt-ltb, le-ltb, ltb-true, ltb-fals
 use Rattle.entity.specs.Logic.{pick}
 use Rattle.rules.specs.Edit.{updated}
 use Rattle.slots.specs.declared.Popped.the-variants.{At, Empty}
-use Rattle.slots.specs.Stacks.{topFirst, depthOf, leftOf, ownOf, lowOf, highOf, cacheOf, stacksOf, CacheFits, SlotsFit, Unchanged, Untouched}
-use Rattle.slots.specs.Steps.{Cleared, Begun, Touched, Taken, PutBack, Settled, Committed}
+use Rattle.slots.specs.Stacks.{topFirst, depthOf, leftOf, ownOf, lowOf, highOf, metOf, cacheOf, stacksOf, CacheFits, SlotsFit, Unchanged, Untouched}
+use Rattle.slots.specs.Steps.{Cleared, Begun, Touched, Taken, PutBack, Meets, Settled, Committed}
 
 -- ---- cells, the last first
 pub top-step : (t : List ℕ) (at n : ℕ) → 0 < n → topFirst t at n ≡ getD t (at + (n - 1)) 0 ∷ topFirst t at (n - 1)
@@ -80,7 +80,7 @@ updated-by f g z l e n = fun-ext (λ y. go y (eqb y z) refl)
 pub fits-more : (n m : ℕ) (slots : List ℕ) → n ≤ m → SlotsFit n slots → SlotsFit m slots
 fits-more n m slots h f = record { left = f .left; own = λ y l. omega (arith, f .own y l) }
 
-module _ (slots : List ℕ) (long : length slots ≡ 32834) (z : ℕ) (low : z < 32) (n : ℕ) (f : SlotsFit n slots) where
+module _ (slots : List ℕ) (long : length slots ≡ 32835) (z : ℕ) (low : z < 32) (n : ℕ) (f : SlotsFit n slots) where
   fits-own : (v m : ℕ) → v ≤ m → n ≤ m → SlotsFit m (set slots (32 + z) v)
   fits-own v m a b =
       record {
@@ -127,25 +127,54 @@ greater-high a b n p q = go (ltb a b) refl
     go true e = let h : a < b = ltb-true a b e in (omega arith, omega arith, omega arith)
     go false e = let h : b ≤ a = ltb-false a b e in (omega arith, omega arith, omega arith)
 
-pub touched : (slots : List ℕ) (z a b : ℕ) → length slots ≡ 32834 → a ≡ pick (ltb (lowOf slots) z) (lowOf slots) z → b ≡ pick (ltb (highOf (set slots 32832 a)) (z + 1)) (z + 1) (highOf (set slots 32832 a)) → Touched slots (set (set slots 32832 a) 32833 b) z
+pub touched : (slots : List ℕ) (z a b : ℕ) → length slots ≡ 32835 → a ≡ pick (ltb (lowOf slots) z) (lowOf slots) z → b ≡ pick (ltb (highOf (set slots 32832 a)) (z + 1)) (z + 1) (highOf (set slots 32832 a)) → Touched slots (set (set slots 32832 a) 32833 b) z
 touched slots z a b long p q =
     let u = set slots 32832 a in
     record {
       low = getD-set-other u 32833 32832 b 0 (λ e. omega arith) ∙ getD-set-same slots 32832 a 0 (omega arith) ∙ p;
       high = getD-set-same u 32833 b 0 (omega (arith, length-set slots 32832 a)) ∙ rw (← getD-set-other slots 32832 32833 a 0 (λ e. omega arith)) q;
       rest = λ i h. getD-set-other u 32833 i b 0 (λ e. omega arith) ∙ getD-set-other slots 32832 i a 0 (λ e. omega arith);
+      met = getD-set-other u 32833 32834 b 0 (λ e. omega arith) ∙ getD-set-other slots 32832 32834 a 0 (λ e. omega arith);
     }
 
-module _ (slots exit : List ℕ) (z : ℕ) (t : Touched slots exit z) where
-  touched-fits : (n : ℕ) → SlotsFit n slots → SlotsFit n exit
-  touched-fits n f = record { left = λ y l. rw (t .rest y (omega arith)) (f .left y l); own = λ y l. rw (t .rest (32 + y) (omega arith)) (f .own y l) }
+-- where the cells of the stacks have not changed
+module _ (slots exit : List ℕ) (rest : (i : ℕ) → i < 32832 → getD exit i 0 ≡ getD slots i 0) where
+  same-fits : (n : ℕ) → SlotsFit n slots → SlotsFit n exit
+  same-fits n f = record { left = λ y l. rw (rest y (omega arith)) (f .left y l); own = λ y l. rw (rest (32 + y) (omega arith)) (f .own y l) }
 
-  touched-stacks : (cache : List ℕ) → SlotsFit 1024 slots → stacksOf exit cache ≡ stacksOf slots cache
-  touched-stacks cache f =
+  same-stacks : (cache : List ℕ) → SlotsFit 1024 slots → stacksOf exit cache ≡ stacksOf slots cache
+  same-stacks cache f =
       fun-ext
       (λ y. stacks-by exit slots cache y
-      (λ l. rw (stacks-in exit cache y l, stacks-in slots cache y l, t .rest (32 + y) (omega arith), t .rest y (omega arith), top-same exit slots (64 + y * 1024) (ownOf slots y) (λ j h. t .rest (64 + y * 1024 + j) (omega (arith, f .own y l))))))
+      (λ l. rw (stacks-in exit cache y l, stacks-in slots cache y l, rest (32 + y) (omega arith), rest y (omega arith), top-same exit slots (64 + y * 1024) (ownOf slots y) (λ j h. rest (64 + y * 1024 + j) (omega (arith, f .own y l))))))
 
+pub meets : (slots : List ℕ) (n m : ℕ) → length slots ≡ 32835 → m ≡ pick (ltb (metOf slots) n) n (metOf slots) → Meets slots (set slots 32834 m) n
+meets slots n m long e =
+    record {
+      met = getD-set-same slots 32834 m 0 (omega arith) ∙ e;
+      stacks = same-stacks slots exit rest;
+      fits = same-fits slots exit rest;
+      untouched = λ cache u.
+          record {
+            high = rw (other 32833 (omega arith)) (u .high);
+            below = λ y l h. kept cache y l (u .below y l (omega (arith, other 32832 (omega arith))));
+            above = λ y l h. kept cache y l (u .above y l (omega (arith, other 32833 (omega arith))));
+          };
+    }
+  where
+    exit : List ℕ
+    exit = set slots 32834 m
+
+    other : (i : ℕ) → i < 32834 → getD exit i 0 ≡ getD slots i 0
+    other i h = getD-set-other slots 32834 i m 0 (λ e. omega arith)
+
+    rest : (i : ℕ) → i < 32832 → getD exit i 0 ≡ getD slots i 0
+    rest i h = other i (omega arith)
+
+    kept : (cache : List ℕ) (y : ℕ) → y < 32 → Unchanged cache slots y → Unchanged cache exit y
+    kept cache y l k = (other y (omega arith) ∙ k .0, other (32 + y) (omega arith) ∙ k .1)
+
+module _ (slots exit : List ℕ) (z : ℕ) (t : Touched slots exit z) where
   -- where only stack z has changed since
   touched-range : (cache first : List ℕ) → z < 32 → lowOf slots ≡ lowOf first → highOf slots ≡ highOf first → ((y : ℕ) → y < 32 → (y ≡ z → ⊥) → (leftOf slots y ≡ leftOf first y) × (ownOf slots y ≡ ownOf first y)) → Untouched cache first → Untouched cache exit
   touched-range cache first low p q same u =
@@ -161,7 +190,7 @@ module _ (slots exit : List ℕ) (z : ℕ) (t : Touched slots exit z) where
       kept y l n k = let m = same y l n in (t .rest y (omega arith) ∙ m .0 ∙ k .0, t .rest (32 + y) (omega arith) ∙ m .1 ∙ k .1)
 
 -- ---- a slot is taken
-module _ (slots cache : List ℕ) (long : length slots ≡ 32834) (z : ℕ) (low : z < 32) where
+module _ (slots cache : List ℕ) (long : length slots ≡ 32835) (z : ℕ) (low : z < 32) where
   module _ (own : ℕ) (is : own ≡ ownOf slots z) (some : 0 < own) where
     own-top : stacksOf slots cache z ≡ getD slots (64 + z * 1024 + (own - 1)) 0 ∷ (topFirst slots (64 + z * 1024) (own - 1) ++ topFirst cache (64 + z * 2048) (leftOf slots z))
     own-top = rw (stacks-in slots cache z low, ← is, top-step slots (64 + z * 1024) own some)
@@ -197,6 +226,7 @@ module _ (slots cache : List ℕ) (long : length slots ≡ 32834) (z : ℕ) (low
               (λ y q. stacks-set slots cache (32 + z) (own - 1) y (λ l. ((λ e. omega arith), (λ e. q (omega arith)), (λ j h e. omega arith)))));
           fits = λ n f. fits-own slots long z low n f (own - 1) n (omega (arith, f .own z low)) (omega arith);
           untouched = own-range (own - 1);
+          met = getD-set-other slots (32 + z) 32834 (own - 1) 0 (λ e. omega arith);
         }
 
   module _ (none : ownOf slots z ≡ 0) (left : ℕ) (is : left ≡ leftOf slots z) where
@@ -220,23 +250,24 @@ module _ (slots cache : List ℕ) (long : length slots ≡ 32834) (z : ℕ) (low
           got = rw top;
           stacks =
               rw top
-              (touched-stacks u exit z t cache (left-fits 1024 f)
+              (same-stacks u exit (t .rest) cache (left-fits 1024 f)
               ∙ updated-by (stacksOf u cache) (stacksOf slots cache) z (topFirst cache (64 + z * 2048) (left - 1)) left-here
               (λ y q. stacks-set slots cache z (left - 1) y (λ l. (q, (λ e. omega arith), (λ j h e. omega arith)))));
-          fits = λ n f. touched-fits u exit z t n (left-fits n f);
+          fits = λ n f. same-fits u exit (t .rest) n (left-fits n f);
           untouched =
               touched-range u exit z t cache slots low (getD-set-other slots z 32832 (left - 1) 0 (λ e. omega arith)) (getD-set-other slots z 32833 (left - 1) 0 (λ e. omega arith))
               (λ y l q. (getD-set-other slots z y (left - 1) 0 q, getD-set-other slots z (32 + y) (left - 1) 0 (λ e. omega arith)));
+          met = t .met ∙ getD-set-other slots z 32834 (left - 1) 0 (λ e. omega arith);
         }
 
     pub took-none : left ≡ 0 → Taken slots cache slots z Empty
     unfolding topFirst
     took-none e =
         let top : stacksOf slots cache z ≡ [] = left-stack ∙ ap (topFirst cache (64 + z * 2048)) e in
-        record { got = rw top; stacks = rw top; fits = λ n f. f; untouched = λ u. u }
+        record { got = rw top; stacks = rw top; fits = λ n f. f; untouched = λ u. u; met = refl }
 
 -- ---- a slot is put back
-module _ (slots : List ℕ) (long : length slots ≡ 32834) (z : ℕ) (low : z < 32) (f : SlotsFit 1024 slots) (own s : ℕ) (is : own ≡ ownOf slots z) (room : own < 1024) where
+module _ (slots : List ℕ) (long : length slots ≡ 32835) (z : ℕ) (low : z < 32) (f : SlotsFit 1024 slots) (own s : ℕ) (is : own ≡ ownOf slots z) (room : own < 1024) where
   put-here : (cache : List ℕ) → stacksOf (set (set slots (64 + z * 1024 + own) s) (32 + z) (own + 1)) cache z ≡ s ∷ stacksOf slots cache z
   put-here cache =
       let base = 64 + z * 1024 in
@@ -259,11 +290,12 @@ module _ (slots : List ℕ) (long : length slots ≡ 32834) (z : ℕ) (low : z <
   put exit t =
       let u = set (set slots (64 + z * 1024 + own) s) (32 + z) (own + 1) in
       record {
-        stacks = λ cache. touched-stacks u exit z t cache (put-fits 1024 1024 (omega arith) (omega arith) f) ∙ updated-by (stacksOf u cache) (stacksOf slots cache) z (s ∷ stacksOf slots cache z) (put-here cache) (put-other cache);
-        fits = λ n g. touched-fits u exit z t (n + 1) (put-fits n (n + 1) (omega (arith, g .own z low)) (omega arith) g);
+        stacks = λ cache. same-stacks u exit (t .rest) cache (put-fits 1024 1024 (omega arith) (omega arith) f) ∙ updated-by (stacksOf u cache) (stacksOf slots cache) z (s ∷ stacksOf slots cache z) (put-here cache) (put-other cache);
+        fits = λ n g. same-fits u exit (t .rest) (n + 1) (put-fits n (n + 1) (omega (arith, g .own z low)) (omega arith) g);
         untouched = λ cache.
             touched-range u exit z t cache slots low (put-elsewhere 32832 (λ e. omega arith) (λ e. omega arith)) (put-elsewhere 32833 (λ e. omega arith) (λ e. omega arith))
             (λ y l q. (put-elsewhere y (λ e. omega arith) (λ e. omega arith), put-elsewhere (32 + y) (λ e. q (omega arith)) (λ e. omega arith)));
+        met = t .met ∙ put-elsewhere 32834 (λ e. omega arith) (λ e. omega arith);
       }
 
 -- ---- cells copied: below n two tables have the same
@@ -293,13 +325,14 @@ begin-more slots cache z low past k =
     go y l h true e = rw (eqb-true y z e) (getD-set-same slots z 0 0 low)
     go y l h false e = let q : y ≡ z → ⊥ = eqb-false y z e in getD-set-other slots z y 0 0 q ∙ k .blank y l (omega arith)
 
-begun : (slots cache : List ℕ) → CacheFits cache → Beginning slots cache 64 → lowOf slots ≡ 32 → highOf slots ≡ 0 → Begun cache slots
+begun : (slots cache : List ℕ) → CacheFits cache → Beginning slots cache 64 → lowOf slots ≡ 32 → highOf slots ≡ 0 → metOf slots ≡ 0 → Begun cache slots
 unfolding stacksOf cacheOf topFirst
-begun slots cache f k p q =
+begun slots cache f k p q m =
     record {
       stacks = fun-ext (λ y. go y (ltb y 32) refl);
       fits = record { left = λ y h. rw (k .left y h) (f .deep y h); own = λ y h. rw (own y h) (omega arith) };
       untouched = record { high = omega arith; below = λ y l h. (k .left y l, own y l); above = λ y l h. (k .left y l, own y l) };
+      met = m;
     }
   where
     own : (y : ℕ) → y < 32 → ownOf slots y ≡ 0
@@ -309,17 +342,22 @@ begun slots cache f k p q =
     go y true e = let h : y < 32 = ltb-true y 32 e in rw (k .left y h, own y h)
     go y false e = refl
 
-pub began : (slots cache : List ℕ) → length slots ≡ 32834 → CacheFits cache → Beginning slots cache 64 → Begun cache (set (set slots 32832 32) 32833 0)
+pub began : (slots cache : List ℕ) → length slots ≡ 32835 → CacheFits cache → Beginning slots cache 64 → Begun cache (set (set (set slots 32832 32) 32833 0) 32834 0)
 began slots cache long f k =
-    begun (set u 32833 0) cache f
+    begun (set w 32834 0) cache f
     (record { left = λ y h. other y (omega arith) ∙ k .left y h; blank = λ y l h. other y (omega arith) ∙ k .blank y l h })
-    (getD-set-other u 32833 32832 0 0 (λ e. omega arith) ∙ getD-set-same slots 32832 32 0 (omega arith)) (getD-set-same u 32833 0 0 (omega (arith, length-set slots 32832 32)))
+    (getD-set-other w 32834 32832 0 0 (λ e. omega arith) ∙ getD-set-other u 32833 32832 0 0 (λ e. omega arith) ∙ getD-set-same slots 32832 32 0 (omega arith))
+    (getD-set-other w 32834 32833 0 0 (λ e. omega arith) ∙ getD-set-same u 32833 0 0 (omega (arith, length-set slots 32832 32)))
+    (getD-set-same w 32834 0 0 (omega (arith, length-set slots 32832 32, length-set u 32833 0)))
   where
     u : List ℕ
     u = set slots 32832 32
 
-    other : (y : ℕ) → y < 64 → getD (set u 32833 0) y 0 ≡ getD slots y 0
-    other y h = getD-set-other u 32833 y 0 0 (λ e. omega arith) ∙ getD-set-other slots 32832 y 32 0 (λ e. omega arith)
+    w : List ℕ
+    w = set u 32833 0
+
+    other : (y : ℕ) → y < 64 → getD (set w 32834 0) y 0 ≡ getD slots y 0
+    other y h = getD-set-other w 32834 y 0 0 (λ e. omega arith) ∙ getD-set-other u 32833 y 0 0 (λ e. omega arith) ∙ getD-set-other slots 32832 y 32 0 (λ e. omega arith)
 
 -- ---- a cache with no depths
 pub zero-more : (cache : List ℕ) (z : ℕ) → z < length cache → ((y : ℕ) → y < z → getD cache y 0 ≡ 0) → (y : ℕ) → y < z + 1 → getD (set cache z 0) y 0 ≡ 0

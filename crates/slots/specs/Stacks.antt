@@ -1,7 +1,8 @@
 -- The emergency slots of a function (the cache), and what a patch has done to them so far.
 --   cache: depth of stack z at z, slots made at 32, stack z from 64 + 2048 z, the bottom first
 --   slots, for one patch: how many of the cache's stack z are left at z, how many were put back since at 32 + z, those from 64 + 1024 z;
---     the stacks that the patch has changed lie from the number at 32832 to before that at 32833
+--     the stacks that the patch has changed lie from the number at 32832 to before that at 32833;
+--     the greatest position that its searches met at 32834
 use Prim.Native.Nat.{ℕ, zero, suc, _+_, _*_, _<_, _≤_}
 use mathlib.Core.Path.{_≡_}
 use mathlib.Core.Bool.{Bool, true, false}
@@ -30,6 +31,9 @@ lowOf slots = getD slots 32832 0
 
 abbrev pub highOf : List ℕ → ℕ
 highOf slots = getD slots 32833 0
+
+abbrev pub metOf : List ℕ → ℕ
+metOf slots = getD slots 32834 0
 
 unfoldable pub cacheOf : List ℕ → Cache
 cacheOf cache = record { stacks = λ z. pick (ltb z 32) (topFirst cache (64 + z * 2048) (depthOf cache z)) []; made = getD cache 32 0 }

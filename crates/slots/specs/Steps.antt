@@ -10,7 +10,7 @@ use Rattle.rules.specs.Edit.{updated}
 use Rattle.rules.specs.Scratch.{emptyCache}
 use Rattle.slots.specs.declared.Popped.{Popped}
 use Rattle.slots.specs.declared.Popped.the-variants.{At, Empty}
-use Rattle.slots.specs.Stacks.{topFirst, depthOf, lowOf, highOf, cacheOf, stacksOf, CacheFits, SlotsFit, Untouched}
+use Rattle.slots.specs.Stacks.{topFirst, depthOf, lowOf, highOf, metOf, cacheOf, stacksOf, CacheFits, SlotsFit, Untouched}
 
 abbrev pub poppedOf : Popped → Option ℕ
 poppedOf (At s) = some s
@@ -34,22 +34,33 @@ pub record Begun (cache exit : List ℕ) : Type 0 where
   pub stacks : stacksOf exit cache ≡ cacheOf cache .stacks
   pub fits : SlotsFit 0 exit
   pub untouched : Untouched cache exit
+  pub met : metOf exit ≡ 0
 
 -- the range reaches to stack z, and nothing else has changed
 pub record Touched (slots exit : List ℕ) (z : ℕ) : Type 0 where
   pub low : lowOf exit ≡ pick (ltb (lowOf slots) z) (lowOf slots) z
   pub high : highOf exit ≡ pick (ltb (highOf slots) (z + 1)) (z + 1) (highOf slots)
   pub rest : (i : ℕ) → i < 32832 → getD exit i 0 ≡ getD slots i 0
+  pub met : metOf exit ≡ metOf slots
 
 pub record Taken (slots cache exit : List ℕ) (z : ℕ) (r : Popped) : Type 0 where
   pub got : poppedOf r ≡ topOf (stacksOf slots cache z)
   pub stacks : stacksOf exit cache ≡ withoutTop (stacksOf slots cache z) z (stacksOf slots cache)
   pub fits : (n : ℕ) → SlotsFit n slots → SlotsFit n exit
   pub untouched : Untouched cache slots → Untouched cache exit
+  pub met : metOf exit ≡ metOf slots
 
 pub record PutBack (slots exit : List ℕ) (z s : ℕ) : Type 0 where
   pub stacks : (cache : List ℕ) → stacksOf exit cache ≡ updated z (s ∷ stacksOf slots cache z) (stacksOf slots cache)
   pub fits : (n : ℕ) → SlotsFit n slots → SlotsFit (n + 1) exit
+  pub untouched : (cache : List ℕ) → Untouched cache slots → Untouched cache exit
+  pub met : metOf exit ≡ metOf slots
+
+-- a position is met, and nothing of the stacks has changed
+pub record Meets (slots exit : List ℕ) (n : ℕ) : Type 0 where
+  pub met : metOf exit ≡ pick (ltb (metOf slots) n) n (metOf slots)
+  pub stacks : (cache : List ℕ) → SlotsFit 1024 slots → stacksOf exit cache ≡ stacksOf slots cache
+  pub fits : (m : ℕ) → SlotsFit m slots → SlotsFit m exit
   pub untouched : (cache : List ℕ) → Untouched cache slots → Untouched cache exit
 
 -- the cache's stack z is what the patch left of it, and no other stack has changed

@@ -8,12 +8,12 @@ ghost use Prim.Native.Nat.{ℕ, _+_, _<_, _≤_};
 ghost use lib.ListN.{length, getD};
 ghost use lib.Dec.{ltb};
 ghost use Rattle.entity.specs.Logic.{pick};
-ghost use Rattle.slots.specs.Stacks.{depthOf, cacheOf, leftOf, ownOf, stacksOf, CacheFits, SlotsFit, Untouched};
-ghost use Rattle.slots.specs.Steps.{Cleared, Begun, Touched, Taken, PutBack, Settled, Committed};
+ghost use Rattle.slots.specs.Stacks.{depthOf, cacheOf, leftOf, ownOf, metOf, stacksOf, CacheFits, SlotsFit, Untouched};
+ghost use Rattle.slots.specs.Steps.{Cleared, Begun, Touched, Taken, PutBack, Meets, Settled, Committed};
 
 pub type SlotCache = [u16; 65600];
 
-pub type Slots = [u16; 32834];
+pub type Slots = [u16; 32835];
 
 // What a stack gives.
 pub enum Popped {
@@ -28,8 +28,8 @@ fn told_cache(t: [u16; 65600]) -> bool
     true
 }
 
-fn told_slots(t: [u16; 32834]) -> bool
-    ensures { λ _. ⌜ length t ≡ 32834 ⌝ }
+fn told_slots(t: [u16; 32835]) -> bool
+    ensures { λ _. ⌜ length t ≡ 32835 ⌝ }
 {
     true
 }
@@ -84,6 +84,7 @@ pub fn begin(slots: &mut Slots, cache: &SlotCache)
     }
     slots[32832] = 32;
     slots[32833] = 0;
+    slots[32834] = 0;
 }
 
 fn lesser(a: u16, b: u16) -> u16
@@ -146,6 +147,21 @@ pub fn put_back(slots: &mut Slots, z: usize, s: SpillSlot)
     slots[64 + z * 1024 + own] = s.0;
     slots[32 + z] = narrow(own + 1);
     touch(slots, z);
+}
+
+// A search of the patch met a position: the greatest is kept.
+pub fn meet(slots: &mut Slots, n: u16)
+    ensures { λ _. ⌜ Meets (now (slots .entry)) (now (slots .exit)) n ⌝ }
+{
+    told_slots(*slots);
+    slots[32834] = greater(slots[32834], n);
+}
+
+// The greatest position that the patch met.
+pub fn met(slots: &Slots) -> u16
+    ensures { λ n. ⌜ n ≡ metOf (now (slots .entry)) ⌝ }
+{
+    slots[32834]
 }
 
 // What was put back on a stack goes onto what is left of the cache's.

@@ -55,8 +55,8 @@ returns c =
     let s = c .before .before .before .before .before .before .before .before .before .before .before .before .before .before .before .before .before .before .before .before .before .before in
     let b = c .before .before .before .before .before .before .before .before .before .before .before .before .before .before .before .before .before .before .before .behind in
     let p = c .before .before .before .before .before .before .answer-patch in
-    let g = called (s .args .t .now) (s .args .f .now) (s .args .s .now) _ (s .args .cache .now) (p .last .1 .1 .1 .1 .1 .0) (p .last .1 .1 .1 .1 .0) _ _ _ (rw (c .before .before .count .given .1) at (p .ensures .0)) in
-    (no-head (s .args .t .now) (s .args .f .now) (s .args .s .now) (s .args .at) (s .args .words .now) (s .args .n) (b .result) (s .pre .2) (b .ensures) (s .args .cache .now) (p .last .1 .1 .1 .1 .1 .0) (p .last .1 .1 .1 .1 .0) _ _ g (p .kept .1 .1 .1 .1 .1 .0) (c .if1 .taken), (tt, tt, tt, tt, tt, tt, tt, tt, tt, tt))
+    let g = called (s .args .t .now) (s .args .f .now) (s .args .s .now) _ (s .args .cache .now) (p .last .1 .1 .1 .1 .1 .0) (p .last .1 .1 .1 .1 .0) _ _ _ _ (rw (c .before .before .count .given .1) at (p .ensures .0)) in
+    (no-head (s .args .t .now) (s .args .f .now) (s .args .s .now) (s .args .at) (s .args .words .now) (s .args .n) (b .result) (s .pre .2) (b .ensures) (s .args .cache .now) (p .last .1 .1 .1 .1 .1 .0) (p .last .1 .1 .1 .1 .0) _ _ _ g (p .kept .1 .1 .1 .1 .1 .0) (c .if1 .taken), (tt, tt, tt, tt, tt, tt, tt, tt, tt, tt))
 
 made-requires : tie.Need-made-requires
 made-requires c κs = search needs
@@ -64,38 +64,41 @@ made-requires c κs = search needs
 wide-requires : tie.Need-wide-requires
 wide-requires c κs = search needs
 
+wide-requires-2 : tie.Need-wide-requires-2
+wide-requires-2 c κs = search needs
+
 head-requires : tie.Need-head-requires
 head-requires c κs =
-    let s = c .before .before .before .before .before .before .before .before .before .before .before .before .before .before .before .before .before .before .before .before .before .before .before .before .before in
-    let b = c .before .before .before .before .before .before .before .before .before .before .before .before .before .before .before .before .before .before .before .before .before .before .behind in
-    let p = c .before .before .before .before .before .before .before .before .before .answer-patch in
-    let g = called (s .args .t .now) (s .args .f .now) (s .args .s .now) _ (s .args .cache .now) (p .last .1 .1 .1 .1 .1 .0) (p .last .1 .1 .1 .1 .0) _ _ _ (rw (c .before .before .before .before .before .count .given .1) at (p .ensures .0)) in
-    (few (s .args .t .now) (s .args .f .now) (s .args .s .now) _ (s .args .cache .now) (p .last .1 .1 .1 .1 .1 .0) (p .last .1 .1 .1 .1 .0) (s .args .at) _ _ (s .pre .0) g, c .wide .ensures .1)
-
-mul-words : tie.Need-mul-words
-mul-words c =
     let s = c .before .before .before .before .before .before .before .before .before .before .before .before .before .before .before .before .before .before .before .before .before .before .before .before .before .before in
     let b = c .before .before .before .before .before .before .before .before .before .before .before .before .before .before .before .before .before .before .before .before .before .before .before .behind in
     let p = c .before .before .before .before .before .before .before .before .before .before .answer-patch in
-    let o = one-left (s .args .words .now) (s .args .n) (b .result) (s .pre .2) (b .ensures) (c .before .before .before .before .if1 .left) in
+    let g = called (s .args .t .now) (s .args .f .now) (s .args .s .now) _ (s .args .cache .now) (p .last .1 .1 .1 .1 .1 .0) (p .last .1 .1 .1 .1 .0) _ _ _ _ (rw (c .before .before .before .before .before .before .count .given .1) at (p .ensures .0)) in
+    (few (s .args .t .now) (s .args .f .now) (s .args .s .now) _ (s .args .cache .now) (p .last .1 .1 .1 .1 .1 .0) (p .last .1 .1 .1 .1 .0) (s .args .at) _ _ _ (s .pre .0) g, c .before .wide .ensures .1, c .wide2 .ensures .1)
+
+mul-words : tie.Need-mul-words
+mul-words c =
+    let s = c .before .before .before .before .before .before .before .before .before .before .before .before .before .before .before .before .before .before .before .before .before .before .before .before .before .before .before in
+    let b = c .before .before .before .before .before .before .before .before .before .before .before .before .before .before .before .before .before .before .before .before .before .before .before .before .behind in
+    let p = c .before .before .before .before .before .before .before .before .before .before .before .answer-patch in
+    let o = one-left (s .args .words .now) (s .args .n) (b .result) (s .pre .2) (b .ensures) (c .before .before .before .before .before .if1 .left) in
     omega (arith, o .1, s .good .1 .1 .1 .1 .1 .1 .1 .1 .1 .1 .1 .1 .1 .1 .1 .0)
 
 slice-write-words : tie.Need-slice-write-words
 slice-write-words c =
-    let s = c .before .before .before .before .before .before .before .before .before .before .before .before .before .before .before .before .before .before .before .before .before .before .before .before .before .before in
-    let b = c .before .before .before .before .before .before .before .before .before .before .before .before .before .before .before .before .before .before .before .before .before .before .before .behind in
-    let p = c .before .before .before .before .before .before .before .before .before .before .answer-patch in
-    let o = one-left (s .args .words .now) (s .args .n) (b .result) (s .pre .2) (b .ensures) (c .before .before .before .before .if1 .left) in
+    let s = c .before .before .before .before .before .before .before .before .before .before .before .before .before .before .before .before .before .before .before .before .before .before .before .before .before .before .before in
+    let b = c .before .before .before .before .before .before .before .before .before .before .before .before .before .before .before .before .before .before .before .before .before .before .before .before .behind in
+    let p = c .before .before .before .before .before .before .before .before .before .before .before .answer-patch in
+    let o = one-left (s .args .words .now) (s .args .n) (b .result) (s .pre .2) (b .ensures) (c .before .before .before .before .before .if1 .left) in
     omega (arith, o .1, back-length (s .args .words .now) (s .args .n) (b .result) (p .last .1 .1 .1 .1 .1 .0) (from-within (s .args .words .now) (s .args .n) (b .result) (s .pre .2) (b .ensures)) (p .kept .1 .1 .1 .1 .1 .0))
 
-add-t42 : tie.Need-add-t42
-add-t42 c =
-    let s = c .before .before .before .before .before .before .before .before .before .before .before .before .before .before .before .before .before .before .before .before .before .before .before .before .before .before in
-    let b = c .before .before .before .before .before .before .before .before .before .before .before .before .before .before .before .before .before .before .before .before .before .before .before .behind in
-    let p = c .before .before .before .before .before .before .before .before .before .before .answer-patch in
-    let o = one-left (s .args .words .now) (s .args .n) (b .result) (s .pre .2) (b .ensures) (c .before .before .before .before .if1 .left) in
-    let g = called (s .args .t .now) (s .args .f .now) (s .args .s .now) _ (s .args .cache .now) (p .last .1 .1 .1 .1 .1 .0) (p .last .1 .1 .1 .1 .0) (patch (regInfoOf (s .args .t .now)) (functionOf (s .args .f .now)) (drop (s .args .at) (s .args .s .now))) _ _ (rw (c .before .before .before .before .before .before .count .given .1) at (p .ensures .0)) in
-    omega (arith, edits-fit (s .args .words .now) (s .args .n) (b .result) (o .0) (o .1) (g .es) 0 (p .last .1 .1 .1 .1 .1 .0) (g .listed) (p .kept .1 .1 .1 .1 .1 .0), g .counted, s .good .1 .1 .1 .1 .1 .1 .1 .1 .1 .1 .1 .1 .1 .1 .1 .0)
+add-t43 : tie.Need-add-t43
+add-t43 c =
+    let s = c .before .before .before .before .before .before .before .before .before .before .before .before .before .before .before .before .before .before .before .before .before .before .before .before .before .before .before in
+    let b = c .before .before .before .before .before .before .before .before .before .before .before .before .before .before .before .before .before .before .before .before .before .before .before .before .behind in
+    let p = c .before .before .before .before .before .before .before .before .before .before .before .answer-patch in
+    let o = one-left (s .args .words .now) (s .args .n) (b .result) (s .pre .2) (b .ensures) (c .before .before .before .before .before .if1 .left) in
+    let g = called (s .args .t .now) (s .args .f .now) (s .args .s .now) _ (s .args .cache .now) (p .last .1 .1 .1 .1 .1 .0) (p .last .1 .1 .1 .1 .0) (patch (regInfoOf (s .args .t .now)) (functionOf (s .args .f .now)) (drop (s .args .at) (s .args .s .now))) _ _ _ (rw (c .before .before .before .before .before .before .before .count .given .1) at (p .ensures .0)) in
+    omega (arith, edits-fit (s .args .words .now) (s .args .n) (b .result) (o .0) (o .1) (g .es) 0 0 (p .last .1 .1 .1 .1 .1 .0) (g .listed) (p .kept .1 .1 .1 .1 .1 .0), g .counted, s .good .1 .1 .1 .1 .1 .1 .1 .1 .1 .1 .1 .1 .1 .1 .1 .0)
 
 same-length-2 : tie.Need-same-length-2
 same-length-2 c = search needs
@@ -112,11 +115,11 @@ same-length-3 c = search needs
 
 returns-3 : tie.Need-returns-3
 returns-3 c =
-    let s = c .before .before .before .before .before .before .before .before .before .before .before .before .before .before .before .before .before .before .before .before .before .before .before .before .before .before in
-    let b = c .before .before .before .before .before .before .before .before .before .before .before .before .before .before .before .before .before .before .before .before .before .before .before .behind in
-    let p = c .before .before .before .before .before .before .before .before .before .before .answer-patch in
-    let g = called (s .args .t .now) (s .args .f .now) (s .args .s .now) _ (s .args .cache .now) (p .last .1 .1 .1 .1 .1 .0) (p .last .1 .1 .1 .1 .0) _ _ _ (rw (c .before .before .before .before .before .before .count .given .1) at (p .ensures .0)) in
-    (next-put (s .args .t .now) (s .args .f .now) (s .args .s .now) (s .args .at) (s .args .words .now) (s .args .n) (b .result) (s .pre .2) (b .ensures) (s .args .cache .now) (p .last .1 .1 .1 .1 .1 .0) (p .last .1 .1 .1 .1 .0) _ _ g (p .kept .1 .1 .1 .1 .1 .0) (c .before .before .before .before .if1 .left) (few (s .args .t .now) (s .args .f .now) (s .args .s .now) _ (s .args .cache .now) (p .last .1 .1 .1 .1 .1 .0) (p .last .1 .1 .1 .1 .0) (s .args .at) _ _ (s .pre .0) g) _ _ (c .before .wide .ensures .1) (c .before .wide .ensures .0 ∙ c .before .before .made .ensures) (c .head .ensures), (tt, tt, tt, tt, tt, tt, tt, tt, tt, tt))
+    let s = c .before .before .before .before .before .before .before .before .before .before .before .before .before .before .before .before .before .before .before .before .before .before .before .before .before .before .before in
+    let b = c .before .before .before .before .before .before .before .before .before .before .before .before .before .before .before .before .before .before .before .before .before .before .before .before .behind in
+    let p = c .before .before .before .before .before .before .before .before .before .before .before .answer-patch in
+    let g = called (s .args .t .now) (s .args .f .now) (s .args .s .now) _ (s .args .cache .now) (p .last .1 .1 .1 .1 .1 .0) (p .last .1 .1 .1 .1 .0) _ _ _ _ (rw (c .before .before .before .before .before .before .before .count .given .1) at (p .ensures .0)) in
+    (next-put (s .args .t .now) (s .args .f .now) (s .args .s .now) (s .args .at) (s .args .words .now) (s .args .n) (b .result) (s .pre .2) (b .ensures) (s .args .cache .now) (p .last .1 .1 .1 .1 .1 .0) (p .last .1 .1 .1 .1 .0) _ _ _ g (p .kept .1 .1 .1 .1 .1 .0) (c .before .before .before .before .before .if1 .left) (few (s .args .t .now) (s .args .f .now) (s .args .s .now) _ (s .args .cache .now) (p .last .1 .1 .1 .1 .1 .0) (p .last .1 .1 .1 .1 .0) (s .args .at) _ _ _ (s .pre .0) g) _ _ _ (c .before .before .wide .ensures .1) (c .before .before .wide .ensures .0 ∙ c .before .before .before .made .ensures) (c .before .wide2 .ensures .1) (c .before .wide2 .ensures .0) (c .head .ensures), (tt, tt, tt, tt, tt, tt, tt, tt, tt, tt))
 
 pub answer-next-spec : {M : Type 1} → statement M
 answer-next-spec =
@@ -134,10 +137,11 @@ answer-next-spec =
     returns
     made-requires
     wide-requires
+    wide-requires-2
     head-requires
     mul-words
     slice-write-words
-    add-t42
+    add-t43
     same-length-2
     returns-2
     same-length-3

@@ -31,7 +31,7 @@ same-length-2 : tie.Need-same-length-2
 same-length-2 c = search needs
 
 returns-2 : tie.Need-returns-2
-returns-2 c = let a = c .before .before .before .before .before .before .before .before .before .before .before .before .before .before .before .before .args in (λ p q. call-edits (a .f .now) (a .next) (a .list .now) _ (a .cache .now) _ (resolveSorted (regInfoOf (a .t .now)) (functionOf (a .f .now)) p (length (a .list .now)) (cacheOf (a .cache .now)) (sortedOf (a .e .now))) _ (rw (c .before .n .given .1) at (c .before .before .before .before .before .resolve .ensures .0 p q)), search needs)
+returns-2 c = let a = c .before .before .before .before .before .before .before .before .before .before .before .before .before .before .before .before .args in (λ p q. call-edits (a .f .now) (a .next) (a .list .now) _ (a .cache .now) _ (resolveSorted (regInfoOf (a .t .now)) (functionOf (a .f .now)) p (length (a .list .now)) (cacheOf (a .cache .now)) (sortedOf (a .e .now))) _ _ (rw (c .before .n .given .1) at (c .before .before .before .before .before .resolve .ensures .0 p q)), search needs)
 
 pub resolve-before-spec : {M : Type 1} → statement M
 resolve-before-spec =

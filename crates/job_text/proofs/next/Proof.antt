@@ -72,7 +72,7 @@ put-patch-requires c κs =
     let e = s .pre .1 in
     let a = c .before .before .before .before .before .before .before .before .answer-patch in
     let len = c .before .before .before .before .before .before .before .before .before .before .before .before .before .before .before .before .before .before .before .before .before .told .ensures in
-    let g = resolved T F S (p .at) (s .args .list .now) len C (a .last .1 .1 .1 .1 .1 .0) (a .last .1 .1 .1 .1 .0) _ _ (rw (c .before .before .before .before .before .before .count .given .1) at (a .ensures .0)) in
+    let g = resolved T F S (p .at) (s .args .list .now) len C (a .last .1 .1 .1 .1 .1 .0) (a .last .1 .1 .1 .1 .0) _ _ _ (rw (c .before .before .before .before .before .before .count .given .1) at (a .ensures .0)) in
     (s .pre .2, omega (arith, h .going e .few, c .before .before .before .before .before .before .before .before .before .before .before .before .before .before .before .before .before .before .before .before .before .before .before .if1 .left), omega (arith, g .within, a .kept .1 .1 .1 .1 .1 .0, len), c .before .before .wide .ensures .1)
 
 sub-t53 : tie.Need-sub-t53
@@ -117,8 +117,8 @@ returns-3 c =
     let a = c .before .before .before .before .before .before .before .before .before .before .before .answer-patch in
     let put = c .before .before .put-patch in
     let len = c .before .before .before .before .before .before .before .before .before .before .before .before .before .before .before .before .before .before .before .before .before .before .before .before .told .ensures in
-    let g = resolved T F S (p .at) (s .args .list .now) len C (a .last .1 .1 .1 .1 .1 .0) (a .last .1 .1 .1 .1 .0) _ _ (rw (c .before .before .before .before .before .before .before .before .before .count .given .1) at (a .ensures .0)) in
-    ((next-stands T F S C O p e h (s .args .list .now) len (a .last .1 .1 .1 .1 .1 .0) (a .last .1 .1 .1 .1 .0) _ _ (omega (arith, c .before .before .before .before .before .before .before .before .before .before .before .before .before .before .before .before .before .before .before .before .before .before .before .before .before .before .if1 .left)) g _ (put .result) (put .last .0) (put .ensures .1) (c .before .before .before .before .before .wide .ensures .0 ∙ c .before .before .before .before .before .before .made .ensures) (put .ensures .0), refl, rw e (omega (arith, c .before .before .before .before .before .before .before .before .before .before .before .before .before .before .before .before .before .before .before .before .before .before .before .before .before .before .if1 .left))), (tt, tt, tt, tt, tt, tt, tt, tt, tt, tt, tt))
+    let g = resolved T F S (p .at) (s .args .list .now) len C (a .last .1 .1 .1 .1 .1 .0) (a .last .1 .1 .1 .1 .0) _ _ _ (rw (c .before .before .before .before .before .before .before .before .before .count .given .1) at (a .ensures .0)) in
+    ((next-stands T F S C O p e h (s .args .list .now) len (a .last .1 .1 .1 .1 .1 .0) (a .last .1 .1 .1 .1 .0) _ _ _ (omega (arith, c .before .before .before .before .before .before .before .before .before .before .before .before .before .before .before .before .before .before .before .before .before .before .before .before .before .before .if1 .left)) g _ (put .result) (put .last .0) (put .ensures .1) (c .before .before .before .before .before .wide .ensures .0 ∙ c .before .before .before .before .before .before .made .ensures) (put .ensures .0), refl, rw e (omega (arith, c .before .before .before .before .before .before .before .before .before .before .before .before .before .before .before .before .before .before .before .before .before .before .before .before .before .before .if1 .left))), (tt, tt, tt, tt, tt, tt, tt, tt, tt, tt, tt))
 
 pub next-spec : {M : Type 1} → statement M
 next-spec =

@@ -27,11 +27,14 @@ commit-requires c κs =
     let pre = c .before .before .before .before .before .before .before .before .before .pre in
     (pre .put, pre .deep (omega (arith, c .before .before .before .before .before .before .before .slot-limit .ensures, c .before .before .before .before .before .before .wide .ensures, c .before .before .before .before .before .if1 .left)), pre .untouched)
 
+met-requires : tie.Need-met-requires
+met-requires c κs = search needs
+
 same-length : tie.Need-same-length
 same-length c = search needs
 
 returns-2 : tie.Need-returns-2
-returns-2 c = let a = c .before .before .before .before .before .before .before .before .before .before .args in handed (a .f .now) (a .cache .now) (a .list .now) (a .k) (a .edits .now) (a .slots .now) _ _ (c .before .before .before .before .before .before .before .before .slot-limit .ensures) (c .before .before .before .before .before .before .before .wide .ensures .0) _ _ _ (c .before .before .before .before .before .before .if1 .left) (c .before .before .before .before .hand-out .ensures) (c .commit .ensures)
+returns-2 c = let a = c .before .before .before .before .before .before .before .before .before .before .before .args in handed (a .f .now) (a .cache .now) (a .list .now) (a .k) (a .edits .now) (a .slots .now) _ _ (c .before .before .before .before .before .before .before .before .before .slot-limit .ensures) (c .before .before .before .before .before .before .before .before .wide .ensures .0) _ _ _ _ (c .before .before .before .before .before .before .before .if1 .left) (c .before .before .before .before .before .hand-out .ensures) (c .before .commit .ensures) (c .met .ensures)
 
 pub hand-over-spec : {M : Type 1} → statement M
 hand-over-spec =
@@ -42,5 +45,6 @@ hand-over-spec =
     returns
     hand-out-requires
     commit-requires
+    met-requires
     same-length
     returns-2)

@@ -50,7 +50,7 @@ loop-less c = search needs
 loop-again : tie.Need-loop-again Inv-loop μ-loop Inv-loop2 μ-loop2
 loop-again c =
     let l = c .before .loop in
-    let long : length (l .slots) ≡ 32834 = l .inv .1 ∙ c .before .before .before .told-slots .ensures in
+    let long : length (l .slots) ≡ 32835 = l .inv .1 ∙ c .before .before .before .told-slots .ensures in
     (omega arith, simp length-set (l .inv .1), alike-more (l .slots) (c .before .before .depths-of .result) (l .z) (omega arith) (l .inv .2))
 
 loop2-holds : tie.Need-loop2-holds Inv-loop μ-loop Inv-loop2 μ-loop2
@@ -75,7 +75,7 @@ loop2-less c = search needs
 loop2-again : tie.Need-loop2-again Inv-loop μ-loop Inv-loop2 μ-loop2
 loop2-again c =
     let l = c .before .loop2 in
-    let long : length (l .slots) ≡ 32834 = l .inv .2 ∙ c .before .before .before .loop .inv .1 ∙ c .before .before .before .before .before .told-slots .ensures in
+    let long : length (l .slots) ≡ 32835 = l .inv .2 ∙ c .before .before .before .loop .inv .1 ∙ c .before .before .before .before .before .told-slots .ensures in
     (omega arith, omega arith, simp length-set (l .inv .2), begin-more (l .slots) (c .before .before .before .before .before .before .before .args .cache .now) (l .z) (omega arith) (l .inv .0) (l .inv .3))
 
 element-write-slots-3 : tie.Need-element-write-slots-3 Inv-loop μ-loop Inv-loop2 μ-loop2
@@ -83,6 +83,9 @@ element-write-slots-3 c = search needs
 
 element-write-slots-4 : tie.Need-element-write-slots-4 Inv-loop μ-loop Inv-loop2 μ-loop2
 element-write-slots-4 c = search needs
+
+element-write-slots-5 : tie.Need-element-write-slots-5 Inv-loop μ-loop Inv-loop2 μ-loop2
+element-write-slots-5 c = search needs
 
 returns : tie.Need-returns Inv-loop μ-loop Inv-loop2 μ-loop2
 returns c =
@@ -117,4 +120,5 @@ begin-spec =
     loop2-again
     element-write-slots-3
     element-write-slots-4
+    element-write-slots-5
     returns)

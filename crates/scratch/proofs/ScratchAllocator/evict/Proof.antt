@@ -16,7 +16,7 @@ evict-last-requires c κs =
     (pre .0, brought-all _ _ _ _ _ _ _ got, got .fits 0 1 2 (pre .1))
 
 returns : tie.Need-returns
-returns c = λ available. found-evicted _ _ _ _ _ _ _ _ _ _ _ (c .before .before .before .unevict-all .ensures available) (c .evict-last .ensures available)
+returns c = λ available. found-evicted _ _ _ _ _ _ _ _ _ _ _ _ (c .before .before .before .unevict-all .ensures available) (c .evict-last .ensures available)
 
 pub evict-spec : {M : Type 1} → statement M
 evict-spec = tie.close (tie.spec unevict-all-requires evict-last-requires returns)

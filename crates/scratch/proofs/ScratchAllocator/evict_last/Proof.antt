@@ -41,7 +41,7 @@ narrow-requires c κs =
 returns : tie.Need-returns
 returns c =
     let pre = c .before .before .before .before .before .before .before .before .before .before .pre in
-    λ available. found-last _ _ _ _ _ _ _ _ _ _ _ _ _ _ _ _ (pre .0) (pre .1) (c .before .before .before .before .before .before .before .before .before .spillslot-size .ensures) (c .before .before .before .before .before .before .before .acquire .ensures) (c .before .before .before .before .order-last .ensures) (c .before .before .push-reload .ensures) (c .narrow .ensures) (c .before .reg .ensures)
+    λ available. found-last _ _ _ _ _ _ _ _ _ _ _ _ _ _ _ _ _ (pre .0) (pre .1) (c .before .before .before .before .before .before .before .before .before .spillslot-size .ensures) (c .before .before .before .before .before .before .before .acquire .ensures) (c .before .before .before .before .order-last .ensures) (c .before .before .push-reload .ensures) (c .narrow .ensures) (c .before .reg .ensures)
 
 pub evict-last-spec : {M : Type 1} → statement M
 evict-last-spec =

@@ -17,7 +17,7 @@ evict-requires : tie.Need-evict-requires
 evict-requires c κs = c .before .before .before .before .pre
 
 returns : tie.Need-returns
-returns c = λ available. found-none _ _ _ _ _ _ _ _ _ (c .before .before .before .enum-told .given .1) (c .evict .ensures available)
+returns c = λ available. found-none _ _ _ _ _ _ _ _ _ _ (c .before .before .before .enum-told .given .1) (c .evict .ensures available)
 
 class-has-reg-requires : tie.Need-class-has-reg-requires
 class-has-reg-requires c κs =
@@ -35,14 +35,14 @@ returns-2 : tie.Need-returns-2
 returns-2 c =
     let pre = c .before .before .before .before .before .before .pre in
     let e = c .before .before .before .before .e .given .1 in
-    λ available. found-member _ _ _ _ _ _ _ _ _ _ e _ (pre .0 .checked) (held-fits e (pre .1) .0) (c .reg .ensures) _ (c .before .before .class-has-reg .ensures) (c .before .if1 .taken)
+    λ available. found-member _ _ _ _ _ _ _ _ _ _ _ e _ (pre .0 .checked) (held-fits e (pre .1) .0) (c .reg .ensures) _ (c .before .before .class-has-reg .ensures) (c .before .if1 .taken)
 
 evict-requires-2 : tie.Need-evict-requires-2
 evict-requires-2 c κs = c .before .before .before .before .before .before .before .pre
 
 returns-3 : tie.Need-returns-3
 returns-3 c =
-    λ available. found-stranger _ _ _ _ _ _ _ _ _ _ (c .before .before .before .before .before .before .e .given .1) _ _ _ (c .before .before .before .before .class-has-reg .ensures) (c .before .before .before .if1 .left) (c .evict2 .ensures available)
+    λ available. found-stranger _ _ _ _ _ _ _ _ _ _ _ (c .before .before .before .before .before .before .e .given .1) _ _ _ (c .before .before .before .before .class-has-reg .ensures) (c .before .before .before .if1 .left) (c .evict2 .ensures available)
 
 pub reuse-spec : {M : Type 1} → statement M
 reuse-spec =

@@ -17,7 +17,7 @@ spillslot-requires : tie.Need-spillslot-requires
 spillslot-requires c κs = omega (arith, c .before .before .acquire .ensures .small)
 
 returns : tie.Need-returns
-returns c = λ edits available. found-slot _ _ _ _ _ _ _ _ _ _ _ _ (c .before .before .before .before .spillslot-size .ensures) (c .before .before .before .acquire .ensures) (c .spillslot .ensures)
+returns c = λ edits available. found-slot _ _ _ _ _ _ _ _ _ _ _ _ _ (c .before .before .before .before .spillslot-size .ensures) (c .before .before .before .acquire .ensures) (c .spillslot .ensures)
 
 pub slot-scratch-spec : {M : Type 1} → statement M
 slot-scratch-spec =
