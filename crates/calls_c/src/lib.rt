@@ -27,7 +27,7 @@ ghost use Rattle.calls_c.specs.Called.{OpenedBy, CalledAs};
 
 // Opens the target and the function that the bytes are, for `parallel_moves_resolve`: answers 0, or 01's number.
 #[no_mangle]
-pub extern "C" fn parallel_moves_open_2(
+pub extern "C" fn parallel_moves_open_3(
     bytes: &[u8],
     target: &mut RegInfo,
     function: &mut Function,
@@ -45,7 +45,7 @@ pub extern "C" fn parallel_moves_open_2(
 // `refusal` to 01's number or 0, and `position`, unless it is refused, to the greatest position that its searches met. Asked is that target, function and cache are as `parallel_moves_open` left them when it answered 0, the cache
 // as the last call on it left it: "nothing else writes the cache between calls".
 #[no_mangle]
-pub extern "C" fn parallel_moves_resolve_2(
+pub extern "C" fn parallel_moves_resolve_3(
     target: &RegInfo,
     function: &Function,
     free: &[u32],
@@ -99,7 +99,7 @@ pub extern "C" fn parallel_moves_resolve_2(
 
 // How many emergency slots the function has.
 #[no_mangle]
-pub extern "C" fn parallel_moves_made_2(cache: &SlotCache) -> u16
+pub extern "C" fn parallel_moves_made_3(cache: &SlotCache) -> u16
     ensures { λ n. ⌜ n ≡ cacheOf (now (cache .entry)) .made ⌝ }
 {
     slots::made(cache)

@@ -21,7 +21,7 @@ ghost use Rattle.parallel_moves_c.specs.Answered.{AnsweredAs};
 // A whole job: answers how many words the patches that were resolved have, and sets `refusal` to 01's number or 0: 16 at a patch for which too few
 // words are left.
 #[no_mangle]
-pub extern "C" fn parallel_moves_answer_2(
+pub extern "C" fn parallel_moves_answer_3(
     bytes: &[u8],
     words: &mut [u64],
     refusal: &mut u8,
@@ -72,7 +72,7 @@ pub extern "C" fn parallel_moves_answer_2(
 
 // The text of an answer, as the program `resolve` prints it: answers its length, or 0 where `text` is too short and holds the lines that fit.
 #[no_mangle]
-pub extern "C" fn parallel_moves_text_2(words: &[u64], refusal: u8, text: &mut [u8]) -> usize
+pub extern "C" fn parallel_moves_text_3(words: &[u64], refusal: u8, text: &mut [u8]) -> usize
     ensures { λ r. ⌜ Printed (now (text .entry)) (now (text .exit)) (answerText (now (words .entry)) refusal) r ⌝ }
 {
     answer_text::put_answer(text, words, refusal)

@@ -2,10 +2,10 @@ use lib.ListN.{length}
 use Rattle.answer.specs.Room.{jobIn}
 use Rattle.parallel_moves_c.proofs.Answering.{answered, refused}
 use borrow.Author.Needs.{needs}
-use Rattle.parallel_moves_c.proofs.parallel_moves_answer_2.Statement.{statement}
-use Rattle.parallel_moves_c.proofs.parallel_moves_answer_2.Tie as tie
-use Rattle.parallel_moves_c.proofs.parallel_moves_answer_2.Reads as reads
-use Rattle.parallel_moves_c.proofs.parallel_moves_answer_2.Lts as lts
+use Rattle.parallel_moves_c.proofs.parallel_moves_answer_3.Statement.{statement}
+use Rattle.parallel_moves_c.proofs.parallel_moves_answer_3.Tie as tie
+use Rattle.parallel_moves_c.proofs.parallel_moves_answer_3.Reads as reads
+use Rattle.parallel_moves_c.proofs.parallel_moves_answer_3.Lts as lts
 use Rattle.answer.proofs.answer_job.Reads as answer-job-reads
 
 answer-job-requires : tie.Need-answer-job-requires
@@ -29,8 +29,8 @@ same-length-2 c = search needs
 returns-2 : tie.Need-returns-2
 returns-2 c = let p = c .before .before .before .before .before .answer-job in (refused (c .before .before .before .before .before .before .before .before .before .before .before .before .before .before .before .before .before .before .before .before .before .before .args .words .now) (jobIn (length (c .before .before .before .before .before .before .before .before .before .before .before .before .before .before .before .before .before .before .before .before .before .before .args .words .now)) (c .before .before .before .before .before .before .before .before .before .before .before .before .before .before .before .before .before .before .before .before .before .before .args .bytes .now)) (p .last .1 .0) _ _ (rw (c .before .k .given .1) at (p .ensures .0)), (tt, tt, tt, tt, tt, tt, tt, tt, tt, tt, tt, tt, tt))
 
-pub parallel-moves-answer-2-spec : {M : Type 1} → statement M
-parallel-moves-answer-2-spec =
+pub parallel-moves-answer-3-spec : {M : Type 1} → statement M
+parallel-moves-answer-3-spec =
     tie.close
     (tie.spec
     answer-job-requires

@@ -5,10 +5,10 @@ use Rattle.slots.specs.Stacks.{cacheOf}
 use Rattle.calls.specs.Call.{callOf}
 use Rattle.calls_c.proofs.Calling.{gave-edits, gave-number}
 use borrow.Author.Needs.{needs}
-use Rattle.calls_c.proofs.parallel_moves_resolve_2.Statement.{statement}
-use Rattle.calls_c.proofs.parallel_moves_resolve_2.Tie as tie
-use Rattle.calls_c.proofs.parallel_moves_resolve_2.Reads as reads
-use Rattle.calls_c.proofs.parallel_moves_resolve_2.Lts as lts
+use Rattle.calls_c.proofs.parallel_moves_resolve_3.Statement.{statement}
+use Rattle.calls_c.proofs.parallel_moves_resolve_3.Tie as tie
+use Rattle.calls_c.proofs.parallel_moves_resolve_3.Reads as reads
+use Rattle.calls_c.proofs.parallel_moves_resolve_3.Lts as lts
 use Rattle.calls.proofs.resolve.Reads as resolve-reads
 
 resolve-requires : tie.Need-resolve-requires
@@ -32,7 +32,7 @@ same-length-2 c = search needs
 returns-2 : tie.Need-returns-2
 returns-2 c = let a = c .before .before .before .before .before .before .before .before .before .before .before .before .before .before .before .before .before .before .before .before .args in (gave-number (a .function .now) (a .position .now) (a .list .now) _ (a .cache .now) _ (callOf (regInfoOf (a .target .now)) (functionOf (a .function .now)) (a .free .now) (a .numbers .now) (length (a .list .now)) (cacheOf (a .cache .now))) _ (rw (c .before .number .given .1) at (c .before .before .before .before .before .resolve .ensures .0)), search needs)
 
-pub parallel-moves-resolve-2-spec : {M : Type 1} → statement M
-parallel-moves-resolve-2-spec =
+pub parallel-moves-resolve-3-spec : {M : Type 1} → statement M
+parallel-moves-resolve-3-spec =
     tie.close
     (tie.spec resolve-requires enum-known-count enum-known-number same-length returns same-length-2 returns-2)

@@ -1,10 +1,10 @@
 use Rattle.calls.specs.Opening as calls
 use Rattle.calls_c.proofs.Calling.{opened, not-opened}
 use borrow.Author.Needs.{needs}
-use Rattle.calls_c.proofs.parallel_moves_open_2.Statement.{statement}
-use Rattle.calls_c.proofs.parallel_moves_open_2.Tie as tie
-use Rattle.calls_c.proofs.parallel_moves_open_2.Reads as reads
-use Rattle.calls_c.proofs.parallel_moves_open_2.Lts as lts
+use Rattle.calls_c.proofs.parallel_moves_open_3.Statement.{statement}
+use Rattle.calls_c.proofs.parallel_moves_open_3.Tie as tie
+use Rattle.calls_c.proofs.parallel_moves_open_3.Reads as reads
+use Rattle.calls_c.proofs.parallel_moves_open_3.Lts as lts
 use Rattle.calls.proofs.open.Reads as open-reads
 
 open-requires : tie.Need-open-requires
@@ -22,6 +22,6 @@ returns c = let a = c .before .before .before .before .before .before .before .a
 returns-2 : tie.Need-returns-2
 returns-2 c = let a = c .before .before .before .before .before .before .before .before .args in not-opened _ _ (a .cache .now) _ (calls.opened (a .bytes .now)) _ (rw (c .before .k .given .1) at (c .before .before .before .open .ensures))
 
-pub parallel-moves-open-2-spec : {M : Type 1} → statement M
-parallel-moves-open-2-spec =
+pub parallel-moves-open-3-spec : {M : Type 1} → statement M
+parallel-moves-open-3-spec =
     tie.close (tie.spec open-requires enum-told enum-known-k returns returns-2)
