@@ -1,7 +1,7 @@
 /* Reads recorded calls (rust/tests/calls.txt) on standard input and makes each:
- * its edits, refusal and slots must be the recorded ones, and a refused call
- * must leave the list and the cache as they were, byte for byte. Prints how many
- * there were. It is C and C++. */
+ * its edits, refusal, slots and position must be the recorded ones, and a
+ * refused call must leave the list, the cache and the position as they were.
+ * Prints how many there were. It is C and C++. */
 #include <inttypes.h>
 #include <stdio.h>
 #include <stdlib.h>
@@ -80,6 +80,7 @@ static bool resolve_patch(void)
 {
     uint64_t refusal = number();
     uint64_t made = number();
+    uint64_t position = number();
     size_t room = count();
     size_t free_length = read_numbers(free_units);
     size_t numbers_length = read_numbers(numbers);
@@ -93,6 +94,7 @@ static bool resolve_patch(void)
     memcpy(before, list, sizeof list);
     memcpy(cache, memory.cache, sizeof cache);
     uint8_t given = 99;
+    uint16_t last = memory.position;
     size_t edits = parallel_moves_resolve_in(
         &memory, free_units, free_length, numbers, numbers_length, list, room, &given);
     if (given != refusal || edits != length) {
@@ -109,6 +111,9 @@ static bool resolve_patch(void)
     }
     if (parallel_moves_slots_made(memory.cache) != made) {
         fail("another number of slots made");
+    }
+    if (memory.position != (refusal == 0 ? position : last)) {
+        fail("another position");
     }
     return refusal != 0;
 }

@@ -35,7 +35,7 @@
 /* The version of the interface: of what each function is lent, and how long the
  * tables are. The names in the library end in it, so that a library of another
  * version does not link. */
-#define PARALLEL_MOVES_INTERFACE 2
+#define PARALLEL_MOVES_INTERFACE 3
 
 #define PARALLEL_MOVES_STRING_OF(text) #text
 #define PARALLEL_MOVES_STRING(text) PARALLEL_MOVES_STRING_OF(text)
@@ -76,7 +76,7 @@
 #define PARALLEL_MOVES_ENTRIES 1541
 #define PARALLEL_MOVES_WRITERS 6657
 #define PARALLEL_MOVES_EDITS 1025
-#define PARALLEL_MOVES_SLOTS 32834
+#define PARALLEL_MOVES_SLOTS 32835
 #define PARALLEL_MOVES_DIVERTED 12288
 #define PARALLEL_MOVES_MARKS 129
 #define PARALLEL_MOVES_CARRIED 2049
@@ -101,9 +101,11 @@ PARALLEL_MOVES_LOOK_AT_IT uint8_t parallel_moves_open(
  * parallel_moves_put_move and parallel_moves_put_remat write them. Returns how
  * many edits the patch has, as words at the front of `list`; the words past them
  * are left alone. *refusal is set to 0, or to the number of the refusal (2, 3, 9
- * to 17, 21): look at it first, since then the result is 0, and list and cache
- * are as they were. PARALLEL_MOVES_MOST_EDITS words are enough for every patch. The
- * working tables are `entries` to `carried`. */
+ * to 17, 21): look at it first, since then the result is 0, and list, cache and
+ * *position are as they were. Else *position is set to the greatest position
+ * that a search of the patch met, see parallel_moves_position. As many words as
+ * PARALLEL_MOVES_MOST_EDITS are enough for every patch. The working tables are
+ * `entries` to `carried`. */
 size_t parallel_moves_resolve(
     const uint16_t target[PARALLEL_MOVES_TARGET],
     const uint16_t function[PARALLEL_MOVES_FUNCTION],
@@ -112,6 +114,7 @@ size_t parallel_moves_resolve(
     uint16_t cache[PARALLEL_MOVES_CACHE],
     uint64_t *list, size_t list_length,
     uint8_t *refusal,
+    uint16_t *position,
     uint16_t entries[PARALLEL_MOVES_ENTRIES],
     uint16_t writers[PARALLEL_MOVES_WRITERS],
     bool available[PARALLEL_MOVES_UNITS],
@@ -169,7 +172,8 @@ size_t parallel_moves_text(
 
 /* All tables, about half a megabyte: make one with calloc, and use it for as
  * many calls as you like, one at a time. It has one opened function at most;
- * after parallel_moves_answer_in it has none. */
+ * after parallel_moves_answer_in it has none. `position` is that of the last
+ * patch which parallel_moves_resolve_in resolved, 0 before the first. */
 struct parallel_moves_memory {
     uint64_t edits[PARALLEL_MOVES_EDITS];
     uint16_t target[PARALLEL_MOVES_TARGET];
@@ -184,6 +188,7 @@ struct parallel_moves_memory {
     bool available[PARALLEL_MOVES_UNITS];
     bool sources[PARALLEL_MOVES_UNITS];
     uint8_t marks[PARALLEL_MOVES_MARKS];
+    uint16_t position;
 };
 
 /* parallel_moves_open with the tables of `memory`. */
@@ -191,6 +196,7 @@ PARALLEL_MOVES_LOOK_AT_IT static inline uint8_t parallel_moves_open_in(
     struct parallel_moves_memory *memory,
     const uint8_t *bytes, size_t bytes_length)
 {
+    memory->position = 0;
     return parallel_moves_open(
         bytes, bytes_length, memory->target, memory->function, memory->cache);
 }
@@ -207,7 +213,7 @@ static inline size_t parallel_moves_resolve_in(
     return parallel_moves_resolve(
         memory->target, memory->function,
         free_units, free_units_length, numbers, numbers_length,
-        memory->cache, list, list_length, refusal,
+        memory->cache, list, list_length, refusal, &memory->position,
         memory->entries, memory->writers, memory->available, memory->sources,
         memory->edits, memory->slots, memory->diverted, memory->marks,
         memory->carried);
@@ -259,8 +265,8 @@ static inline size_t parallel_moves_answer_in(
         memory->diverted, memory->marks, memory->carried);
 }
 
-/* A word is a patch's head, (made * 2^16 + count) * 8, or an edit,
- * ((value * 2^14 + from) * 2^14 + to) * 8 + kind. */
+/* A word is a patch's head, ((position * 2^16 + made) * 2^16 + count) * 8, or an
+ * edit, ((value * 2^14 + from) * 2^14 + to) * 8 + kind. */
 enum parallel_moves_word_kind {
     PARALLEL_MOVES_HEAD = 0,
     PARALLEL_MOVES_MOVE = 1,          /* M: the contents of `from`, read whole first, go to `to` */
@@ -292,6 +298,15 @@ static inline size_t parallel_moves_count(uint64_t head)
 static inline uint16_t parallel_moves_made(uint64_t head)
 {
     return PARALLEL_MOVES_AS(uint16_t, head / 524288 % 65536);
+}
+
+/* Of a head: the greatest position that a search of the patch for a scratch
+ * register met, 0 without searches. The position of a search is where in its
+ * class's order the register stands that it found, counted from 0, or the
+ * order's length where none there would do. */
+static inline uint16_t parallel_moves_position(uint64_t head)
+{
+    return PARALLEL_MOVES_AS(uint16_t, head / 34359738368u % 65536);
 }
 
 /* Of an edit: the place that it writes. */

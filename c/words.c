@@ -1,6 +1,7 @@
 /* Reads a job on standard input and prints its answer from the words, taken
- * apart with the header's functions. It is C and C++. Also sees that a list of
- * words that is too short, and a text, are refused. */
+ * apart with the header's functions; with an argument, only the position of each
+ * patch. It is C and C++. Also sees that a list of words that is too short, and a
+ * text, are refused. */
 #include <stdio.h>
 #include <stdlib.h>
 
@@ -59,8 +60,10 @@ static bool short_is_told(size_t length, size_t count, uint8_t refusal)
     return given < count && other == 16;
 }
 
-int main(void)
+int main(int count_of_words, char **given)
 {
+    bool positions = count_of_words > 1;
+    (void)given;
     uint8_t refusal = 99;
     size_t length = fread(job, 1, sizeof job, stdin);
     if (ferror(stdin)) {
@@ -79,6 +82,12 @@ int main(void)
         }
         patch++;
         unsigned made = parallel_moves_made(head);
+        unsigned position = parallel_moves_position(head);
+        if (positions) {
+            printf("%u\n", position);
+            at = end;
+            continue;
+        }
         printf("patch %u edits %zu made %u\n", patch, parallel_moves_count(head), made);
         for (at++; at < end; at++) {
             if (parallel_moves_is_head(words[at])) {
@@ -87,7 +96,7 @@ int main(void)
             print_edit(words[at]);
         }
     }
-    if (refusal != 0) {
+    if (refusal != 0 && !positions) {
         unsigned number = refusal;
         printf("refused %u\n", number);
     }

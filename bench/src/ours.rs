@@ -5,7 +5,7 @@ use crate::draft::{self, Draft, Patch, Place};
 #[link(name = "parallel_moves_c", kind = "static")]
 #[link(name = "calls_c", kind = "static")]
 unsafe extern "C" {
-    #[link_name = "parallel_moves_open_2"]
+    #[link_name = "parallel_moves_open_3"]
     fn parallel_moves_open(
         bytes: *const u8,
         bytes_len: usize,
@@ -14,7 +14,7 @@ unsafe extern "C" {
         cache: *mut u16,
     ) -> u8;
 
-    #[link_name = "parallel_moves_resolve_2"]
+    #[link_name = "parallel_moves_resolve_3"]
     fn parallel_moves_resolve(
         target: *const u16,
         function: *const u16,
@@ -26,6 +26,7 @@ unsafe extern "C" {
         list: *mut u64,
         list_len: usize,
         refusal: *mut u8,
+        position: *mut u16,
         entries: *mut u16,
         writers: *mut u16,
         available: *mut u8,
@@ -37,7 +38,7 @@ unsafe extern "C" {
         carried: *mut u16,
     ) -> usize;
 
-    #[link_name = "parallel_moves_answer_2"]
+    #[link_name = "parallel_moves_answer_3"]
     fn parallel_moves_answer(
         job: *const u8,
         job_len: usize,
@@ -109,7 +110,7 @@ impl Memory {
             available: vec![0; 512],
             sources: vec![0; 512],
             edits: vec![0; 1025],
-            slots: vec![0xa5a5; 32_834],
+            slots: vec![0xa5a5; 32_835],
             diverted: vec![0xa5a5; 12_288],
             marks: vec![0xa5; 129],
             carried: vec![0xa5a5; 2049],
@@ -206,6 +207,7 @@ impl Job {
 pub extern "C" fn timed_ours_patch(job: &mut Job, memory: &mut Memory, patch: usize) -> usize {
     let Given { free, numbers } = &job.patches[patch];
     let mut refusal = 0;
+    let mut position = 0;
     // SAFETY: the tables are as `parallel_moves_open` and the last call left
     // them, each array is as long as the function says, the flags are 0 or 1.
     let count = unsafe {
@@ -220,6 +222,7 @@ pub extern "C" fn timed_ours_patch(job: &mut Job, memory: &mut Memory, patch: us
             memory.list.as_mut_ptr(),
             memory.list.len(),
             &mut refusal,
+            &mut position,
             memory.entries.as_mut_ptr(),
             memory.writers.as_mut_ptr(),
             memory.available.as_mut_ptr(),

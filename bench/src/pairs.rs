@@ -54,19 +54,25 @@ impl Pair {
         }
     }
 
-    /// Answers the job on both sides, whose words must be the same.
+    /// Answers the job on both sides, whose words must be the same but for the
+    /// positions in the heads, which the original does not tell.
     pub fn compare_job(&self, memory: &mut Memory) {
         let (bytes, len) = (self.ours.bytes.as_ptr(), self.ours.bytes.len());
         let count = timed_ours_job(bytes, len, &mut memory.ours);
         let words = timed_original_job(bytes, len, &mut memory.theirs);
         assert_ne!(count, 0, "the job is refused");
         assert_eq!(count, words, "the counts of words differ");
-        assert_eq!(
-            memory.ours.words(count),
-            memory.theirs.words(),
+        let words = memory.ours.words(count).iter();
+        assert!(
+            words.map(without_position).eq(memory.theirs.words().iter().copied()),
             "words differ"
         );
     }
+}
+
+/// A head without its position; any other word.
+fn without_position(word: &u64) -> u64 {
+    if word % 8 == 0 { word % (1 << 35) } else { *word }
 }
 
 /// Nanoseconds of ours and of the original.

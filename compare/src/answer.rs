@@ -5,6 +5,7 @@ use std::panic::{self, AssertUnwindSafe};
 
 use original::internal::parallel_moves::{Edit, ParallelMoves};
 use original::output::{Allocation, AllocationKind, SpillSlot};
+use original::probe::{self, Search};
 
 use crate::number::{NAMES_NOTHING, Reader, Refused};
 use crate::patch::{Entry, Patch};
@@ -27,9 +28,23 @@ pub fn answer(job: &[u8]) -> String {
 
 /// The same, and how many bytes were read.
 pub fn answer_and_place(job: &[u8]) -> (String, usize) {
+    let (text, _, place) = answer_all(job);
+    (text, place)
+}
+
+/// The text, and the greatest position that each resolved patch met.
+pub fn answer_and_positions(job: &[u8]) -> (String, Vec<usize>) {
+    let (text, positions, _) = answer_all(job);
+    (text, positions)
+}
+
+fn answer_all(job: &[u8]) -> (String, Vec<usize>, usize) {
     let mut text = String::new();
+    let mut positions = Vec::new();
     let mut reader = Reader::new(job);
-    let outcome = panic::catch_unwind(AssertUnwindSafe(|| run(&mut reader, &mut text)));
+    let outcome = panic::catch_unwind(AssertUnwindSafe(|| {
+        run(&mut reader, &mut text, &mut positions)
+    }));
     match outcome {
         Ok(Ok(())) => {}
         Ok(Err(Refused(number))) => put(&mut text, format_args!("refused {number}\n")),
@@ -43,7 +58,7 @@ pub fn answer_and_place(job: &[u8]) -> (String, usize) {
             put(&mut text, format_args!("panic {message}\n"));
         }
     }
-    (text, reader.place())
+    (text, positions, reader.place())
 }
 
 /// Keeps panics from being reported anywhere but in the answer.
@@ -51,7 +66,11 @@ pub fn silence_panics() {
     panic::set_hook(Box::new(|_| {}));
 }
 
-fn run(reader: &mut Reader, text: &mut String) -> Result<(), Refused> {
+fn run(
+    reader: &mut Reader,
+    text: &mut String,
+    positions: &mut Vec<usize>,
+) -> Result<(), Refused> {
     if reader.len() > MOST_BYTES {
         return Err(NAMES_NOTHING);
     }
@@ -64,6 +83,7 @@ fn run(reader: &mut Reader, text: &mut String) -> Result<(), Refused> {
         let patch = Patch::read(reader, &target, &values)?;
         let edits = resolver.resolve(&patch)?;
         let made = resolver.made;
+        positions.push(resolver.position);
         put(
             text,
             format_args!("patch {number} edits {} made {made}\n", edits.len()),
@@ -86,6 +106,8 @@ pub(crate) struct Resolver<'a> {
     moves: ParallelMoves,
     /// How many emergency slots were made so far.
     pub(crate) made: usize,
+    /// The greatest position that the searches of the last patch met.
+    pub(crate) position: usize,
 }
 
 impl<'a> Resolver<'a> {
@@ -97,6 +119,7 @@ impl<'a> Resolver<'a> {
             values,
             moves,
             made: 0,
+            position: 0,
         }
     }
 
@@ -121,6 +144,7 @@ impl<'a> Resolver<'a> {
             }
         }
         let made = &mut self.made;
+        probe::searches();
         self.moves.resolve(
             self.target,
             self.values,
@@ -131,10 +155,26 @@ impl<'a> Resolver<'a> {
                 slot
             },
         );
+        let searches = probe::searches();
+        let positions = searches.iter().map(|search| self.position_of(search));
+        self.position = positions.max().unwrap_or(0);
         if self.made > self.values.emergency_limit {
             return Err(OUT_OF_SLOTS);
         }
         Ok(self.moves.edits().collect())
+    }
+
+    /// Where in its class's order a search found its register, counted from 0,
+    /// or the order's length where none there would do.
+    fn position_of(&self, search: &Search) -> usize {
+        let order = &self.target.classes[search.class].order;
+        match search.found {
+            None => order.len(),
+            Some(found) => {
+                let place = order.iter().position(|reg| reg.index() == found);
+                place.expect("what is found stands in the order")
+            }
+        }
     }
 }
 

@@ -83,6 +83,8 @@ pub struct Expected {
     pub outcome: Result<Vec<u64>, Refused>,
     /// How many emergency slots the function has after the call.
     pub made: usize,
+    /// The greatest position that the patch met; 0 if it is refused.
+    pub position: usize,
 }
 
 /// The original over a function, call by call. It sees accepted calls only.
@@ -109,10 +111,12 @@ impl<'a> Session<'a> {
             .room
             .length(patch.as_ref().map_or(0, |patch| patch.bound));
         let outcome = patch.and_then(|patch| self.resolve(patch, room));
+        let position = outcome.as_ref().map_or(0, |_| self.resolver.position);
         Expected {
             room,
             outcome,
             made: self.resolver.made,
+            position,
         }
     }
 
@@ -179,9 +183,13 @@ pub fn record(session: &generate::calls::Session) -> String {
             room,
             outcome,
             made,
+            position,
         } = original.call(call);
         let refusal = outcome.as_ref().map_or_else(|refused| refused.0, |_| 0);
-        put(&mut text, format_args!("call {refusal} {made} {room}"));
+        put(
+            &mut text,
+            format_args!("call {refusal} {made} {position} {room}"),
+        );
         put_list(&mut text, &call.free);
         put_list(&mut text, &call.numbers);
         put_list(&mut text, &outcome.unwrap_or_default());

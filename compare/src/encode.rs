@@ -9,10 +9,12 @@
 //!
 //! A file of trials has, apart from comments and empty lines:
 //! * `define NAME WORD..` up to the line's end;
-//! * `trial NAME`, then the job's words over any number of lines, then a line
+//! * `trial NAME`, then the job's words over any number of lines, then, if the
+//!   positions matter, a line `met` with that of each patch, then a line
 //!   `prints`, then the lines printed, then a line `end`.
 
 use std::collections::BTreeMap;
+use std::fmt;
 use std::str::Lines;
 
 use crate::number;
@@ -32,6 +34,8 @@ pub fn job(text: &str) -> Result<Vec<u8>, Mistake> {
 pub struct Trial {
     pub name: String,
     pub job: Vec<u8>,
+    /// The position of each patch, a line each.
+    pub met: Option<String>,
     pub printed: String,
 }
 
@@ -53,9 +57,14 @@ pub fn trials(text: &str) -> Result<Vec<Trial>, Mistake> {
             "trial" => {
                 let written = until(&mut lines, "prints")?;
                 let printed = until(&mut lines, "end")?;
+                let (written, met) = match written.split_once("\nmet ") {
+                    Some((written, met)) => (written, Some(met)),
+                    None => (&written[..], None),
+                };
                 trials.push(Trial {
                     name: rest.trim().to_owned(),
-                    job: words(&written, &definitions)?,
+                    job: words(written, &definitions)?,
+                    met: met.map(|met| lines_of(met.split_whitespace())),
                     printed,
                 });
             }
@@ -63,6 +72,11 @@ pub fn trials(text: &str) -> Result<Vec<Trial>, Mistake> {
         }
     }
     Ok(trials)
+}
+
+/// Words, a line each.
+pub fn lines_of(words: impl IntoIterator<Item = impl fmt::Display>) -> String {
+    words.into_iter().map(|word| format!("{word}\n")).collect()
 }
 
 /// The lines before the one that is `last`.

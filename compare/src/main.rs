@@ -17,6 +17,9 @@ const HELP: &str = "\
 compare answer
     Reads a job on standard input and prints what document 01 says.
     A panic of the original is printed as a last line `panic MESSAGE`.
+compare met
+    Reads a job on standard input and prints for each resolved patch the greatest
+    position that its searches met.
 compare answer-batch [--text]
     The same for many jobs. In: each job after its length as 4 bytes, lowest
     first. Out: each answer in the same form, or with --text each answer and
@@ -29,7 +32,8 @@ compare encode
     Reads a job written in words on standard input and writes the job.
     Words: 12 (a number), 0x8f (a byte), ( 0 1 3 0 )*128 (repeated), # comment.
 compare trials FILE FOLDER
-    Writes NAME.job and NAME.out into the folder for each trial in the file.
+    Writes NAME.job and NAME.out into the folder for each trial in the file, and
+    NAME.met for those that say which positions they meet.
 compare replay SEED FOLDER
     Writes a fixed choice of jobs and answers: each as the job's length and the
     answer's, as 4 bytes, lowest first, then the job and the answer. The trials
@@ -40,8 +44,9 @@ compare calls SEED COUNT
     Writes COUNT random calls that open a function or give it a patch, with what
     they should come to, a line each, all numbers in base ten:
     open REFUSAL COUNT BYTE..
-    call REFUSAL MADE ROOM COUNT FREE-UNIT.. COUNT NUMBER.. COUNT WORD..
+    call REFUSAL MADE POSITION ROOM COUNT FREE-UNIT.. COUNT NUMBER.. COUNT WORD..
     ROOM is the length of the lent list; the words are those of the edits.
+    POSITION is the greatest that the patch met, and 0 if it is refused.
 compare tally
     Reads answers, each after its length, and prints counts over them.
     Fails if there is a panic among them.
@@ -53,7 +58,8 @@ fn main() -> ExitCode {
     let arguments: Vec<String> = std::env::args().skip(1).collect();
     let arguments: Vec<&str> = arguments.iter().map(String::as_str).collect();
     let outcome = match arguments[..] {
-        ["answer"] => answer_one(),
+        ["answer"] => answer_one(answer::answer),
+        ["met"] => answer_one(|job| encode::lines_of(answer::answer_and_positions(job).1)),
         ["answer-batch"] => answer_batch(false),
         ["answer-batch", "--text"] => answer_batch(true),
         ["generate", seed, count, mode] => generate(seed, count, mode, None),
@@ -105,14 +111,14 @@ fn write_calls(seed: &str, count: &str) -> Outcome {
     Ok(())
 }
 
-fn answer_one() -> Outcome {
+fn answer_one(answered: impl Fn(&[u8]) -> String) -> Outcome {
     answer::silence_panics();
     // One byte past the limit is enough to see that a job is too long.
     let mut job = Vec::new();
     io::stdin()
         .take(answer::MOST_BYTES as u64 + 1)
         .read_to_end(&mut job)?;
-    io::stdout().write_all(answer::answer(&job).as_bytes())?;
+    io::stdout().write_all(answered(&job).as_bytes())?;
     Ok(())
 }
 
@@ -164,6 +170,9 @@ fn write_trials(file: &str, folder: &Path) -> Outcome {
     for trial in encode::trials(&fs::read_to_string(file)?)? {
         fs::write(folder.join(format!("{}.job", trial.name)), trial.job)?;
         fs::write(folder.join(format!("{}.out", trial.name)), trial.printed)?;
+        if let Some(met) = trial.met {
+            fs::write(folder.join(format!("{}.met", trial.name)), met)?;
+        }
     }
     Ok(())
 }

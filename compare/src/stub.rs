@@ -13,10 +13,11 @@ use judge::target::{Register, Target};
 use judge::{answer, words};
 
 /// The faults, each in some answers only.
-const FAULTS: [&str; 21] = [
+const FAULTS: [&str; 24] = [
     "order",       // two edits change places in a patch with four or more
     "place",       // a copy into slot 3 goes to slot 1
     "made",        // a slot too many is counted from the second patch on
+    "position",    // a position from 2 on is one too high
     "patch",       // of five patches and more, the last has no answer
     "number",      // 12 for 13
     "accepted",    // bytes left over are accepted
@@ -30,6 +31,8 @@ const FAULTS: [&str; 21] = [
     "call-number", // 12 for 13
     "call-order",  // the last two of four edits and more change places
     "call-made",   // a slot too many is counted
+    "call-met",    // a position from 2 on is one too high
+    "call-told",   // a call refused by 17 tells a position
     "call-list",   // a call refused by 17 writes a word of the list
     "call-cache",  // a call refused by 13 changes the cache
     "call-past",   // a word past the edits is written
@@ -51,15 +54,17 @@ fn fault() -> &'static str {
     })
 }
 
-/// The words and the refusal of a text.
-fn words_of(text: &str) -> (Vec<u64>, u8) {
+/// The words and the refusal of a text, with the positions of its patches.
+fn words_of(text: &str, positions: &[usize]) -> (Vec<u64>, u8) {
     let mut words = Vec::new();
     let mut refusal = 0;
+    let mut positions = positions.iter().map(|&position| position as u64);
     for line in text.lines() {
         let parts: Vec<&str> = line.split(' ').collect();
         let word = match parts[..] {
             ["patch", _, "edits", count, "made", made] => {
-                (number(made) * 65_536 + number(count)) * 8
+                let position = positions.next().unwrap_or(0);
+                ((position * 65_536 + number(made)) * 65_536 + number(count)) * 8
             }
             ["M", to, from, value] => edit(1, code(to), code(from), number(value)),
             ["R", to, value] => edit(2, code(to), 0, number(value)),
@@ -110,6 +115,7 @@ fn spoil(words: &mut Vec<u64>, refusal: &mut u8) {
                 }
             }
             "made" if patch > 0 => words[at] += 8 * 65_536,
+            "position" if words[at] >> 35 >= 2 => words[at] += 1 << 35,
             "patch" if patch == 4 && at + 1 + count == words.len() => words.truncate(at),
             "words" => {
                 for word in &mut words[at + 1..=at + count] {
@@ -165,7 +171,7 @@ fn whole_patches(words: &[u64], room: usize) -> usize {
 
 /// # Safety
 /// As the library's.
-#[unsafe(export_name = "parallel_moves_answer_2")]
+#[unsafe(export_name = "parallel_moves_answer_3")]
 pub unsafe extern "C" fn parallel_moves_answer(
     job: *const u8,
     job_len: usize,
@@ -187,7 +193,8 @@ pub unsafe extern "C" fn parallel_moves_answer(
     _carried: *mut u16,
 ) -> usize {
     let job = unsafe { slice::from_raw_parts(job, job_len) };
-    let (mut found, mut number) = words_of(&answer::answer(job));
+    let (text, positions) = answer::answer_and_positions(job);
+    let (mut found, mut number) = words_of(&text, &positions);
     spoil(&mut found, &mut number);
     misjudge(job, &mut found, &mut number);
     if fault() != "little-room" {
@@ -206,7 +213,7 @@ pub unsafe extern "C" fn parallel_moves_answer(
 
 /// # Safety
 /// As the library's.
-#[unsafe(export_name = "parallel_moves_text_2")]
+#[unsafe(export_name = "parallel_moves_text_3")]
 pub unsafe extern "C" fn parallel_moves_text(
     words: *const u64,
     words_len: usize,
@@ -242,7 +249,7 @@ fn opened() -> &'static Mutex<HashMap<usize, Session<'static>>> {
 
 /// # Safety
 /// As the library's.
-#[unsafe(export_name = "parallel_moves_open_2")]
+#[unsafe(export_name = "parallel_moves_open_3")]
 pub unsafe extern "C" fn parallel_moves_open(
     bytes: *const u8,
     bytes_len: usize,
@@ -288,7 +295,7 @@ fn overlaps_the_last(session: &Session<'_>, call: &Call) -> bool {
 
 /// # Safety
 /// As the library's.
-#[unsafe(export_name = "parallel_moves_resolve_2")]
+#[unsafe(export_name = "parallel_moves_resolve_3")]
 pub unsafe extern "C" fn parallel_moves_resolve(
     target: *const u16,
     _function: *const u16,
@@ -300,6 +307,7 @@ pub unsafe extern "C" fn parallel_moves_resolve(
     list: *mut u64,
     list_len: usize,
     refusal: *mut u8,
+    position: *mut u16,
     _entries: *mut u16,
     _writers: *mut u16,
     _available: *mut u8,
@@ -335,8 +343,13 @@ pub unsafe extern "C" fn parallel_moves_resolve(
                 _ => {}
             }
             lent[..count].copy_from_slice(&edits);
+            let met = match (fault(), expected.position as u16) {
+                ("call-met", met) if met >= 2 => met + 1,
+                (_, met) => met,
+            };
             unsafe {
                 *refusal = 0;
+                *position = met;
                 *cache = expected.made as u16;
             }
             count
@@ -345,6 +358,7 @@ pub unsafe extern "C" fn parallel_moves_resolve(
             match (fault(), refused.0) {
                 ("call-list", 17) if list_len > 0 => lent[list_len - 1] = 0,
                 ("call-cache", 13) => unsafe { *cache.add(65_599) ^= 1 },
+                ("call-told", 17) => unsafe { *position = 0 },
                 _ => {}
             }
             let number = match (fault(), refused.0) {
@@ -359,7 +373,7 @@ pub unsafe extern "C" fn parallel_moves_resolve(
 
 /// # Safety
 /// As the library's.
-#[unsafe(export_name = "parallel_moves_made_2")]
+#[unsafe(export_name = "parallel_moves_made_3")]
 pub unsafe extern "C" fn parallel_moves_made(cache: *const u16) -> u16 {
     let made = unsafe { *cache };
     if fault() == "call-made" && made > 0 {

@@ -1,6 +1,7 @@
-//! An answer as words. For each patch a head, `(made * 65536 + count) * 8`, and
-//! then its edits, `((value * 16384 + from) * 16384 + to) * 8 + kind`, with
-//! places by their codes (slot s is 2s, register r is 2r + 1).
+//! An answer as words. For each patch a head,
+//! `((position * 65536 + made) * 65536 + count) * 8`, and then its edits,
+//! `((value * 16384 + from) * 16384 + to) * 8 + kind`, with places by their codes
+//! (slot s is 2s, register r is 2r + 1).
 //!
 //! | kind | edit | to | from | value |
 //! |---|---|---|---|---|
@@ -16,6 +17,8 @@ pub struct Answer {
     pub text: String,
     pub patches: u64,
     pub edits: u64,
+    /// Of each patch.
+    pub positions: Vec<usize>,
 }
 
 /// The text of an answer, or what is wrong with its words.
@@ -26,13 +29,15 @@ pub fn answer(words: &[u64], refusal: u8) -> Result<Answer, String> {
     let mut text = String::with_capacity(20 * words.len() + 16);
     let mut patches = 0;
     let mut edits = 0;
+    let mut positions = Vec::new();
     let mut rest = words;
     while let Some((&head, after)) = rest.split_first() {
         if head % 8 != 0 {
             return Err(format!("{head} is no head of a patch"));
         }
         let count = (head / 8 % 65_536) as usize;
-        let made = head / 8 / 65_536;
+        let made = head / 8 / 65_536 % 65_536;
+        positions.push((head / 8 / 65_536 / 65_536) as usize);
         let list = after
             .get(..count)
             .ok_or_else(|| format!("{count} edits, but {} words", after.len()))?;
@@ -54,6 +59,7 @@ pub fn answer(words: &[u64], refusal: u8) -> Result<Answer, String> {
         text,
         patches,
         edits,
+        positions,
     })
 }
 

@@ -14,7 +14,8 @@ use crate::sys;
 #[derive(Clone, PartialEq, Eq, Hash)]
 #[must_use = "a patch is carried out only if all its edits are done"]
 pub struct Answer {
-    /// For each patch a head, `(made * 2^16 + count) * 8`, and its edits.
+    /// For each patch a head, `((position * 2^16 + made) * 2^16 + count) * 8`,
+    /// and its edits.
     words: Box<[u64]>,
 }
 
@@ -138,11 +139,13 @@ impl<'a> Iterator for Patches<'a> {
         let (&head, rest) = self.words.split_first()?;
         let count = (head / 8 % 65_536) as usize;
         let made = (head / 524_288 % 65_536) as u16;
+        let position = (head / 34_359_738_368 % 65_536) as u16;
         let (words, rest) = rest.split_at(count);
         self.words = rest;
         Some(ResolvedPatch {
             edits: Edits::new(words),
             made,
+            position,
         })
     }
 }
@@ -161,6 +164,7 @@ impl fmt::Debug for Patches<'_> {
 pub struct ResolvedPatch<'a> {
     edits: Edits<'a>,
     made: u16,
+    position: u16,
 }
 
 impl<'a> ResolvedPatch<'a> {
@@ -175,6 +179,15 @@ impl<'a> ResolvedPatch<'a> {
     #[must_use]
     pub fn made(&self) -> usize {
         self.made.into()
+    }
+
+    /// The greatest position that a search of the patch for a scratch register
+    /// met, 0 without searches. The position of a search is where in its class's
+    /// order the register stands that it found, counted from 0, or the order's
+    /// length where none there would do.
+    #[must_use]
+    pub fn position(&self) -> usize {
+        self.position.into()
     }
 }
 

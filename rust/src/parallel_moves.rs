@@ -37,6 +37,8 @@ pub const MOST_EDITS: usize = 1024;
 /// let edits: Vec<String> = moves.resolve(&patch)?.iter().map(|e| e.to_string()).collect();
 /// assert_eq!(edits, ["M s0 r1 1", "M r1 r0 0", "M r0 s0 1"]);
 /// assert_eq!(moves.made(), 1);
+/// // Of the three registers of the order none would do.
+/// assert_eq!(moves.position(), 3);
 ///
 /// // A refused patch has no edits, and the next one is resolved as if it had
 /// // not been given.
@@ -109,6 +111,17 @@ impl ParallelMoves {
     #[must_use]
     pub fn made(&self) -> usize {
         self.tables.made().into()
+    }
+
+    /// The greatest position that a search of the last resolved patch for a
+    /// scratch register met, 0 without searches or before the first patch. A
+    /// refused patch leaves it. [`ResolvedPatch::position`] says what a position
+    /// is.
+    ///
+    /// [`ResolvedPatch::position`]: crate::ResolvedPatch::position
+    #[must_use]
+    pub fn position(&self) -> usize {
+        self.tables.position().into()
     }
 }
 

@@ -20,7 +20,7 @@ type SparseMap = [u16; 6657];
 /// Edits in the making, backwards.
 type EditBuffer = [u64; 1025];
 /// The emergency slots that a patch takes and puts back.
-type Slots = [u16; 32_834];
+type Slots = [u16; 32_835];
 /// The diversion of each value.
 type Diverted = [u16; 12_288];
 /// Which moves are visited, and which open.
@@ -31,7 +31,7 @@ type Carried = [u16; 2049];
 // A slice goes as a pointer and a length; an array, or one number, goes as a
 // pointer, which a reference is here.
 unsafe extern "C" {
-    #[link_name = "parallel_moves_open_2"]
+    #[link_name = "parallel_moves_open_3"]
     fn parallel_moves_open(
         bytes: *const u8,
         bytes_length: usize,
@@ -40,7 +40,7 @@ unsafe extern "C" {
         cache: &mut SlotCache,
     ) -> u8;
 
-    #[link_name = "parallel_moves_resolve_2"]
+    #[link_name = "parallel_moves_resolve_3"]
     fn parallel_moves_resolve(
         target: &RegInfo,
         function: &Function,
@@ -52,6 +52,7 @@ unsafe extern "C" {
         list: *mut u64,
         list_length: usize,
         refusal: &mut u8,
+        position: &mut u16,
         entries: &mut Entries,
         writers: &mut SparseMap,
         available: &mut RegUnitSet,
@@ -63,10 +64,10 @@ unsafe extern "C" {
         carried: &mut Carried,
     ) -> usize;
 
-    #[link_name = "parallel_moves_made_2"]
+    #[link_name = "parallel_moves_made_3"]
     safe fn parallel_moves_made(cache: &SlotCache) -> u16;
 
-    #[link_name = "parallel_moves_answer_2"]
+    #[link_name = "parallel_moves_answer_3"]
     fn parallel_moves_answer(
         job: *const u8,
         job_length: usize,
@@ -88,7 +89,7 @@ unsafe extern "C" {
         carried: &mut Carried,
     ) -> usize;
 
-    #[link_name = "parallel_moves_text_2"]
+    #[link_name = "parallel_moves_text_3"]
     fn parallel_moves_text(
         words: *const u64,
         words_length: usize,
@@ -113,6 +114,8 @@ pub(crate) struct Tables {
     diverted: Box<Diverted>,
     marks: Box<Marks>,
     carried: Box<Carried>,
+    /// The greatest position that the last resolved patch met.
+    position: u16,
 }
 
 impl Tables {
@@ -131,6 +134,7 @@ impl Tables {
             diverted: table(),
             marks: table(),
             carried: table(),
+            position: 0,
         }
     }
 
@@ -182,6 +186,7 @@ impl Tables {
             )
         };
         if refusal == 0 {
+            self.position = 0;
             Ok(Opened(self))
         } else {
             Err(refusal)
@@ -229,6 +234,7 @@ impl Opened {
                 list.as_mut_ptr(),
                 list.len(),
                 &mut refusal,
+                &mut tables.position,
                 &mut tables.entries,
                 &mut tables.writers,
                 &mut tables.available,
@@ -246,6 +252,11 @@ impl Opened {
     /// How many emergency slots were made.
     pub(crate) fn made(&self) -> u16 {
         parallel_moves_made(&self.0.cache)
+    }
+
+    /// The greatest position that the last resolved patch met.
+    pub(crate) fn position(&self) -> u16 {
+        self.0.position
     }
 
     /// The bytes of the cache, to see that they stay.

@@ -19,6 +19,7 @@ enum Call {
     Resolve {
         refusal: u8,
         made: usize,
+        position: usize,
         room: usize,
         free: Vec<u32>,
         numbers: Vec<u32>,
@@ -39,6 +40,7 @@ fn calls() -> impl Iterator<Item = Call> {
             "call" => Call::Resolve {
                 refusal,
                 made: number(&mut words),
+                position: number(&mut words),
                 room: number(&mut words),
                 free: list(&mut words),
                 numbers: list(&mut words),
@@ -91,7 +93,7 @@ fn recorded_calls() {
                 match opened {
                     Ok(opened) => {
                         assert_eq!(refusal, 0, "call {number}");
-                        assert_eq!(opened.made(), 0);
+                        assert_eq!((opened.made(), opened.position()), (0, 0));
                         moves = Some(opened);
                     }
                     Err(given) => {
@@ -103,6 +105,7 @@ fn recorded_calls() {
             Call::Resolve {
                 refusal,
                 made,
+                position,
                 room,
                 free,
                 numbers,
@@ -115,6 +118,7 @@ fn recorded_calls() {
                 };
                 let moves = moves.as_mut().unwrap();
                 let cache = moves.tables.cache().to_vec();
+                let last = moves.position();
                 let mut lent: Vec<u64> = (0..room as u64).map(|n| !n ^ number as u64).collect();
                 let before = lent.clone();
                 // A list of the crate's own, where any length is enough.
@@ -143,6 +147,8 @@ fn recorded_calls() {
                     }
                 }
                 assert_eq!(moves.made(), made, "call {number}");
+                let position = if refusal == 0 { position } else { last };
+                assert_eq!(moves.position(), position, "call {number}");
             }
         }
     }

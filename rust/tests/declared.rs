@@ -155,7 +155,7 @@ fn c(function: &str) -> Vec<String> {
         match (length, mutable, name) {
             (Some((_, length)), true, _) => format!("&mut [{kind}; {}]", lengths[length]),
             (Some((_, length)), false, _) => format!("&[{kind}; {}]", lengths[length]),
-            (None, true, "*refusal") => format!("&mut {kind}"),
+            (None, true, "*refusal" | "*position") => format!("&mut {kind}"),
             (None, true, name) if name.starts_with('*') => format!("*mut {kind}"),
             (None, false, _) => format!("*const {kind}"),
             (None, true, _) => kind,
@@ -198,7 +198,8 @@ fn tables<'a>(header: &'a str, function: &str) -> Vec<&'a str> {
     tables.map(|t| t.trim_start_matches("const ")).collect()
 }
 
-/// The struct's tables are those of the functions.
+/// The struct's tables are those of the functions; beside them it has the
+/// position.
 #[test]
 fn memory_agrees() {
     let text = read("c/parallel_moves.h");
@@ -209,6 +210,7 @@ fn memory_agrees() {
         .filter(|f| !f.is_empty())
         .collect();
     let mut all = tables(&text, "parallel_moves_answer");
+    fields.retain(|field| *field != "uint16_t position");
     fields.sort();
     all.sort();
     assert_eq!(fields, all);

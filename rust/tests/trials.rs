@@ -2,7 +2,7 @@
 
 mod common;
 
-use common::{jobs, printed, text};
+use common::{jobs, positions_met, printed, text};
 use parallel_moves::{Edit, PhysReg, Refusal, Resolver, SpillSlot, Value};
 
 #[test]
@@ -11,6 +11,23 @@ fn trials() {
     for (name, job) in jobs("compare/trials") {
         assert_eq!(text(&mut resolver, &job), printed(&name), "{name}");
     }
+}
+
+/// The positions that the original met, where a trial says them.
+#[test]
+fn positions() {
+    let mut resolver = Resolver::new();
+    let mut trials = 0;
+    for (name, job) in jobs("compare/trials") {
+        let Some(met) = positions_met(&name) else {
+            continue;
+        };
+        trials += 1;
+        let answer = resolver.answer(&job).unwrap();
+        let positions: Vec<_> = answer.patches().map(|patch| patch.position()).collect();
+        assert_eq!(positions, met, "{name}");
+    }
+    assert!(trials >= 8);
 }
 
 #[test]
@@ -38,6 +55,7 @@ fn swap_full() {
     let patches: Vec<_> = answer.patches().collect();
     assert_eq!(patches.len(), 1);
     assert_eq!(patches[0].made(), 1);
+    assert_eq!(patches[0].position(), 3);
     let (r0, r1) = (PhysReg::new(0).into(), PhysReg::new(1).into());
     let s0 = SpillSlot::new(0).into();
     let edit = |to, from, value| Edit::Move {

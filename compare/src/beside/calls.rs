@@ -7,7 +7,7 @@ use std::panic::{self, AssertUnwindSafe};
 use judge::calls::{self, Call, Function, Room};
 use judge::generate::calls::Session;
 
-use crate::ours::Ours;
+use crate::ours::{NO_POSITION, Ours};
 
 /// What a session's calls came to.
 #[derive(Default)]
@@ -25,9 +25,10 @@ pub struct Difference {
     pub what: String,
 }
 
-/// Makes a session's calls on both sides. After each refused one the list and
-/// the cache must be as before it, byte for byte; after each other one the edits
-/// and the slots made must be the original's, and the list as before past them.
+/// Makes a session's calls on both sides. After each refused one the list, the
+/// cache and the position must be as before it, byte for byte; after each other
+/// one the edits, the slots made and the position must be the original's, and
+/// the list as before past the edits.
 pub fn compare(ours: &mut Ours, session: &Session) -> Result<Outcome, Difference> {
     let caught = panic::catch_unwind(AssertUnwindSafe(|| both(ours, session)));
     caught.unwrap_or_else(|_| {
@@ -113,7 +114,7 @@ fn one(
         ours.cache().to_vec()
     };
 
-    let (count, refusal) = ours.resolve(&call.free, &call.numbers, expected.room);
+    let (count, refusal, position) = ours.resolve(&call.free, &call.numbers, expected.room);
     if refusal != number {
         return Err(format!("refusal {refusal}, of the original {number}"));
     }
@@ -139,6 +140,15 @@ fn one(
         return Err(format!(
             "{made} slots made, by the original {}",
             expected.made
+        ));
+    }
+    if refusal != 0 && position != NO_POSITION {
+        return Err(format!("a position, with refusal {refusal}"));
+    }
+    if refusal == 0 && usize::from(position) != expected.position {
+        return Err(format!(
+            "position {position}, of the original {}",
+            expected.position
         ));
     }
     Ok((refusal, count))

@@ -41,7 +41,7 @@ pub struct Difference {
 
 /// Compares the answers to a job.
 pub fn compare(ours: &mut Ours, job: &[u8], way: Way) -> Result<Outcome, Box<Difference>> {
-    let original = answer::answer(job);
+    let (original, positions) = answer::answer_and_positions(job);
     let (count, mut refusal) = ours.answer(job, None);
     let printed = ours.text(count, refusal, None).unwrap_or_default();
     let length = printed.len();
@@ -68,6 +68,10 @@ pub fn compare(ours: &mut Ours, job: &[u8], way: Way) -> Result<Outcome, Box<Dif
         _ if !same_text => "the text that ours prints".to_owned(),
         Err(wrong) => format!("the words of ours: {wrong}"),
         Ok(decoded) if decoded.text != original => "the words of ours".to_owned(),
+        Ok(decoded) if decoded.positions != positions => format!(
+            "the positions {:?}, of the original {positions:?}",
+            decoded.positions
+        ),
         Ok(decoded) => {
             let wrong = if way.with_little_room {
                 little_room(ours, job, count, refusal, length)

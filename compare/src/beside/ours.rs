@@ -15,7 +15,7 @@ extern crate stub;
 #[cfg_attr(not(stub), link(name = "parallel_moves_c", kind = "static"))]
 #[cfg_attr(not(stub), link(name = "calls_c", kind = "static"))]
 unsafe extern "C" {
-    #[link_name = "parallel_moves_open_2"]
+    #[link_name = "parallel_moves_open_3"]
     fn parallel_moves_open(
         bytes: *const u8,
         bytes_len: usize,
@@ -24,7 +24,7 @@ unsafe extern "C" {
         cache: *mut u16,
     ) -> u8;
 
-    #[link_name = "parallel_moves_resolve_2"]
+    #[link_name = "parallel_moves_resolve_3"]
     fn parallel_moves_resolve(
         target: *const u16,
         function: *const u16,
@@ -36,6 +36,7 @@ unsafe extern "C" {
         list: *mut u64,
         list_len: usize,
         refusal: *mut u8,
+        position: *mut u16,
         entries: *mut u16,
         writers: *mut u16,
         available: *mut u8,
@@ -47,10 +48,10 @@ unsafe extern "C" {
         carried: *mut u16,
     ) -> usize;
 
-    #[link_name = "parallel_moves_made_2"]
+    #[link_name = "parallel_moves_made_3"]
     fn parallel_moves_made(cache: *const u16) -> u16;
 
-    #[link_name = "parallel_moves_answer_2"]
+    #[link_name = "parallel_moves_answer_3"]
     fn parallel_moves_answer(
         job: *const u8,
         job_len: usize,
@@ -72,7 +73,7 @@ unsafe extern "C" {
         carried: *mut u16,
     ) -> usize;
 
-    #[link_name = "parallel_moves_text_2"]
+    #[link_name = "parallel_moves_text_3"]
     fn parallel_moves_text(
         words: *const u64,
         words_len: usize,
@@ -88,6 +89,9 @@ struct Lent<T> {
     len: usize,
     not_lent: T,
 }
+
+/// What a position is before a call.
+pub const NO_POSITION: u16 = 0x5a5a;
 
 /// How many numbers past the end of an array are watched.
 const WATCHED: usize = 32;
@@ -155,7 +159,7 @@ impl Ours {
             available: flags(512),
             sources: flags(512),
             edits: longs(1025),
-            slots: shorts(32_834),
+            slots: shorts(32_835),
             diverted: shorts(12_288),
             marks: Lent::new(129, [0xa5, 1]),
             carried: shorts(2049),
@@ -211,9 +215,11 @@ impl Ours {
     }
 
     /// Resolves a patch of the function that was opened last, into a list of
-    /// `room` words: how many edits it has, and the refusal.
-    pub fn resolve(&mut self, free: &[u32], numbers: &[u32], room: usize) -> (usize, u8) {
+    /// `room` words: how many edits it has, the refusal, and the position,
+    /// which is `NO_POSITION` if none is told.
+    pub fn resolve(&mut self, free: &[u32], numbers: &[u32], room: usize) -> (usize, u8, u16) {
         let mut refusal = 0x5a;
+        let mut position = NO_POSITION;
         // SAFETY: each array is as long as the function says, the flags are 0
         // or 1, and none lies on another. Target, function and cache are as
         // `open` and the last call left them.
@@ -229,6 +235,7 @@ impl Ours {
                 self.list.pointer(),
                 room.min(MOST_EDITS),
                 &mut refusal,
+                &mut position,
                 self.entries.pointer(),
                 self.writers.pointer(),
                 self.available.pointer(),
@@ -240,7 +247,7 @@ impl Ours {
                 self.carried.pointer(),
             )
         };
-        (count, refusal)
+        (count, refusal, position)
     }
 
     /// How many emergency slots the function has.

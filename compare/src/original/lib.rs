@@ -3,7 +3,8 @@
 //! `../../target/original` is a link to the `src` folder of the original that
 //! `build` was given; `../../target/cut` holds what `build` cut out of two
 //! larger files. Everything else here is a shim of our own: `entity` (the
-//! list of its parts, `iter` and `packed_option`) and the `trace!` macro.
+//! list of its parts, `iter` and `packed_option`) and the `trace!` macro, which
+//! `probe` listens to if the crate is built with `--cfg probed`.
 
 #![no_std]
 // What the original has and this program doesn't use is no concern of ours.
@@ -12,6 +13,7 @@
 extern crate alloc;
 
 /// Trace output is left out; the arguments are still type-checked.
+#[cfg(not(probed))]
 macro_rules! trace {
     ($($argument:tt)*) => {
         if false {
@@ -19,6 +21,20 @@ macro_rules! trace {
         }
     };
 }
+
+/// Of the trace output only searches are heard.
+#[cfg(probed)]
+macro_rules! trace {
+    ($($argument:tt)*) => {{
+        const HEARD: bool = $crate::probe::is_heard(stringify!($($argument)*));
+        if HEARD {
+            $crate::probe::hear(format_args!($($argument)*));
+        }
+    }};
+}
+
+#[cfg(probed)]
+pub mod probe;
 
 #[macro_use]
 pub mod entity;

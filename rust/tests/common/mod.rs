@@ -97,6 +97,13 @@ pub fn printed(name: &str) -> String {
     fs::read_to_string(path.with_extension("out")).expect("each trial has a .out")
 }
 
+/// The positions of a trial's patches, if it says them.
+pub fn positions_met(name: &str) -> Option<Vec<usize>> {
+    let path = root().join("compare/trials").join(name);
+    let text = fs::read_to_string(path.with_extension("met")).ok()?;
+    Some(text.lines().map(|line| line.parse().unwrap()).collect())
+}
+
 /// An answer, or a refused one.
 pub type Answered = Result<Answer, RefusedJob>;
 
