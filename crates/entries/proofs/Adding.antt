@@ -1,7 +1,7 @@
 -- An entry added: which numbers it is refused by, and what is known afterwards.
 use Prim.Native.Nat.{ℕ, suc, _+_, _*_, _<_, _≤_}
 use mathlib.Core.Path.{_≡_, refl, sym, ap, _∙_}
-use mathlib.Core.Bool.{Bool, true, false, true≢false, false≢true}
+use mathlib.Core.Bool.{Bool, true, false, true≢false}
 use mathlib.Core.List.{List, [], _∷_, map}
 use mathlib.Core.Option.{Option, none, some}
 use native.Mathlib.Omega.{arith}
@@ -9,7 +9,7 @@ use lib.Dec.{eqb, ltb}
 use lib.ListN.{getD, length, length-append, length-map, List·getD-append, List·getD-map}
 use borrow.Author.Tests.{eqb-true, eqb-false, eq-eqb, lt-ltb, lt-leb, le-leb}
 use Rattle.entity.specs.Logic.{pick, and, or, no, any, has}
-use Rattle.entity.specs.Place.{Place, reg, slot, samePlace, placeAt, codeOf}
+use Rattle.entity.specs.Place.{Place, slot, samePlace, placeAt, codeOf}
 use Rattle.entity.proofs.Laws.{and-true, any-has, has-getD, code-there}
 use Rattle.reginfo.specs.RegInfo.{RegInfo, placeUnits, overlap, inClass, ofBank}
 use Rattle.reginfo.specs.Refused.{orElse, firstOf}

@@ -1,5 +1,5 @@
 -- The index of sources: what it tells, and what it tells once a move more is kept.
-use Prim.Native.Nat.{ℕ, zero, suc, _+_, _*_, _/_, _%_, _<_, _≤_}
+use Prim.Native.Nat.{ℕ, _+_, _*_, _/_, _%_, _<_, _≤_}
 use mathlib.Core.Path.{_≡_, refl, sym, ap, _∙_}
 use mathlib.Core.Bool.{Bool, true, false, true≢false, false≢true}
 use mathlib.Core.List.{List, [], _∷_, _++_}
@@ -8,7 +8,7 @@ use native.Mathlib.Omega.{arith}
 use lib.Dec.{eqb, ltb}
 use lib.ListN.{getD, length, drop, set, length-set, length-append, drop-of-length-le, List·getD-append}
 use lib.Seq.{getD-set-same, getD-set-other}
-use borrow.Author.Tests.{eqb-true, eqb-false, eq-eqb, ne-eqb, lt-ltb, ltb-true, ltb-false}
+use borrow.Author.Tests.{eqb-true, eqb-false, eq-eqb, ltb-true, ltb-false}
 use Rattle.entity.specs.Logic.{and, or, no, any, has, twice}
 use Rattle.entity.specs.Place.{Place, reg, slot, samePlace, placeAt}
 use Rattle.entity.proofs.Laws.{or-false, and-true, never-true, any-at, any-has, has-getD, meets-comm, drop-step}
@@ -17,7 +17,6 @@ use Rattle.reginfo.specs.Known.{KnownUnits, KnownPlace}
 use Rattle.reginfo.specs.Table.{regInfoOf}
 use Rattle.reginfo.proofs.Laws.{overlap-slot}
 use Rattle.function.specs.Known.{Checked}
-use Rattle.function.specs.Table.{functionOf}
 use Rattle.function.specs.Function.{Function}
 use Rattle.rules.specs.Order.{KeptMove, noMove}
 use Rattle.rules.specs.Patch.{Sorted, overlapsSource}

@@ -190,7 +190,7 @@ fn stamp(e: &Entries) -> usize
     wide(e[1540]) % 512
 }
 
-// The same of the move that the cell tells, which need not be kept, nor have the unit.
+// Whether the move that the cell of the unit tells is kept, has another source than r and has the unit in it. If none is, no kept move is.
 fn told_clashes(t: &RegInfo, e: &Entries, r: PhysReg, u: RegUnit, m: usize) -> bool
     requires { ⌜ SourcedAt (regInfoOf (now t)) (now e) (u .0) × (u .0 < 512) × (m ≡ getD (now e) (1028 + u .0) 0 % 128) ⌝ }
     ensures { λ o. ⌜ o ≡ clashesAt (regInfoOf (now (t .entry))) (sortedOf (now (e .entry))) (reg (r .0)) (u .0) ⌝ }
@@ -222,6 +222,7 @@ fn unit_clashes(t: &RegInfo, e: &Entries, r: PhysReg, u: RegUnit) -> bool
     told_clashes(t, e, r, u, c % 128)
 }
 
+// 21 of a source that is a register: the cells of its units are looked at and written, one after the other.
 fn index_reg(t: &RegInfo, e: &mut Entries, r: PhysReg) -> bool
     requires { ⌜ Sourced (regInfoOf (now t)) (now e) × KnownUnits (regInfoOf (now t)) (r .0) × (twice (regUnits (regInfoOf (now t)) (r .0)) ≡ false) ⌝ }
     ensures { λ o. ⌜ IndexedAs (regInfoOf (now (t .entry))) (now (e .entry)) (now (e .exit)) (reg (r .0)) o ⌝ }
