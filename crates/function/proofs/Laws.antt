@@ -3,6 +3,7 @@ use Prim.Native.Nat.{ℕ, zero, suc, _+_, _-_, _<_, _≤_}
 use mathlib.Core.Path.{_≡_, refl, sym, ap, _∙_}
 use mathlib.Core.Bool.{Bool, true, false}
 use mathlib.Core.Option.{Option, none, some}
+use mathlib.Core.Logic.{_⊎_, inl, inr, ⊎-elim}
 use native.Mathlib.Omega.{arith}
 use lib.Dec.{eqb, ltb, leb}
 use borrow.Author.Tests.{eqb-true, eqb-false, ltb-true, leb-true}
@@ -10,7 +11,7 @@ use Rattle.entity.specs.Logic.{pick, and, or, no, indices}
 use Rattle.entity.proofs.Laws.{indices-step}
 use Rattle.reginfo.specs.RegInfo.{RegInfo, numBanks, numClasses, bankForClass}
 use Rattle.reginfo.specs.Refused.{orElse}
-use Rattle.function.specs.Function.{Function, numValues, valueBank, rematCost, rematClass, canRematerialize}
+use Rattle.function.specs.Function.{Function, numValues, valueBank, rematCost, rematClass, isSetting, canRematerialize}
 use Rattle.function.specs.Known.{KnownValue}
 use Rattle.function.specs.Refused.{countsFit, valueFits, foreignClass, valuesRefusal, functionRefusal, Accepted}
 use Rattle.function.specs.Answers.{Rebuild, rematerialize}
@@ -39,6 +40,17 @@ kept false b e h = absurd (clash h)
 held : (b : Bool) (n : ℕ) (o : Option ℕ) → orElse b n o ≡ none → (b ≡ false) × (o ≡ none)
 held true n o e = absurd (let z : _≡_ {A = ℕ} 0 1 = cc in omega arith)
 held false n o e = (refl, e)
+
+pub setting-is : (n : ℕ) → isSetting n ≡ true → (n ≡ 1) ⊎ (n ≡ 2)
+unfolding isSetting
+setting-is n h = go (eqb n 1) refl h
+  where
+    go : (b : Bool) → eqb n 1 ≡ b → or b (eqb n 2) ≡ true → (n ≡ 1) ⊎ (n ≡ 2)
+    go true e h = inl (eqb-true n 1 e)
+    go false e h = inr (eqb-true n 2 h)
+
+setting-some : (n : ℕ) → isSetting n ≡ true → 0 < n
+setting-some n h = ⊎-elim (λ e. omega arith) (λ e. omega arith) (setting-is n h)
 
 module _ (t : RegInfo) (f : Function) where
   -- one value more
@@ -83,14 +95,23 @@ module _ (t : RegInfo) (f : Function) where
     pub fit-values : numValues f ≤ 4096
     fit-values = leb-true _ _ (fit-counts .0)
 
-    pub values-left : functionRefusal t f ≡ valuesRefusal t f (indices 0 (numValues f))
+    pub values-left : isSetting (f .kept) ≡ true → functionRefusal t f ≡ valuesRefusal t f (indices 0 (numValues f))
     unfolding functionRefusal
-    values-left = rw h
+    values-left s = rw (s, h)
 
   module _ (a : Accepted t f) where
-    counts : countsFit f ≡ true
+    setting : (isSetting (f .kept) ≡ true) × (orElse (no (countsFit f)) 2 (valuesRefusal t f (indices 0 (numValues f))) ≡ none)
     unfolding functionRefusal
-    counts = no-false (countsFit f) (held _ _ _ a .0)
+    setting = let s = held (no (isSetting (f .kept))) 22 _ a in (no-false (isSetting (f .kept)) (s .0), s .1)
+
+    pub one-or-two : (f .kept ≡ 1) ⊎ (f .kept ≡ 2)
+    one-or-two = setting-is (f .kept) (setting .0)
+
+    pub kept-some : 0 < f .kept
+    kept-some = setting-some (f .kept) (setting .0)
+
+    counts : countsFit f ≡ true
+    counts = no-false (countsFit f) (held _ _ _ (setting .1) .0)
 
     pub few-values : numValues f ≤ 4096
     few-values = fit-values counts
@@ -106,8 +127,7 @@ module _ (t : RegInfo) (f : Function) where
       known-value = record { is = h; few = few-values }
 
       tested : Passed v
-      unfolding functionRefusal
-      tested = each 0 (numValues f) v (held (no (countsFit f)) 2 _ a .1) (omega arith) (omega arith)
+      tested = each 0 (numValues f) v (held (no (countsFit f)) 2 _ (setting .1) .1) (omega arith) (omega arith)
 
       pub bank-there : valueBank f v < numBanks t
       bank-there = ltb-true _ _ (fits v (tested .0) .0)

@@ -21,6 +21,10 @@ module _ (t : List ℕ) where
   unfolding functionOf
   limit-is = refl
 
+  pub kept-is : functionOf t .kept ≡ getD t 16387 0
+  unfolding functionOf
+  kept-is = refl
+
   module _ (v : ℕ) (h : v < numValues (functionOf t)) where
     value-is : getD (functionOf t .values) v noValue ≡ valueAt t v
     unfolding functionOf

@@ -6,7 +6,7 @@ use Rattle.function.specs.Function.{Function, rematCost, rematClass, can
 use Rattle.function.specs.declared.Remat.{Remat}
 use Rattle.function.specs.declared.Remat.the-variants.{Never, CheaperThanMove, CheaperThanLoad}
 use Rattle.function.specs.declared.FunctionCheck.{FunctionCheck}
-use Rattle.function.specs.declared.FunctionCheck.the-variants.{Accepted, OutsideLimits, ForeignClass}
+use Rattle.function.specs.declared.FunctionCheck.the-variants.{Accepted, OtherSetting, OutsideLimits, ForeignClass}
 
 -- 01's code and the class
 pub record Rebuild : Type 0 where
@@ -25,5 +25,6 @@ rematerialize f v = pick (canRematerialize f v) (some (record { cost = rematCost
 -- the number by which a function is refused
 abbrev pub numberOf : FunctionCheck → Option ℕ
 numberOf Accepted = none
+numberOf OtherSetting = some 22
 numberOf OutsideLimits = some 2
 numberOf ForeignClass = some 9

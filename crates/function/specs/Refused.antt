@@ -1,4 +1,4 @@
--- 01, The target and The job: what is refused of a function over a target, in the order in which it is read.
+-- 01, The target and The job: what is refused of a function over a target, in the order in which it is read; 02 i: its setting before that.
 use Prim.Native.Nat.{ℕ}
 use mathlib.Core.Path.{_≡_}
 use mathlib.Core.Bool.{Bool, true, false}
@@ -8,7 +8,7 @@ use lib.Dec.{eqb, ltb, leb}
 use Rattle.entity.specs.Logic.{and, or, no, indices}
 use Rattle.reginfo.specs.RegInfo.{RegInfo, numBanks, numClasses, bankForClass}
 use Rattle.reginfo.specs.Refused.{orElse}
-use Rattle.function.specs.Function.{Function, numValues, valueBank, rematCost, rematClass, canRematerialize}
+use Rattle.function.specs.Function.{Function, numValues, valueBank, rematCost, rematClass, isSetting, canRematerialize}
 
 -- 2: "values 0 to 4,096, ordinary slots N 0 to 4,096, emergency limit L 0 to 2,048"
 unfoldable pub countsFit : Function → Bool
@@ -27,8 +27,9 @@ unfoldable pub valuesRefusal : RegInfo → Function → List ℕ → Option ℕ
 valuesRefusal t f [] = none
 valuesRefusal t f (v ∷ l) = orElse (no (valueFits t f v)) 2 (orElse (foreignClass t f v) 9 (valuesRefusal t f l))
 
+-- 22: "a setting other than 1 or 2, tested before the job"
 unfoldable pub functionRefusal : RegInfo → Function → Option ℕ
-functionRefusal t f = orElse (no (countsFit f)) 2 (valuesRefusal t f (indices 0 (numValues f)))
+functionRefusal t f = orElse (no (isSetting (f .kept))) 22 (orElse (no (countsFit f)) 2 (valuesRefusal t f (indices 0 (numValues f))))
 
 -- an accepted function
 abbrev pub Accepted : RegInfo → Function → Type 0

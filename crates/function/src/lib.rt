@@ -14,13 +14,13 @@ ghost use mathlib.Core.Bool.{true};
 ghost use Prim.Native.Nat.{_<_, _≤_};
 ghost use Rattle.reginfo.specs.RegInfo.{numClasses};
 ghost use Rattle.reginfo.specs.Table.{regInfoOf};
-ghost use Rattle.function.specs.Function.{numValues, valueBank, rematCost, rematClass};
+ghost use Rattle.function.specs.Function.{numValues, valueBank, rematCost, rematClass, isSetting};
 ghost use Rattle.function.specs.Table.{functionOf};
 ghost use Rattle.function.specs.Known.{KnownValue};
 ghost use Rattle.function.specs.Refused.{countsFit, valueFits, foreignClass, functionRefusal};
 ghost use Rattle.function.specs.Answers.{rematerialize, rematOf, numberOf};
 
-pub type Function = [u16; 16387];
+pub type Function = [u16; 16388];
 
 // How a value is rebuilt, if it can be, and the class of registers that it is rebuilt in.
 pub enum Remat {
@@ -31,11 +31,12 @@ pub enum Remat {
 
 pub enum FunctionCheck {
     Accepted,
+    OtherSetting,
     OutsideLimits,
     ForeignClass,
 }
 
-// How many values and ordinary slots there are, and how many emergency slots may be made.
+// How many values and ordinary slots there are, how many emergency slots may be made, and how many evictions are kept at once.
 pub fn num_values(f: &Function) -> usize
     ensures { λ n. ⌜ n ≡ numValues (functionOf (now (f .entry))) ⌝ }
 {
@@ -52,6 +53,12 @@ pub fn slot_limit(f: &Function) -> usize
     ensures { λ n. ⌜ n ≡ functionOf (now (f .entry)) .limit ⌝ }
 {
     wide(f[16386])
+}
+
+pub fn kept_evictions(f: &Function) -> usize
+    ensures { λ n. ⌜ n ≡ functionOf (now (f .entry)) .kept ⌝ }
+{
+    wide(f[16387])
 }
 
 // Values.
@@ -95,7 +102,16 @@ pub fn can_rematerialize(f: &Function, v: Value) -> Remat
     Remat::CheaperThanLoad(class)
 }
 
-// What is refused of a function.
+// What is refused of a function. Evictions kept are one or two.
+pub fn is_setting(n: usize) -> bool
+    ensures { λ r. ⌜ r ≡ isSetting n ⌝ }
+{
+    if n == 1 {
+        return true;
+    }
+    n == 2
+}
+
 fn counts_fit(f: &Function) -> bool
     ensures { λ r. ⌜ r ≡ countsFit (functionOf (now (f .entry))) ⌝ }
 {
@@ -140,11 +156,14 @@ fn foreign_class(t: &RegInfo, f: &Function, v: Value) -> bool
     bank.0 != own.0
 }
 
-// Tests a function over an accepted target, value by value.
+// Tests a function over an accepted target, its setting first, then value by value.
 pub fn check(t: &RegInfo, f: &Function) -> FunctionCheck
     requires { ⌜ numClasses (regInfoOf (now t)) ≤ 64 ⌝ }
     ensures { λ r. ⌜ numberOf r ≡ functionRefusal (regInfoOf (now (t .entry))) (functionOf (now (f .entry))) ⌝ }
 {
+    if !is_setting(kept_evictions(f)) {
+        return FunctionCheck::OtherSetting;
+    }
     if !counts_fit(f) {
         return FunctionCheck::OutsideLimits;
     }

@@ -8,8 +8,8 @@ use mathlib.Core.Logic.{_⊎_, inl, inr, ⊎-elim}
 use native.Mathlib.Omega.{arith}
 use lib.Dec.{eqb}
 use borrow.Author.Tests.{eqb-true}
-use lib.ListN.{length, getD}
-use Rattle.entity.specs.Logic.{pick, and, or, no, any, has, indices}
+use lib.ListN.{length, getD, take, drop}
+use Rattle.entity.specs.Logic.{and, or, no, any, has, indices}
 use Rattle.entity.proofs.Laws.{and-true}
 use Rattle.entity.specs.Place.{Place, reg, slot}
 use Rattle.reginfo.specs.RegInfo.{bankForClass, RegInfo, numBanks, numClasses, allocationOrder, classMembers, includesSpillslots, isMemory, lastInOrder, spillslotSize, topLevelClass, stackToStackClass}
@@ -19,26 +19,18 @@ use Rattle.function.specs.Function.{Function, numValues, valueBank, rematClass,
 use Rattle.function.specs.Refused as function
 use Rattle.function.proofs.Laws.{bank-there, class-there}
 use Rattle.rules.specs.Edit.{Edit, Rematerialize, andThen, each, find, filter}
-use Rattle.rules.specs.Scratch.{Cache, Evicted, ScratchAllocator, push, withEvicted, Found, unevict, unevictAll, overlapsEvicted, unevictForReg, acquire, releasePlace, usable, slotScratch, evictLast, reuse, orScratch, getScratchReg, nothingBarred, moveEdits, doMove, meeting, searchedTo}
+use Rattle.rules.specs.Scratch.{Cache, Evicted, ScratchAllocator, push, withEvicted, Found, unevict, unevictAll, unevictBut, overlapsEvicted, unevictForReg, makeRoom, acquire, releasePlace, usable, slotScratch, evictLast, reuse, orScratch, getScratchReg, nothingBarred, moveEdits, doMove, meeting, searchedTo}
 use Rattle.rules.specs.Order.{KeptMove, noMove, Remat, State, New, Pending, Done, isNew, isPending, Diverted, ParallelMoves, withState, carry, doRemat, remats, rematWithScratch, source, dest, value, bank, writers, cycleMoveSources, emit, noted, divert, carried, lead, lost, undivert, undivertAll, close, visit, visitUnlessMemory, start, moves}
 use Rattle.rules.specs.Patch.{Patch, Sorted, sorted, bound, run}
 use Rattle.rules.specs.Sorted.{MoveOk, RematOk, noRemat, SortedOk, Ran}
 use Rattle.rules.proofs.News.{news-all, news-open, news-close}
 use Rattle.rules.proofs.Writers.{writers-low}
 use Rattle.rules.proofs.Sum.{sum-change, sum-part, sum-zero}
+use Rattle.rules.proofs.Parts.{Parts, all-parts, filter-parts, drop-parts, parts-length}
+use Rattle.rules.proofs.Evictions.{unevict-evicted}
 use Rattle.rules.proofs.Steps.{All, all-then, all-after, all-map, branch, Every, every-getD, every-reverse, every-index, all-each, updated-same, updated-other}
 use Rattle.machine.specs.Paid.{owed, occurs, sign, live, Counted, spent, Paid}
 use Rattle.machine.proofs.Diversions.{Grown, carry-grown, was-live, lost-counted}
-
-split-length : {A : Type 0} (p : A → Bool) (l : List A) → length (filter p l) + length (filter (λ e. no (p e)) l) ≡ length l
-unfolding filter
-split-length p [] = refl
-split-length {A} p (x ∷ l) = go (p x) (split-length p l)
-  where
-    go : (b : Bool) → length (filter p l) + length (filter (λ e. no (p e)) l) ≡ length l
-        → length (pick b (x ∷ filter p l) (filter p l)) + length (pick (no b) (x ∷ filter (λ e. no (p e)) l) (filter (λ e. no (p e)) l)) ≡ suc (length l)
-    go true h = omega arith
-    go false h = omega arith
 
 sign-le : (n : ℕ) → sign n ≤ 1
 unfolding sign
@@ -69,22 +61,25 @@ module _ (t : RegInfo) (f : Function) where
   unevict-edits [] k = omega arith
   unevict-edits (e ∷ l) k = omega (arith, unevict-edits l k)
 
-  pub unevict-evicted : (l : List Evicted) (k : ScratchAllocator) → unevict t f l k .evicted ≡ k .evicted
-  unfolding unevict
-  unevict-evicted [] k = refl
-  unevict-evicted (e ∷ l) k = unevict-evicted l k
-
   -- to bring back pays what was owed
   unevict-owed : (l : List Evicted) (k : ScratchAllocator) → owed (unevict t f l k) ≡ length l + owed k
-  unevict-owed l k = omega (arith, unevict-edits l k, ap length (unevict-evicted l k))
+  unevict-owed l k = omega (arith, unevict-edits l k, ap length (unevict-evicted t f l k))
+
+  part-owed : (k : ScratchAllocator) (es rest : List Evicted) → Parts es rest (k .evicted) → owed (unevict t f es (withEvicted rest k)) ≡ owed k
+  part-owed k es rest h = omega (arith, unevict-owed es (withEvicted rest k), parts-length es rest (k .evicted) h)
 
   all-owed : (k : ScratchAllocator) → owed (unevictAll t f k) ≡ owed k
-  all-owed k = omega (arith, unevict-owed (k .evicted) (withEvicted [] k))
+  all-owed k = part-owed k (k .evicted) [] (all-parts (k .evicted))
 
   some-owed : (p : Place) (k : ScratchAllocator) → owed (unevictForReg t f p k) ≡ owed k
   unfolding unevictForReg
-  some-owed p k =
-      omega (arith, unevict-owed (filter (overlapsEvicted t f p) (k .evicted)) (withEvicted (filter (λ e. no (overlapsEvicted t f p e)) (k .evicted)) k), split-length (overlapsEvicted t f p) (k .evicted))
+  some-owed p k = part-owed k (filter (overlapsEvicted t f p) (k .evicted)) (filter (λ e. no (overlapsEvicted t f p e)) (k .evicted)) (filter-parts (overlapsEvicted t f p) (k .evicted))
+
+  room-owed : (r : ℕ) (k : ScratchAllocator) → owed (makeRoom t f r k) ≡ owed k
+  unfolding makeRoom unevictBut
+  room-owed r k =
+      let k′ = unevictForReg t f (reg r) k in
+      part-owed k′ (drop (pred (f .kept)) (k′ .evicted)) (take (pred (f .kept)) (k′ .evicted)) (drop-parts (pred (f .kept)) (k′ .evicted)) ∙ some-owed (reg r) k
 
   -- a search: nothing more is owed, or the last of a class without slots is evicted
   abbrev Searched : ℕ → ℕ → Found → Type 0
@@ -101,7 +96,7 @@ module _ (t : RegInfo) (f : Function) where
 
     reuse-owed : (l : List Evicted) (n : ℕ) (k : ScratchAllocator) → owed k ≤ m → includesSpillslots t c ≡ false → All (Searched c m) (reuse t f l n b c k)
     unfolding reuse
-    reuse-owed [] n k h s = evict-owed n (unevictAll t f k) (omega (arith, all-owed k)) s
+    reuse-owed [] n k h s = evict-owed n (makeRoom t f (lastInOrder t c) k) (omega (arith, room-owed (lastInOrder t c) k)) s
     reuse-owed (e ∷ l) n k h s = branch (All (Searched c m)) (has (e .reg) (classMembers t c)) _ _ (λ _. inl h) (λ _. reuse-owed l n k h s)
 
     found-owed : (o : Option ℕ) (n : ℕ) (k : ScratchAllocator) → owed k ≤ m → All (Searched c m) (orScratch t f o n b c k)

@@ -8,10 +8,10 @@ use native.Mathlib.Omega.{arith}
 use native.Mathlib.Nat.{add-left-cancel}
 use native.Mathlib.Decide.{decLt}
 use lib.Dec.{T, T-not, eqb→eq, eqb-refl}
-use lib.ListN.{length, replicate, length-replicate}
+use lib.ListN.{length, getD, replicate, length-replicate}
 use Rattle.entity.specs.Logic.{has, any, twice}
 use Rattle.entity.specs.Place.{Place, reg, slot, samePlace}
-use Rattle.reginfo.specs.RegInfo.{RegInfo, numClasses, numBanks, regUnits, bankForClass, includesSpillslots, lastInOrder, topLevelClass, stackToStackClass, overlap}
+use Rattle.reginfo.specs.RegInfo.{RegInfo, numClasses, numBanks, regUnits, bankForClass, classMembers, includesSpillslots, lastInOrder, topLevelClass, stackToStackClass, overlap}
 use Rattle.reginfo.specs.Refused as target
 use Rattle.reginfo.proofs.Accepted.{top-fits, stack-fits, same-width, order-member, top-bank, stack-bank, top-slots, stack-slots, stack-memory, last-memory, last-ordered, member-fits, member-bank}
 use Rattle.function.specs.Function.{Function, numValues, valueBank, canRematerialize, rematClass}
@@ -35,7 +35,7 @@ use Rattle.machine.proofs.Search.{ClassOk, place-covers}
 use Rattle.machine.proofs.Emit.{StackOk}
 use Rattle.machine.proofs.Order.{PatchOk}
 use Rattle.machine.proofs.Whole.{In, EntryOk, PlainsOk, ScratchesOk, NeedR, PatchStart, Done, whole-ok}
-use Rattle.machine.proofs.Premises.{has-reverse, Disjoint, disjoint, disjoint-comm, rematAt, kept-passes, remat-passes, scratch-passes, last-apart, dest-disjoint, dest-remat, dest-scratch, remat-remat, remat-scratch, scratch-scratch, writes, free-kept, free-remat, free-scratch, written, barred, remat-class, remat-bank, dest-fits, remat-fits, scratch-fits, member-holds, reg-low, reg-once, reg-own, reg-kinds, beyond}
+use Rattle.machine.proofs.Premises.{has-reverse, Disjoint, disjoint, disjoint-comm, rematAt, kept-passes, remat-passes, scratch-passes, last-apart, dest-disjoint, dest-remat, dest-scratch, remat-remat, remat-scratch, scratch-scratch, writes, free-kept, free-remat, free-scratch, written, barred, remat-class, remat-bank, dest-fits, remat-fits, scratch-fits, member-holds, reg-low, reg-once, reg-own, member-unit, reg-kinds, beyond}
 use Rattle.machine.proofs.Entries.{Became, dests-are, entry-ends}
 use Rattle.machine.proofs.Bound.{bound-ok}
 
@@ -100,6 +100,10 @@ module _ (t : RegInfo) (f : Function) (ta : target.Accepted t) (fa : function.Ac
       go (yes l) = l
       go (no n) = let y = high (omega arith) in absurd (T-not (hasIn (regUnits t r) (512 + y .0)) (targetOk .low r (y .0)) (subst (λ (z : ℕ). T (hasIn (regUnits t r) z)) (y .1) h))
 
+  -- the last of a class without slots is a member
+  last-member : (c : ℕ) → c < numClasses t → includesSpillslots t c ≡ false → has (lastInOrder t c) (classMembers t c) ≡ true
+  last-member c hc e = order-member t ta c (lastInOrder t c) hc (last-ordered t ta c hc e)
+
   -- a class of the value's bank takes the value's content
   module _ (content : ℕ → List ℕ) (whole : Contents t f content) where
     module _ (j : Job) (same : (v : ℕ) → j .content v ≡ content v) (em : (s : ℕ) → f .slots ≤ s → j .may (512 + s)) where
@@ -109,8 +113,9 @@ module _ (t : RegInfo) (f : Function) (ta : target.Accepted t) (fa : function.Ac
           (record {
             len = λ r h. yes-of _ (member-holds t f content whole ta v c r hv hc e (of-yes _ h));
             ordered = λ r h. yes-of _ (order-member t ta c r hc (of-yes _ h));
-            last-in = λ ns. yes-of _ (order-member t ta c (lastInOrder t c) hc (last-ordered t ta c hc (of-no _ ns)));
+            last-in = λ ns. yes-of _ (last-member c hc (of-no _ ns));
             last-plain = λ ns. no-of _ (last-memory t ta c hc (of-no _ ns));
+            last-unit = λ ns. (getD (regUnits t (lastInOrder t c)) 0 0, yes-of _ (member-unit t f ta c (lastInOrder t c) hc (last-member c hc (of-no _ ns))));
           })
 
       stack-ok : (b v : ℕ) → b ≡ valueBank f v → v < numValues f → StackOk t f targetOk j em b (length (j .content v))

@@ -1,7 +1,7 @@
 -- Emitting a move, and that it keeps the program sound.
 use mathlib.Core.Path.{_≡_, refl, sym, subst}
 use mathlib.Core.Bool.{Bool, true, false, not, _&&_, _||_}
-use mathlib.Core.List.{List, _∷_}
+use mathlib.Core.List.{[]}
 use mathlib.Core.Option.{some}
 use mathlib.Core.Logic.{_⊎_, inr, ⊎-elim}
 use Prim.Native.Nat.{ℕ, _+_, _≤_}
@@ -10,16 +10,17 @@ use lib.ListN.{length}
 use Rattle.entity.specs.Place.{Place, reg, slot}
 use Rattle.reginfo.specs.RegInfo.{RegInfo, allocationOrder, includesSpillslots, lastInOrder, stackToStackClass, isMemoryReg, isMemory}
 use Rattle.function.specs.Function.{Function}
-use Rattle.rules.specs.Edit.{Edit, Move, andThen}
+use Rattle.rules.specs.Edit.{Move, andThen}
 use Rattle.rules.specs.Scratch.{ScratchAllocator, Found, push, unitsOfReg, makeAvailable, makeUnavailable, unevictForReg, getScratchReg, nothingBarred, moveEdits, doMove}
 use Rattle.machine.specs.Machine.{fits}
 use Rattle.rules.proofs.Steps.{All, all-then}
-use Rattle.machine.proofs.Tests.{hasIn, and-split, if}
+use Rattle.machine.proofs.Tests.{hasIn, or-case, and-split, if}
 use Rattle.machine.proofs.Memory.{TargetOk, covers, Apart, memory-apart}
-use Rattle.machine.proofs.Run.{Wait, idle, Job}
-use Rattle.machine.proofs.Sound.{Needs, under, shown, Within, Live, Ok, Pre, Sound, Turns, met-raw}
+use Rattle.machine.proofs.Run.{Waits, Job}
+use Rattle.machine.proofs.View.{under, shown}
+use Rattle.machine.proofs.Sound.{Needs, Within, Live, Ok, Pre, Sound, Turns, met-raw}
 use Rattle.machine.proofs.Macro.{Goal, Scratch, Standing, move, through}
-use Rattle.machine.proofs.Search.{wait, or-case, Empty, ApartW, reg-covers, Room, Kept, BackFor, bringFor-ok, ClassOk, Free, FoundOk, search-ok, clear-of, lone-memory, free-covers, kept-free}
+use Rattle.machine.proofs.Search.{wait, Empty, ApartW, reg-covers, Room, Kept, BackFor, bringFor-ok, ClassOk, Free, FoundOk, search-ok, clear-of, lone-memory, free-covers, kept-free}
 
 pub no-right : (a b : Bool) → T (not b) → T (not (a && b))
 no-right true b h = h
@@ -34,15 +35,11 @@ module _ (t : RegInfo) (F : Function) (tk : TargetOk t) where
     abbrev K : Needs → ScratchAllocator → Type 0
     K = Kept t F tk j em
 
-    -- another list of edits
-    pub room-edits : (needs : Needs) (k : ScratchAllocator) (es : List Edit) → Room t F tk j em needs k → Room t F tk j em needs (record { edits = es; available = k .available; evicted = k .evicted; cache = k .cache; met = k .met })
-    room-edits needs k es h = record { few = h .few; inside = h .inside; spare = h .spare; cache-ok = h .cache-ok; waits = h .waits; empty = h .empty }
-
     -- a move asked for: what is needed after it is given is needed before
     pub record Asked (needs needs′ : Needs) (to from : Place) (v : ℕ) : Type 0 where
       pub live : Live t F tk j needs
       pub given : needs to v
-      pub turns : Turns t F tk j needs needs′ idle to v
+      pub turns : Turns t F tk j needs needs′ [] to v
       pub back : (p : Place) (x : ℕ) → needs′ p x → (p ≡ from) ⊎ (needs p x × Apart t F tk p to)
       pub len : T (fits t F to (length (j .content v)))
       pub inside : Within t F tk j (covers t F tk to)
@@ -64,7 +61,7 @@ module _ (t : RegInfo) (F : Function) (tk : TargetOk t) where
           }
 
       -- what the edits of the move leave, with the precondition P in front of them
-      pub record Moved (P : Wait → Pre t F tk j) (k k′ : ScratchAllocator) : Type 0 where
+      pub record Moved (P : Waits → Pre t F tk j) (k k′ : ScratchAllocator) : Type 0 where
         pub sound : Sound t F tk j (k′ .edits) (wait k′) (P (wait k′))
         pub room : Room t F tk j em needs k′
         pub fewer : (s : ℕ) → Empty t F tk k′ s → Empty t F tk k s
@@ -78,7 +75,7 @@ module _ (t : RegInfo) (F : Function) (tk : TargetOk t) where
         abbrev pub Through : ScratchAllocator → Found → Type 0
         Through k x = FoundOk t F tk j em needs b c (length (j .content v)) (nothingBarred t F) (sk .ok) k x
 
-        pub moveEdits-ok : (P : Wait → Pre t F tk j) (k : ScratchAllocator) → K needs k → ApartW t F tk (wait k) to
+        pub moveEdits-ok : (P : Waits → Pre t F tk j) (k : ScratchAllocator) → K needs k → ApartW t F tk (wait k) to
             → Standing t F tk j (wait k) v (P (wait k)) needs′ from
             → (T (isMemory t from) → (x : Found) → Through k x → Standing t F tk j (wait (x .scratch)) v (P (wait (x .scratch))) needs′ from)
             → All (Moved P k) (moveEdits t F b to from v k)
@@ -89,7 +86,7 @@ module _ (t : RegInfo) (F : Function) (tk : TargetOk t) where
             direct nm =
                 record {
                   sound = move t F tk j (wait k) v (k .edits) needs needs′ (h .sound) (a .live) to (goal k (h .room) off) (P (wait k)) from st nm;
-                  room = room-edits needs k (Move to from v ∷ k .edits) (h .room);
+                  room = h .room;
                   fewer = λ s e. e;
                   avails = λ u i. i;
                   same = λ _. refl;
@@ -114,7 +111,7 @@ module _ (t : RegInfo) (F : Function) (tk : TargetOk t) where
                           through t F tk j (wait k′) v (k′ .edits) needs needs′ (f .kept .sound) (a .live) to
                           (goal k′ (f .kept .room) (f .still to off (λ _. memory-apart t F tk to (lastInOrder t c) tm (sk .ok .last-plain (sk .no-slots))))) (P (wait k′))
                           (x .place) from scratch (st′ fm x f) (no-right (isMemory t to) (isMemory t (x .place)) np) (no-left (isMemory t (x .place)) (isMemory t from) np);
-                      room = room-edits needs k′ (Move (x .place) from v ∷ Move to (x .place) v ∷ k′ .edits) (f .kept .room);
+                      room = f .kept .room;
                       fewer = f .fewer;
                       avails = f .avails;
                       same = λ nm. absurd (T-not (isMemory t from) nm fm);
@@ -152,7 +149,6 @@ module _ (t : RegInfo) (F : Function) (tk : TargetOk t) where
               sound = snd;
               room =
                   record {
-                    few = h .few;
                     inside = λ r u y c. ⊎-elim (λ i. a .inside u (reg-covers t F tk to u i)) (h .inside r u y) (turned u c .0);
                     spare = λ r x n u i c.
                         ⊎-elim (λ e. T-not (hasIn (unitsOfReg t F from) u) (turned u c .1) (subst (λ (y : Place). T (hasIn (unitsOfReg t F y) u)) e i))
@@ -173,7 +169,7 @@ module _ (t : RegInfo) (F : Function) (tk : TargetOk t) where
         abbrev pub Emitted : ScratchAllocator → ScratchAllocator → Type 0
         Emitted k₀ k = K needs′ k × ((s : ℕ) → Empty t F tk k s → Empty t F tk k₀ s)
 
-        -- to and from are clear of the register that waits once it is brought back for either
+        -- to and from are clear of those that wait once whichever overlap them are brought back
         pub doMove-ok : (k₀ : ScratchAllocator) → needs′ from v → ((s : ℕ) → Empty t F tk k₀ s → Apart t F tk from (slot s)) → K needs k₀ → All (Emitted k₀) (doMove t F b to from v k₀)
         unfolding doMove
         doMove-ok k₀ take real h₀ =

@@ -1,5 +1,5 @@
--- Demand 3 at swap-full, at slot-to-slot and with argument words: target and function are accepted, the edits are those of the trial, and the
--- premise can be met.
+-- Demand 3 at swap-full, at slot-to-slot, with argument words and with two registers evicted: target and function are accepted, the edits are
+-- those of the trial, and the premise can be met.
 use Prim.Native.Nat.{ℕ, zero, suc, _<_}
 use mathlib.Core.Path.{_≡_, refl, sym, ap, _∙_, subst, fun-ext}
 use mathlib.Core.Bool.{false, true≢false}
@@ -11,18 +11,18 @@ use Rattle.entity.specs.Logic.{any, all, has, meets, indices}
 use Rattle.entity.specs.Place.{reg, slot}
 use Rattle.reginfo.specs.RegInfo.{RegInfo, regMemory, bankForReg, regUnits, classMembers, isMemoryReg}
 use Rattle.reginfo.specs.Refused.{firstOf}
-use Rattle.function.specs.Function.{Function, valueBank, rematCost, rematClass}
+use Rattle.function.specs.Function.{Function, valueBank, rematCost, rematClass, isSetting}
 use Rattle.function.specs.Refused as function
 use Rattle.rules.specs.Edit.{Edit, updated, andThen, filter}
 use Rattle.rules.specs.Scratch.{emptyCache}
 use Rattle.rules.specs.Order.{KeptMove, noMove}
 use Rattle.rules.specs.Patch.{Patch, Answer, refused, resolved, destinations, add, sortedFrom, sorted, entryConditions, patchConditions, resolveSorted, resolveFrom, resolve, cacheAfter}
-use Rattle.rules.specs.Trials.{three, plain, patch, swap, arguments, Gives}
+use Rattle.rules.specs.Trials.{three, plain, patch, swap, arguments, twoBanks, ofTwo, stored, Gives}
 use Rattle.rules.proofs.Steps.{updated-at}
-use Rattle.rules.proofs.Trials.{trials, told-apart, argument-words}
+use Rattle.rules.proofs.Trials.{trials, told-apart, argument-words, two-kept}
 use Rattle.machine.specs.Machine.{Memory, inSlot, Machine, Waiting, begin, put, read, write, fits, step, steps}
 use Rattle.machine.specs.Claim.{Contents, Holding, RightFrom, Accepted, Answered}
-use Rattle.machine.specs.Instance.{swapEdits, slotToSlot, slotEdits, words, Stop, Swapped, SwapFull, SlotToSlot, pairs, throughEdits, Through, ThroughAWord, wordSwap, wordEdits, WordsSwapped, SwapOfWords}
+use Rattle.machine.specs.Instance.{swapEdits, slotToSlot, slotEdits, words, Stop, Swapped, SwapFull, SlotToSlot, pairs, throughEdits, Through, ThroughAWord, wordSwap, wordEdits, WordsSwapped, SwapOfWords, bothEdits, BothWait, TwoWait}
 use Rattle.machine.proofs.Demand.{demand-3}
 
 module _ (t : RegInfo) (f : Function) (p : Patch) where
@@ -31,7 +31,7 @@ module _ (t : RegInfo) (f : Function) (p : Patch) where
   given (resolved es′ c n) es made stack g h = rw (g .0) at h
 
 swap-fits : function.Accepted three (plain 0 1)
-unfolding three indices valueBank rematCost rematClass function.countsFit function.valueFits function.foreignClass function.valuesRefusal function.functionRefusal
+unfolding three indices valueBank rematCost rematClass isSetting function.countsFit function.valueFits function.foreignClass function.valuesRefusal function.functionRefusal
 swap-fits = refl
 
 swap-accepted : Accepted three (plain 0 1) (patch [] swap) swapEdits
@@ -40,7 +40,7 @@ swap-accepted =
     (demand-3 three (plain 0 1) (told-apart .targets .0) swap-fits (record { patch = patch [] swap; room = 16 } ∷ []) .0)
 
 slot-fits : function.Accepted three (plain 2 1)
-unfolding three indices valueBank rematCost rematClass function.countsFit function.valueFits function.foreignClass function.valuesRefusal function.functionRefusal
+unfolding three indices valueBank rematCost rematClass isSetting function.countsFit function.valueFits function.foreignClass function.valuesRefusal function.functionRefusal
 slot-fits = refl
 
 -- a list of no length is too short
@@ -54,15 +54,15 @@ slot-accepted =
     given three (plain 2 1) slotToSlot (resolve three (plain 2 1) slotToSlot 8 emptyCache) slotEdits 1 (2 ∷ []) (trials .slot-to-slot)
     (rw too-short at (demand-3 three (plain 2 1) (told-apart .targets .0) slot-fits (record { patch = slotToSlot; room = 0 } ∷ record { patch = slotToSlot; room = 8 } ∷ []) .1 .0))
 
+one-word : (a b v : ℕ) → length (words a b v) ≡ 1
+one-word a b zero = refl
+one-word a b (suc v) = refl
+
 -- each register has one unit, and each content one word
 whole : (n l a b : ℕ) → Contents three (plain n l) (words a b)
 unfolding three regUnits
-whole n l a b v r hv hr m e = one v ∙ sym (width r hr)
+whole n l a b v r hv hr m e = one-word a b v ∙ sym (width r hr)
   where
-    one : (v : ℕ) → length (words a b v) ≡ 1
-    one zero = refl
-    one (suc v) = refl
-
     width : (r : ℕ) → r < 3 → length (regUnits three r) ≡ 1
     width zero h = refl
     width (suc zero) h = refl
@@ -161,7 +161,7 @@ slot-to-slot start a p =
 
 -- ---- argument words
 arguments-fit : function.Accepted arguments (plain 2 2)
-unfolding indices valueBank rematCost rematClass function.countsFit function.valueFits function.foreignClass function.valuesRefusal function.functionRefusal
+unfolding indices valueBank rematCost rematClass isSetting function.countsFit function.valueFits function.foreignClass function.valuesRefusal function.functionRefusal
 arguments-fit = refl
 
 through-accepted : Accepted arguments (plain 2 2) (patch (4 ∷ []) swap) throughEdits
@@ -220,24 +220,28 @@ words-kept : sorted arguments (plain 2 2) wordSwap .moves ≡ record { source = 
 unfolding any has regMemory classMembers rematCost rematClass sortedFrom add
 words-kept = refl
 
--- the start with the lists of r2 and r3 written out
-abbrev spelled : Memory → ℕ → ℕ → ℕ → ℕ → Memory
-spelled m a b c d = record { word = m .word; lists = updated 4 (a ∷ b ∷ []) (updated 5 (c ∷ d ∷ []) (m .lists)) }
+-- the start with two lists written out
+abbrev spelled : Memory → ℕ → List ℕ → ℕ → List ℕ → Memory
+spelled m i x k y = record { word = m .word; lists = updated i x (updated k y (m .lists)) }
 
-spelled-out : (m : Memory) (a b c d : ℕ) → m .lists 4 ≡ a ∷ b ∷ [] → m .lists 5 ≡ c ∷ d ∷ [] → spelled m a b c d ≡ m
-spelled-out m a b c d p q =
+spelled-out : (m : Memory) (i : ℕ) (x : List ℕ) (k : ℕ) (y : List ℕ) → m .lists i ≡ x → m .lists k ≡ y → spelled m i x k y ≡ m
+spelled-out m i x k y p q =
     ap (λ (l : ℕ → List ℕ). record { word = m .word; lists = l })
     (fun-ext
-    (λ u. updated-at (λ l. l ≡ m .lists u) 4 _ _ u (λ e. sym p ∙ ap (m .lists) (sym e)) (λ _. updated-at (λ l. l ≡ m .lists u) 5 _ (m .lists) u (λ e. sym q ∙ ap (m .lists) (sym e)) (λ _. refl))))
+    (λ u. updated-at (λ l. l ≡ m .lists u) i x _ u (λ e. sym p ∙ ap (m .lists) (sym e)) (λ _. updated-at (λ l. l ≡ m .lists u) k y (m .lists) u (λ e. sym q ∙ ap (m .lists) (sym e)) (λ _. refl))))
 
-words-hold : (start : Memory) (a b c d : ℕ) → Holding arguments (plain 2 2) wordSwap (pairs a b c d) (spelled start a b c d)
+-- r2 and r3
+abbrev spelledWords : Memory → ℕ → ℕ → ℕ → ℕ → Memory
+spelledWords m a b c d = spelled m 4 (a ∷ b ∷ []) 5 (c ∷ d ∷ [])
+
+words-hold : (start : Memory) (a b c d : ℕ) → Holding arguments (plain 2 2) wordSwap (pairs a b c d) (spelledWords start a b c d)
 unfolding regUnits regMemory updated read
-words-hold start a b c d = two-hold arguments (plain 2 2) wordSwap (pairs a b c d) (spelled start a b c d) _ _ words-kept refl refl
+words-hold start a b c d = two-hold arguments (plain 2 2) wordSwap (pairs a b c d) (spelledWords start a b c d) _ _ words-kept refl refl
 
-words-swapped : (start : Memory) (a b c d : ℕ) → WordsSwapped (spelled start a b c d) a b c d
+words-swapped : (start : Memory) (a b c d : ℕ) → WordsSwapped (spelledWords start a b c d) a b c d
 unfolding regUnits regMemory updated andThen filter put read write fits step steps the reached
 words-swapped start a b c d =
-    let m = spelled start a b c d in
+    let m = spelledWords start a b c d in
     let r = words-accepted .right (pairs a b c d) (pairs-whole a b c d) m (words-hold start a b c d) in
     let at = stop arguments _ _ (plain 2 2) wordSwap (pairs a b c d) wordEdits m r in
     record {
@@ -254,4 +258,60 @@ words-swapped start a b c d =
     }
 
 pub swap-of-words : SwapOfWords
-swap-of-words start a b c d p q = subst (λ (m : Memory). WordsSwapped m a b c d) (spelled-out start a b c d p q) (words-swapped start a b c d)
+swap-of-words start a b c d p q = subst (λ (m : Memory). WordsSwapped m a b c d) (spelled-out start 4 (a ∷ b ∷ []) 5 (c ∷ d ∷ []) p q) (words-swapped start a b c d)
+
+-- ---- two registers evicted
+abbrev bothStored : Patch
+bothStored = patch [] (stored [])
+
+both-fit : function.Accepted twoBanks (ofTwo 4 2 2)
+unfolding twoBanks indices valueBank rematCost rematClass isSetting function.countsFit function.valueFits function.foreignClass function.valuesRefusal function.functionRefusal
+both-fit = refl
+
+both-accepted : Accepted twoBanks (ofTwo 4 2 2) bothStored bothEdits
+both-accepted =
+    given twoBanks (ofTwo 4 2 2) bothStored (resolve twoBanks (ofTwo 4 2 2) bothStored 16 emptyCache) bothEdits 2 (5 ∷ 4 ∷ []) (two-kept .both-wait)
+    (demand-3 twoBanks (ofTwo 4 2 2) (two-kept .target) both-fit (record { patch = bothStored; room = 16 } ∷ []) .0)
+
+both-whole : (a b : ℕ) → Contents twoBanks (ofTwo 4 2 2) (words a b)
+unfolding twoBanks regUnits
+both-whole a b v r hv hr m e = one-word a b v ∙ sym (width r hr)
+  where
+    width : (r : ℕ) → r < 2 → length (regUnits twoBanks r) ≡ 1
+    width zero h = refl
+    width (suc zero) h = refl
+    width (suc (suc r)) h = absurd (omega arith)
+
+both-stored : sorted twoBanks (ofTwo 4 2 2) bothStored .moves ≡ record { source = slot 0; dest = slot 1; value = 0 } ∷ record { source = slot 2; dest = slot 3; value = 1 } ∷ []
+unfolding twoBanks any has regMemory classMembers rematCost rematClass sortedFrom add
+both-stored = refl
+
+-- slots 0 and 2
+abbrev spelledSlots : Memory → ℕ → ℕ → Memory
+spelledSlots m a b = spelled m 512 (a ∷ []) 514 (b ∷ [])
+
+both-hold : (start : Memory) (a b : ℕ) → Holding twoBanks (ofTwo 4 2 2) bothStored (words a b) (spelledSlots start a b)
+unfolding updated read
+both-hold start a b = two-hold twoBanks (ofTwo 4 2 2) bothStored (words a b) (spelledSlots start a b) _ _ both-stored refl refl
+
+both-wait : (start : Memory) (a b : ℕ) → BothWait (spelledSlots start a b) a b
+unfolding twoBanks regUnits regMemory updated andThen filter put read write fits step steps the reached
+both-wait start a b =
+    let m = spelledSlots start a b in
+    let r = both-accepted .right (words a b) (both-whole a b) m (both-hold start a b) in
+    let at = stop twoBanks _ _ (ofTwo 4 2 2) bothStored (words a b) bothEdits m r in
+    record {
+      stop-0 = at 0 _ _ _ refl refl refl;
+      stop-1 = at 1 _ _ _ refl refl refl;
+      stop-2 = at 2 _ _ _ refl refl refl;
+      stop-3 = at 3 _ _ _ refl refl refl;
+      stop-4 = at 4 _ _ _ refl refl refl;
+      stop-5 = at 5 _ _ _ refl refl refl;
+      stop-6 = at 6 _ _ _ refl refl refl;
+      stop-7 = at 7 _ _ _ refl refl refl;
+      stop-8 = at 8 _ _ _ refl refl refl;
+      ends = r .ends;
+    }
+
+pub two-wait : TwoWait
+two-wait start a b p q = subst (λ (m : Memory). BothWait m a b) (spelled-out start 512 (a ∷ []) 514 (b ∷ []) p q) (both-wait start a b)

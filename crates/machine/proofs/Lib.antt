@@ -6,6 +6,7 @@ pub mod Entries
 pub mod Tally
 pub mod Memory
 pub mod Run
+pub mod View
 pub mod Sound
 pub mod Macro
 pub mod Cache

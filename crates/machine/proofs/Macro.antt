@@ -11,10 +11,11 @@ use Rattle.function.specs.Function.{Function}
 use Rattle.rules.specs.Edit.{Edit, Move, Rematerialize}
 use Rattle.machine.specs.Machine.{Memory, read, fits}
 use Rattle.machine.proofs.Memory.{TargetOk, covers}
-use Rattle.machine.proofs.Run.{Wait, Log, Job}
-use Rattle.machine.proofs.Sound.{Needs, can, shown, Clear, Aside, Within, Live, Ok, Pre, Sound, Turns, Unneeded, Stands, move-gives, remat-gives, visible, hidden}
+use Rattle.machine.proofs.Run.{Waits, Log, Job}
+use Rattle.machine.proofs.View.{shown, Clear, Aside}
+use Rattle.machine.proofs.Sound.{Needs, can, Within, Live, Ok, Pre, Sound, Turns, Unneeded, Stands, move-gives, remat-gives, visible, hidden}
 
-module _ (t : RegInfo) (F : Function) (tk : TargetOk t) (j : Job) (w : Wait) (v : ℕ) where
+module _ (t : RegInfo) (F : Function) (tk : TargetOk t) (j : Job) (w : Waits) (v : ℕ) where
   abbrev Fits : Place → Type 0
   Fits p = T (fits t F p (length (j .content v)))
 
@@ -43,20 +44,20 @@ module _ (t : RegInfo) (F : Function) (tk : TargetOk t) (j : Job) (w : Wait) (v 
     pub move : (P : Pre t F tk j) (from : Place) → Standing P needs′ from → Pass to from → Sound t F tk j (Move to from v ∷ prog) w P
     move P from st nm =
         visible t F tk j needs needs′ w to v (Move to from v) prog P snd lv
-        (λ m l h. (st m l h .0, move-gives t F tk j to from v w m l (st m l h .1) nm (g .len)))
+        (λ m l h. (st m l h .0, move-gives t F tk j to from v m l (st m l h .1) nm (g .len)))
         (g .turns) (g .len) (g .inside) (g .clear)
 
     pub rebuild : T (can t F tk v to) → Sound t F tk j (Rematerialize to v ∷ prog) w (Ok t F tk j needs′ w)
     rebuild c =
         visible t F tk j needs needs′ w to v (Rematerialize to v) prog (Ok t F tk j needs′ w) snd lv
-        (λ m l ok. (ok, remat-gives t F tk j to v w m l c)) (g .turns) (g .len) (g .inside) (g .clear)
+        (λ m l ok. (ok, remat-gives t F tk j to v m l c)) (g .turns) (g .len) (g .inside) (g .clear)
 
     pub through : (P : Pre t F tk j) (sc from : Place) → Scratch sc needs′ → Standing P needs′ from → Pass to sc → Pass sc from
         → Sound t F tk j (Move sc from v ∷ Move to sc v ∷ prog) w P
     through P sc from s st nm nm′ =
         hidden t F tk j needs′ w sc v (Move sc from v) (Move to sc v ∷ prog) P
         (move (Stands t F tk j needs′ w sc v) sc (λ m l h. (h .ok, h .raw)) nm)
-        (λ m l h. (st m l h .0, move-gives t F tk j sc from v w m l (st m l h .1) nm′ (s .len)))
+        (λ m l h. (st m l h .0, move-gives t F tk j sc from v m l (st m l h .1) nm′ (s .len)))
         (s .unneeded) (s .len) (s .inside) (s .aside)
 
   -- a rebuild into a scratch place, before a program that finds the content there
@@ -64,4 +65,4 @@ module _ (t : RegInfo) (F : Function) (tk : TargetOk t) (j : Job) (w : Wait) (v 
       → Sound t F tk j (Rematerialize sc v ∷ prog) w (Ok t F tk j needs w)
   rebuild-into prog needs sc s c snd =
       hidden t F tk j needs w sc v (Rematerialize sc v) prog (Ok t F tk j needs w) snd
-      (λ m l ok. (ok, remat-gives t F tk j sc v w m l c)) (s .unneeded) (s .len) (s .inside) (s .aside)
+      (λ m l ok. (ok, remat-gives t F tk j sc v m l c)) (s .unneeded) (s .len) (s .inside) (s .aside)

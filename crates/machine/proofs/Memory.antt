@@ -27,6 +27,16 @@ put-cong [] ws f g x e = e
 put-cong (u ∷ us) [] f g x e = e
 put-cong (u ∷ us) (w ∷ ws) f g x e = ap (cond (eqb x u) w) (put-cong us ws f g x e)
 
+-- at two lists of units that share none
+pub put-comm : (us ws us′ ws′ : List ℕ) (f : ℕ → ℕ) (x : ℕ) → (T (hasIn us x) → T (hasIn us′ x) → ⊥) → put us ws (put us′ ws′ f) x ≡ put us′ ws′ (put us ws f) x
+put-comm us ws us′ ws′ f x d = go (hasIn us x) (λ h. h) (λ h. h)
+  where
+    go : (b : Bool) → (T b → T (hasIn us x)) → (T (not b) → T (not (hasIn us x))) → put us ws (put us′ ws′ f) x ≡ put us′ ws′ (put us ws f) x
+    go true y n =
+        let o : T (not (hasIn us′ x)) = not-T (hasIn us′ x) (d (y tt)) in
+        put-cong us ws (put us′ ws′ f) f x (put-other us′ ws′ f x o) ∙ sym (put-other us′ ws′ (put us ws f) x o)
+    go false y n = put-other us ws (put us′ ws′ f) x (n tt) ∙ put-cong us′ ws′ f (put us ws f) x (sym (put-other us ws f x (n tt)))
+
 -- no unit listed twice
 unfoldable pub distinct : List ℕ → Bool
 distinct [] = true

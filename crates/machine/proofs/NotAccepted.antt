@@ -11,10 +11,10 @@ use Rattle.entity.specs.Logic.{any, all, has, meets, twice, lastOr, indices}
 use Rattle.entity.specs.Place.{Place, reg, slot}
 use Rattle.reginfo.specs.RegInfo.{spillslotSize, topLevelClass, stackToStackClass, regMemory, bankForReg, regUnits, bankForClass, classSlots, classMembers, allocationOrder}
 use Rattle.reginfo.specs.Refused.{orderTotal, countsFit, bankFits, regFits, classFits, outsideLimits, listedTwice, unequalWidths, foreignMember, sharedMemory, unfitClass, firstOf, targetRefusal}
-use Rattle.function.specs.Function.{valueBank, rematCost, rematClass}
+use Rattle.function.specs.Function.{valueBank, rematCost, rematClass, isSetting}
 use Rattle.function.specs.Refused as function
 use Rattle.rules.specs.Edit.{Edit, Move, updated, andThen, each, find, filter}
-use Rattle.rules.specs.Scratch.{acquireFrom, unevict, unevictForReg, slotScratch, evictLast, reuse, orScratch, getScratchReg, moveEdits, doMove}
+use Rattle.rules.specs.Scratch.{acquireFrom, unevict, unevictBut, unevictForReg, makeRoom, slotScratch, evictLast, reuse, orScratch, getScratchReg, moveEdits, doMove}
 use Rattle.rules.specs.Order.{KeptMove, noMove, carryOne, carry, remats, rematWithScratch, writerFrom, writersOf, writers, cycleMoveSources, divert, lead, undivert, undivertAll, close, visit, visitUnlessMemory, start, moves}
 use Rattle.rules.specs.Patch.{move, Patch, destinations, add, sortedFrom, sorted, entryConditions, patchConditions, run, resolveSorted, resolveFrom, resolve}
 use Rattle.machine.specs.Machine.{Memory, Machine, Written, begin, put, read, write, fits, step, steps, counted, seen}
@@ -155,7 +155,7 @@ module _ (c : ℕ) (x y : List ℕ) where
   lost es r = let w = stopped lists.three (words 70 71 c) begun (losing ∷ es) r 1 .survives 0 (omega arith) in nowhere (w .0) (w .1) (w .2)
 
 pub not-accepted : NotAccepted
-unfolding any all has meets lastOr indices spillslotSize topLevelClass stackToStackClass regMemory bankForReg regUnits bankForClass classSlots classMembers allocationOrder firstOf valueBank rematCost rematClass updated andThen each find filter acquireFrom unevict unevictForReg slotScratch evictLast reuse orScratch getScratchReg moveEdits doMove carryOne carry remats rematWithScratch writerFrom writersOf writers cycleMoveSources divert lead undivert undivertAll close visit visitUnlessMemory start moves destinations add sortedFrom entryConditions patchConditions run resolveSorted resolveFrom resolve seven orderTotal countsFit bankFits regFits classFits outsideLimits listedTwice unequalWidths foreignMember sharedMemory unfitClass targetRefusal twice function.countsFit function.valueFits function.foreignClass function.valuesRefusal function.functionRefusal put read write fits step steps counted the can after
+unfolding any all has meets lastOr indices spillslotSize topLevelClass stackToStackClass regMemory bankForReg regUnits bankForClass classSlots classMembers allocationOrder firstOf valueBank rematCost rematClass updated andThen each find filter acquireFrom unevict unevictBut unevictForReg makeRoom slotScratch evictLast reuse orScratch getScratchReg moveEdits doMove carryOne carry remats rematWithScratch writerFrom writersOf writers cycleMoveSources divert lead undivert undivertAll close visit visitUnlessMemory start moves destinations add sortedFrom entryConditions patchConditions run resolveSorted resolveFrom resolve seven orderTotal countsFit bankFits regFits classFits outsideLimits listedTwice unequalWidths foreignMember sharedMemory unfitClass targetRefusal twice isSetting function.countsFit function.valueFits function.foreignClass function.valuesRefusal function.functionRefusal put read write fits step steps counted the can after
 not-accepted =
     record {
       target-taken = refl;
@@ -169,6 +169,7 @@ not-accepted =
       source-overwritten = plainly-wrong _ (omega arith) (λ r. let e : 71 ≡ 70 = stopped _ _ _ _ r 2 .units 0 (omega arith) refl refl .0 in omega arith);
       left-waiting = plainly-wrong _ (omega arith) (λ r. let e : 1 ≡ 0 = ap length (finished _ _ _ _ r .none-waits) in omega arith);
       waiting-lost = plainly-wrong _ (omega arith) (λ r. let e : 70 ≡ 71 = stopped _ _ _ _ r 2 .units 2 (omega arith) refl refl .0 in omega arith);
+      earlier-lost = plainly-wrong _ (omega arith) (λ r. let e : 70 ≡ 71 = stopped _ _ _ _ r 3 .units 2 (omega arith) refl refl .0 in omega arith);
       empty = plainly-wrong _ (omega arith) (λ r. differ (λ (z : 1 ≡ 70). omega arith) (finished _ _ _ _ r .entries (move (reg 0) (reg 1) 0) (List·Memᴰ·head refl)));
       lost-to-chance = record { whole = whole 70 71 72; holds = three-holds 72 _ _; within = omega arith; not-right = lost 72 _ _ _ };
       lost-to-another = record { whole = whole 70 71 70; holds = three-holds 70 _ _; within = omega arith; not-right = lost 70 _ _ _ };

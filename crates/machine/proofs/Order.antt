@@ -17,12 +17,12 @@ use Rattle.rules.specs.Edit.{updated, andThen, each}
 use Rattle.rules.specs.Scratch.{ScratchAllocator, Found, unitsOfReg, makeUnavailable, release, releasePlace, withCache, getScratchReg, doMove}
 use Rattle.rules.specs.Order.{KeptMove, State, New, Pending, Done, isNew, isPending, Diverted, ParallelMoves, withAllocator, withState, withDiverted, carry, source, dest, value, writers, cycleMoveSources, emit, noted, divert, carried, lead, lost, undivert, undivertAll, close, visit}
 use Rattle.machine.specs.Machine.{fits}
-use Rattle.rules.proofs.Steps.{All, all-then, all-map, same?, updated-at, updated-same, updated-other}
+use Rattle.rules.proofs.Steps.{All, all-then, all-map, same?, Every, updated-at, updated-same, updated-other}
 use Rattle.machine.proofs.Tests.{hasIn, has-cons, has-head, has-tail, has-other, any-not, and-split, both, no-l, no-r, if, cond-yes, cond-not}
 use Rattle.machine.proofs.Memory.{distinct, TargetOk, covers, Apart}
-use Rattle.machine.proofs.Run.{Wait, idle, saved, Job}
+use Rattle.machine.proofs.Run.{Waits, Job}
 use Rattle.machine.proofs.Sound.{Needs, Within, Live}
-use Rattle.machine.proofs.Search.{wait, WaitsIn, Empty, WaitOk, Kept, ClassOk, Free, Lone, FoundOk, search-ok, kept-free, give-room}
+use Rattle.machine.proofs.Search.{wait, WaitsIn, Empty, Saved, Kept, ClassOk, Free, Lone, FoundOk, search-ok, kept-free, give-room}
 use Rattle.machine.proofs.Emit.{Asked, StackOk, doMove-ok}
 use Rattle.machine.proofs.Tally.{tally, tally-pos, tally-cong, tally-up}
 use Rattle.machine.proofs.Carry.{TabOk, Grown, mark-ok}
@@ -86,11 +86,11 @@ module _ (t : RegInfo) (F : Function) (tk : TargetOk t) (j : Job) (em : (s : ℕ
 
     pub empty-above : (needs : Needs) (k : ScratchAllocator) → Kept t F tk j em needs k → (s : ℕ) → Empty t F tk k s → F .slots ≤ s
     empty-above needs k h s (inl e) = ⊎-elim (λ y. h .room .cache-ok .low (y .0) s (y .1)) (λ b. omega arith) e
-    empty-above needs k h s (inr e) = go (wait k) (h .room .waits) e
+    empty-above needs k h s (inr e) = go (wait k) (h .room .waits .0) e
       where
-        go : (w : Wait) → WaitOk t F tk j em (k .cache) w → WaitsIn w s → F .slots ≤ s
-        go idle o x = absurd x
-        go (saved r y) o x = subst (λ (z : ℕ). F .slots ≤ z) (sym x) (o .above)
+        go : (ws : Waits) → Every (Saved t F tk j em (k .cache)) ws → WaitsIn ws s → F .slots ≤ s
+        go [] o x = absurd x
+        go (y ∷ ws) o x = ⊎-elim (λ q. subst (λ (z : ℕ). F .slots ≤ z) (sym q) (o .0 .above)) (go ws (o .1)) x
 
     -- one emitted move: some needs go from `to` to `from`, the others stay and are apart from `to`
     module _ (pl pl′ : ℕ → Place) (to from : Place) (v : ℕ) where
@@ -347,7 +347,6 @@ module _ (t : RegInfo) (F : Function) (tk : TargetOk t) (j : Job) (em : (s : ℕ
             sound = f .kept .sound;
             room =
                 record {
-                  few = f .kept .room .few;
                   inside = λ r u y c. f .kept .room .inside r u y (and-split (x .scratch .available u) (not (hasIn (unitsOfReg t F (x .place)) u)) c .0);
                   spare = λ r y n u h c. f .kept .room .spare r y n u h (and-split (x .scratch .available u) (not (hasIn (unitsOfReg t F (x .place)) u)) c .0);
                   cache-ok = f .kept .room .cache-ok;

@@ -12,16 +12,18 @@ use Rattle.entity.specs.Logic.{has, indices}
 use Rattle.reginfo.specs.RegInfo.{RegInfo, isMemory}
 use Rattle.function.specs.Function.{Function}
 use Rattle.rules.specs.Edit.{each}
-use Rattle.rules.specs.Scratch.{ScratchAllocator, unevictAll}
+use Rattle.rules.specs.Scratch.{ScratchAllocator, withEvicted, unevictAll}
+use Rattle.rules.proofs.Evictions.{unevict-evicted}
 use Rattle.rules.specs.Order.{KeptMove, State, New, Done, isNew, ParallelMoves, source, dest, value, visit, visitUnlessMemory, start, moves}
 use Rattle.machine.specs.Machine.{Memory, read, counted}
 use Rattle.rules.proofs.Steps.{All, all-then, all-map}
 use Rattle.machine.proofs.Tests.{hasIn, has-cons, or-l, or-r, if}
 use Rattle.machine.proofs.Memory.{distinct, TargetOk}
-use Rattle.machine.proofs.Run.{idle, Job, state, Ready, Along}
+use Rattle.machine.proofs.Run.{nobody, Job, state, Along}
+use Rattle.machine.proofs.View.{ready-none}
 use Rattle.machine.proofs.Sound.{Needs, Ok, Sound}
 use Rattle.machine.proofs.Cache.{CacheOk}
-use Rattle.machine.proofs.Search.{waitOf, Kept, Back, bring-ok, brought}
+use Rattle.machine.proofs.Search.{waitOf, Kept, Back, bring-ok}
 use Rattle.machine.proofs.Tally.{tally, tally-zero}
 use Rattle.machine.proofs.Order.{isDone, PatchOk, Needed, live, Rest, Home, Went, went-trans, Visited, AllSeen, each-ok, visit-ok}
 
@@ -113,11 +115,11 @@ module _ (t : RegInfo) (F : Function) (tk : TargetOk t) (j : Job) (em : (s : ℕ
     Holding m = (i : ℕ) → i < length ms → read t F m (source t F ms i) ≡ j .content (value t F ms i)
 
     pub record Right (k : ScratchAllocator) : Type 0 where
-      pub every : (m : Memory) → Holding m → Along t F j (k .edits) m (state idle m [])
+      pub every : (m : Memory) → Holding m → Along t F j (k .edits) m (state [] m [])
       pub cache-ok : CacheOk t F (k .cache)
 
     right : (w : ParallelMoves) (r : R w) → ((k : ℕ) → k < length ms → T (isDone (w .state k))) → Right (unevictAll t F (w .allocator))
-    unfolding Sound counted Ready
+    unfolding Sound counted
     right w r dn = record { every = go; cache-ok = bk .kept .room .cache-ok }
       where
         nd : Needs
@@ -126,15 +128,15 @@ module _ (t : RegInfo) (F : Function) (tk : TargetOk t) (j : Job) (em : (s : ℕ
         bk : Back t F tk j em nd (w .allocator) (unevictAll t F (w .allocator))
         bk = bring-ok t F tk j em nd (w .allocator) (r .inv .kept)
 
-        snd : Sound t F tk j (unevictAll t F (w .allocator) .edits) idle (Ok t F tk j nd idle)
-        snd = subst (λ x. Sound t F tk j (unevictAll t F (w .allocator) .edits) (waitOf x) (Ok t F tk j nd (waitOf x))) (brought t F tk j em nd (w .allocator) (r .inv .kept)) (bk .kept .sound)
+        snd : Sound t F tk j (unevictAll t F (w .allocator) .edits) [] (Ok t F tk j nd [])
+        snd = subst (λ x. Sound t F tk j (unevictAll t F (w .allocator) .edits) (waitOf x) (Ok t F tk j nd (waitOf x))) (unevict-evicted t F (w .allocator .evicted) (withEvicted [] (w .allocator))) (bk .kept .sound)
 
-        go : (m : Memory) → Holding m → Along t F j (unevictAll t F (w .allocator) .edits) m (state idle m [])
+        go : (m : Memory) → Holding m → Along t F j (unevictAll t F (w .allocator) .edits) m (state [] m [])
         go m hold =
-            snd m []
+            snd [] nobody m []
             (record {
               live = live t F tk j em ms ok (r .pl);
-              ready = tt;
+              ready = ready-none t F tk m;
               met = λ p x n.
                   let h : Home t F tk j em ms ok w (r .pl) (n .0) = at-home w r dn (n .0) (n .1) in
                   let e : p ≡ source t F ms (h .of) = n .2 ∙ h .at in

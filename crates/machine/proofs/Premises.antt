@@ -305,6 +305,10 @@ module _ (t : RegInfo) (f : Function) where
     unfolding regMemory
     reg-own r m = has-getD (regUnits t r) 0 (width-fits t to r (reg-there (λ x. eqb (x .memory) 1) refl r m) .0)
 
+    -- so has a register of a class
+    pub member-unit : (c r : ℕ) → c < numClasses t → has r (classMembers t c) ≡ true → has (getD (regUnits t r) 0 0) (regUnits t r) ≡ true
+    member-unit c r h m = has-getD (regUnits t r) 0 (width-fits t to r (member-fits t to c h r m) .0)
+
     pub reg-kinds : (x r u : ℕ) → isMemoryReg t x ≡ true → isMemoryReg t r ≡ false → has u (regUnits t x) ≡ true → has u (regUnits t r) ≡ true → ⊥
     unfolding regUnits has
     reg-kinds x r u m n h k = disjoint (reg x) (reg r) (memory-apart t to x r (reg-there (λ x. has u (x .units)) refl x h) (reg-there (λ x. has u (x .units)) refl r k) m n) u h k

@@ -1,9 +1,9 @@
 -- The rebuilds, put behind the kept moves: without scratch, with one scratch place, with two.
 use mathlib.Core.Path.{_≡_, refl, sym, subst}
 use mathlib.Core.Bool.{not}
-use mathlib.Core.List.{_∷_}
+use mathlib.Core.List.{[], _∷_}
 use mathlib.Core.Option.{some}
-use mathlib.Core.Logic.{_⊎_, inr, ⊎-elim}
+use mathlib.Core.Logic.{_⊎_, inl, inr, ⊎-elim}
 use Prim.Native.Nat.{ℕ, _+_, _≤_}
 use native.Mathlib.Nat.{add-left-cancel}
 use lib.Dec.{T, T-not, not-T, eqb-refl}
@@ -16,13 +16,14 @@ use Rattle.rules.specs.Scratch.{ScratchAllocator, Found, push, unitsOfReg, make
 use Rattle.rules.specs.Order.{doRemat, rematWithScratch}
 use Rattle.machine.specs.Machine.{fits}
 use Rattle.rules.proofs.Steps.{All, all-then}
-use Rattle.machine.proofs.Tests.{hasIn, and-split}
+use Rattle.machine.proofs.Tests.{hasIn, or-case, and-split}
 use Rattle.machine.proofs.Memory.{TargetOk, covers, Apart}
-use Rattle.machine.proofs.Run.{Wait, idle, saved, Job}
-use Rattle.machine.proofs.Sound.{Needs, can, under, shown, Aside, Within, Live, Ok, Pre, Sound, Turns, Stands}
+use Rattle.machine.proofs.Run.{Waits, Job}
+use Rattle.machine.proofs.View.{under, shown, Aside}
+use Rattle.machine.proofs.Sound.{Needs, can, Within, Live, Ok, Pre, Sound, Turns, Stands}
 use Rattle.machine.proofs.Macro.{Scratch, rebuild, rebuild-into}
-use Rattle.machine.proofs.Search.{wait, WaitsIn, or-case, Empty, ApartW, reg-covers, Room, Kept, BackFor, bringFor-ok, ClassOk, Free, Lone, FoundOk, search-ok, kept-free, give-room}
-use Rattle.machine.proofs.Emit.{room-edits, Asked, StackOk, goal, Moved, moveEdits-ok}
+use Rattle.machine.proofs.Search.{wait, WaitsIn, Empty, ApartW, reg-covers, Room, Kept, BackFor, bringFor-ok, ClassOk, Free, Lone, FoundOk, search-ok, kept-free, give-room}
+use Rattle.machine.proofs.Emit.{Asked, StackOk, goal, Moved, moveEdits-ok}
 
 module _ (t : RegInfo) (F : Function) (tk : TargetOk t) (j : Job) (em : (s : ℕ) → F .slots ≤ s → j .may (512 + s)) where
   abbrev K : Needs → ScratchAllocator → Type 0
@@ -38,7 +39,7 @@ module _ (t : RegInfo) (F : Function) (tk : TargetOk t) (j : Job) (em : (s : ℕ
   pub record AskedR (needs needs′ : Needs) (to : Place) (v : ℕ) : Type 0 where
     pub live : Live t F tk j needs
     pub given : needs to v
-    pub turns : Turns t F tk j needs needs′ idle to v
+    pub turns : Turns t F tk j needs needs′ [] to v
     pub back : (p : Place) (x : ℕ) → needs′ p x → needs p x × Apart t F tk p to
     pub len : T (fits t F to (length (j .content v)))
     pub inside : Within t F tk j (covers t F tk to)
@@ -62,7 +63,6 @@ module _ (t : RegInfo) (F : Function) (tk : TargetOk t) (j : Job) (em : (s : ℕ
           sound = snd;
           room =
               record {
-                few = h .few;
                 inside = λ r u y c. ⊎-elim (λ i. a .inside u (reg-covers t F tk to u i)) (h .inside r u y) (or-case (hasIn (unitsOfReg t F to) u) (k .available u) c);
                 spare = λ r x n u i c.
                     let b = a .back (reg r) x n in
@@ -75,7 +75,7 @@ module _ (t : RegInfo) (F : Function) (tk : TargetOk t) (j : Job) (em : (s : ℕ
 
     pub plain-ok : (k : ScratchAllocator) → K needs k → ApartW t F tk (wait k) to → T (can t F tk v to) → K needs′ (doRemat t F (record { dest = to; value = v }) k)
     plain-ok k h o c =
-        shed-ok (push (Rematerialize to v) k) (room-edits t F tk j em needs k (Rematerialize to v ∷ k .edits) (h .room))
+        shed-ok (push (Rematerialize to v) k) (h .room)
         (rebuild t F tk j (wait k) v (k .edits) needs needs′ (h .sound) (a .live) to (goal t F tk j em needs needs′ to to v (asked to) k (h .room) o) c)
 
     -- a scratch place found, seen from a later allocator
@@ -84,10 +84,10 @@ module _ (t : RegInfo) (F : Function) (tk : TargetOk t) (j : Job) (em : (s : ℕ
       low : (r u s : ℕ) → u ≡ 512 + s → T (hasIn (regUnits t r) u) → ⊥
       low r u s e h = T-not (hasIn (regUnits t r) (512 + s)) (tk .low r s) (subst (λ (z : ℕ). T (hasIn (regUnits t r) z)) e h)
 
-      low-under : (w : Wait) (u s : ℕ) → u ≡ 512 + s → T (under t F tk w u) → ⊥
+      low-under : (ws : Waits) (u s : ℕ) → u ≡ 512 + s → T (under t F tk ws u) → ⊥
       unfolding under
-      low-under idle u s e h = h
-      low-under (saved r y) u s e h = low r u s e h
+      low-under [] u s e h = h
+      low-under (x ∷ ws) u s e h = ⊎-elim (low (x .reg) u s e) (low-under ws u s e) (or-case (hasIn (regUnits t (x .reg)) u) (under t F tk ws u) h)
 
       -- a slot found is a lone one
       lone : (u s : ℕ) → T (covers t F tk (x .place) u) → u ≡ 512 + s → Lone t F tk j em needs (x .place) (x .scratch) u
@@ -115,11 +115,13 @@ module _ (t : RegInfo) (F : Function) (tk : TargetOk t) (j : Job) (em : (s : ℕ
             moved : (u : ℕ) → Free t F tk j em c (nothingBarred t F) (x .scratch) u → Free t F tk j em c (nothingBarred t F) k′ u
             moved u fr = record { of = fr .of; listed = fr .listed; its = fr .its; now = av u (fr .now); unbarred = fr .unbarred }
 
-            aside : (w : Wait) → ((s : ℕ) → WaitsIn w s → Empty t F tk (x .scratch) s) → Aside t F tk w (covers t F tk (x .place))
-            aside idle g = tt
-            aside (saved r s) g =
-                not-T (covers t F tk (x .place) (512 + s))
-                (λ d. let l = lone (512 + s) s d refl in l .full (subst (Empty t F tk (x .scratch)) (add-left-cancel 512 (l .its)) (g s refl)))
+            aside : (ws : Waits) → ((s : ℕ) → WaitsIn ws s → Empty t F tk (x .scratch) s) → Aside t F tk ws (covers t F tk (x .place))
+            aside [] g = tt
+            aside (y ∷ ws) g = (
+              not-T (covers t F tk (x .place) (512 + y .slot))
+                  (λ d. let l = lone (512 + y .slot) (y .slot) d refl in l .full (subst (Empty t F tk (x .scratch)) (add-left-cancel 512 (l .its)) (g (y .slot) (inl refl)))),
+              aside ws (λ s e. g s (inr e)),
+            )
 
         -- its slot, if it is one, put back
         returned : (z : ℕ) → Room t F tk j em needs (releasePlace t F z (x .place) k′)
@@ -160,7 +162,7 @@ module _ (t : RegInfo) (F : Function) (tk : TargetOk t) (j : Job) (em : (s : ℕ
             (moveEdits-ok t F tk j em needs needs′ to (x .place) v (asked (x .place)) bnk sk P (x .scratch) (f .kept) (f .still to (b₁ .off) (rk .far)) (λ m l h. (h .ok, h .raw)) (λ _ y g m l h. (h .ok, h .raw)))
             done
           where
-            P : Wait → Pre t F tk j
+            P : Waits → Pre t F tk j
             P w = Stands t F tk j needs′ w (x .place) v
 
             able : T (can t F tk v (x .place))
@@ -171,13 +173,13 @@ module _ (t : RegInfo) (F : Function) (tk : TargetOk t) (j : Job) (em : (s : ℕ
             done k′ m = shed-ok (releasePlace t F (spillslotSize t bnk) (x .place) k″) room (released (spillslotSize t bnk) (x .place) k″ needs′ snd)
               where
                 hid : (u : ℕ) → T (under t F tk (wait (x .scratch)) u) → T (not (isMemory t (x .place))) → T (under t F tk (wait k′) u)
-                hid u h nm = subst (λ (w : Wait). T (under t F tk w u)) (sym (m .same nm)) h
+                hid u h nm = subst (λ (ws : Waits). T (under t F tk ws u)) (sym (m .same nm)) h
 
                 k″ : ScratchAllocator
                 k″ = push (Rematerialize (x .place) v) k′
 
                 room : Room t F tk j em needs (releasePlace t F (spillslotSize t bnk) (x .place) k″)
-                room = returned bnk cls (rk .ok) k x f k″ (room-edits t F tk j em needs k′ (k″ .edits) (m .room)) (m .fewer) (m .avails) hid (spillslotSize t bnk)
+                room = returned bnk cls (rk .ok) k x f k″ (m .room) (m .fewer) (m .avails) hid (spillslotSize t bnk)
 
                 snd : Sound t F tk j (k″ .edits) (wait k″) (Ok t F tk j needs′ (wait k″))
                 snd = rebuild-into t F tk j (wait k′) v (k′ .edits) needs′ (x .place) (scratch-of bnk cls (rk .ok) k x f k′ (m .room) (m .fewer) (m .avails) hid) able (m .sound)

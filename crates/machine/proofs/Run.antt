@@ -1,26 +1,42 @@
 -- What holds at each stop of a run, for any set of places that may change.
 use mathlib.Core.Path.{_≡_, refl}
-use mathlib.Core.Bool.{Bool, true, false, not}
+use mathlib.Core.Bool.{Bool, true, false}
 use mathlib.Core.List.{List, [], _∷_, List·Memᴰ}
 use mathlib.Core.Option.{some}
 use mathlib.Core.Logic.{_⊎_}
 use Prim.Native.Nat.{ℕ, zero, suc}
-use lib.Dec.{T, eqb}
-use lib.ListN.{length, take}
+use lib.Dec.{T}
+use lib.ListN.{take}
 use Rattle.entity.specs.Place.{Place}
-use Rattle.reginfo.specs.RegInfo.{RegInfo, regUnits, isMemoryReg}
+use Rattle.reginfo.specs.RegInfo.{RegInfo}
 use Rattle.function.specs.Function.{Function}
 use Rattle.rules.specs.Edit.{Edit, andThen}
-use Rattle.machine.specs.Machine.{Memory, inSlot, Waiting, Written, Machine, read, step, steps, counted, seen, when}
+use Rattle.rules.proofs.Steps.{Every}
+use Rattle.rules.proofs.Parts.{Picked, here, later, every-put}
+use Rattle.machine.specs.Machine.{Memory, Waiting, Written, Machine, read, step, steps, counted, seen, when}
 
--- the register that waits, and the slot that it waits in; one at most
-pub data Wait : Type 0 where
-  idle : Wait
-  saved : ℕ → ℕ → Wait
+-- the registers that wait, each with its slot
+abbrev pub Waits : Type 0
+Waits = List Waiting
 
-abbrev pub waiting : Wait → List Waiting
-waiting idle = []
-waiting (saved r s) = record { reg = r; slot = s } ∷ []
+-- the first list is the second in some order: a save puts its register in front, and which of those that wait was saved last is known only
+-- once all are saved
+pub data Orders : Waits → Waits → Type 0 where
+  nobody : Orders [] []
+  more : {x : Waiting} {w v ws : Waits} → Picked x w v → Orders v ws → Orders w (x ∷ ws)
+
+pub as-listed : (ws : Waits) → Orders ws ws
+as-listed [] = nobody
+as-listed (x ∷ ws) = more here (as-listed ws)
+
+pub orders-every : (P : Waiting → Type 0) (w ws : Waits) → Orders w ws → Every P ws → Every P w
+orders-every P _ _ nobody h = tt
+orders-every P w _ (more {x = x} {v = v} {ws = ws} p o) h = every-put P x w v p (h .0) (orders-every P v ws o (h .1))
+
+-- one more in front
+pub orders-insert : (x : Waiting) (w zs ws : Waits) → Picked x zs ws → Orders w ws → Orders (x ∷ w) zs
+orders-insert x w _ ws here o = more here o
+orders-insert x w _ _ (later {y = y} {l = l} {m = m} p) (more {v = v} q o) = more (later q) (orders-insert x v l m p o)
 
 abbrev pub Log : Type 0
 Log = List Written
@@ -28,8 +44,8 @@ Log = List Written
 abbrev pub wr : Place → List ℕ → Written
 wr p ws = record { place = p; words = ws }
 
-abbrev pub state : Wait → Memory → Log → Machine
-state w m l = record { memory = m; waiting = waiting w; written = l }
+abbrev pub state : Waits → Memory → Log → Machine
+state w m l = record { memory = m; waiting = w; written = l }
 
 pub when-yes : (b : Bool) (s : Machine) → T b → when b s ≡ some s
 when-yes true s h = refl
@@ -47,13 +63,8 @@ pub record Job : Type 1 where
   pub final : Place → ℕ → Type 0
 
 module _ (t : RegInfo) (f : Function) where
-  abbrev pub view : Wait → Memory → Memory
-  view w m = counted t f (waiting w) m
-
-  -- the register that waits is not memory, and its slot's list fits it
-  unfoldable pub Ready : Wait → Memory → Type 0
-  Ready idle m = Unit {0}
-  Ready (saved r s) m = T (not (isMemoryReg t r)) × T (eqb (length (inSlot m s)) (length (regUnits t r)))
+  abbrev pub view : Waits → Memory → Memory
+  view w m = counted t f w m
 
   module _ (j : Job) where
     -- the view agrees outside what may change

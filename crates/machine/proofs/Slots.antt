@@ -7,26 +7,27 @@ use mathlib.Core.Option.{Option, none, some}
 use mathlib.Core.Logic.{_⊎_, inl, inr, ⊎-elim}
 use native.Mathlib.Omega.{arith}
 use lib.Dec.{eqb, ltb}
-use lib.ListN.{length, getD}
+use lib.ListN.{length, getD, take, drop}
 use borrow.Author.Tests.{eq-eqb, ne-eqb, eqb-true, eqb-false, ltb-true, ltb-false}
 use Rattle.entity.specs.Logic.{pick, and, or, no, any, has, twice, indices}
 use Rattle.entity.proofs.Laws.{or-false, never-true, has-getD}
 use Rattle.entity.specs.Place.{Place, reg, slot}
-use Rattle.reginfo.specs.RegInfo.{RegInfo, numBanks, bankForClass, allocationOrder, classMembers, includesSpillslots, isMemory, spillslotSize, topLevelClass, stackToStackClass}
+use Rattle.reginfo.specs.RegInfo.{RegInfo, numBanks, bankForClass, allocationOrder, classMembers, includesSpillslots, lastInOrder, isMemory, spillslotSize, topLevelClass, stackToStackClass}
 use Rattle.reginfo.specs.Refused as target
 use Rattle.reginfo.proofs.Accepted.{stack-slots}
 use Rattle.function.specs.Function.{Function, numValues, valueBank, rematClass}
 use Rattle.function.specs.Refused as function
 use Rattle.function.proofs.Laws.{bank-there, class-of-bank}
 use Rattle.rules.specs.Edit.{Edit, Rematerialize, updated, andThen, each, find, filter}
-use Rattle.rules.specs.Scratch.{Cache, emptyCache, Evicted, ScratchAllocator, Acquired, push, withEvicted, Found, unevict, unevictAll, overlapsEvicted, unevictForReg, acquireFrom, acquire, release, releasePlace, usable, slotScratch, evictLast, reuse, orScratch, getScratchReg, nothingBarred, moveEdits, doMove, meeting, searchedTo}
+use Rattle.rules.specs.Scratch.{Cache, emptyCache, Evicted, ScratchAllocator, Acquired, push, withEvicted, Found, unevict, unevictAll, unevictBut, overlapsEvicted, unevictForReg, makeRoom, acquireFrom, acquire, release, releasePlace, usable, slotScratch, evictLast, reuse, orScratch, getScratchReg, nothingBarred, moveEdits, doMove, meeting, searchedTo}
 use Rattle.rules.specs.Order.{KeptMove, noMove, Remat, State, Pending, Done, isNew, isPending, Diverted, ParallelMoves, withState, carry, remats, doRemat, rematWithScratch, source, dest, value, bank, writers, cycleMoveSources, emit, noted, divert, carried, lead, lost, undivert, undivertAll, close, visit, visitUnlessMemory, start, moves}
 use Rattle.rules.specs.Patch.{Patch, Sorted, sorted, run, Answer, refused, resolved, resolve, Call, cacheAfter}
 use Rattle.rules.specs.Sorted.{MoveOk, RematOk, noRemat, SortedOk, Ran}
 use Rattle.rules.proofs.Accepted.{accepted}
+use Rattle.rules.proofs.Parts.{Parts, all-parts, filter-parts, drop-parts, parts-sum}
+use Rattle.rules.proofs.Evictions.{unevict-evicted}
 use Rattle.machine.specs.Slots.{InStacks, Stays, SlotsClaim, SlotsLie}
 use Rattle.rules.proofs.Steps.{All, all-then, branch, same?, Every, every-getD, every-reverse, every-index, all-each, updated-at, updated-same, updated-other}
-use Rattle.machine.proofs.Bound.{unevict-evicted}
 use Rattle.rules.proofs.Writers.{writers-low}
 use Rattle.rules.specs.Counts.{bit, sum}
 use Rattle.rules.proofs.Sum.{sum-change, sum-zero, sum-ones, sum-le}
@@ -123,15 +124,9 @@ waits : List Evicted → ℕ → ℕ → ℕ
 waits [] s z = 0
 waits (e ∷ l) s z = one (e .slot) (e .size) s z + waits l s z
 
-waits-split : (p : Evicted → Bool) (l : List Evicted) (s z : ℕ) → waits (filter p l) s z + waits (filter (λ e. no (p e)) l) s z ≡ waits l s z
-unfolding waits filter
-waits-split p [] s z = refl
-waits-split p (e ∷ l) s z = go (p e) (waits-split p l s z)
-  where
-    go : (b : Bool) → waits (filter p l) s z + waits (filter (λ e. no (p e)) l) s z ≡ waits l s z
-        → waits (pick b (e ∷ filter p l) (filter p l)) s z + waits (pick (no b) (e ∷ filter (λ e. no (p e)) l) (filter (λ e. no (p e)) l)) s z ≡ one (e .slot) (e .size) s z + waits l s z
-    go true h = omega arith
-    go false h = omega arith
+waits-parts : (es rest l : List Evicted) → Parts es rest l → (s z : ℕ) → waits es s z + waits rest s z ≡ waits l s z
+unfolding waits
+waits-parts es rest l h s z = parts-sum (λ l. waits l s z) (λ (e : Evicted). one (e .slot) (e .size) s z) (λ e l. refl) refl es rest l h
 
 abbrev Count : Type 0
 Count = ℕ → ℕ → ℕ
@@ -219,15 +214,25 @@ module _ (t : RegInfo) (f : Function) (c₀ : Cache) where
       (good-cong (λ s z. stacked (unevict t f l k .cache) s z + (waits (unevict t f l k .evicted) s z + (one (e .slot) (e .size) s z + extra s z))) _ (unevict t f l k .cache .made) (λ s z. omega arith)
       (unevict-good l k (λ s z. one (e .slot) (e .size) s z + extra s z) (good-cong _ _ (k .cache .made) (λ s z. omega arith) g)))
 
+  part-good : (k : ScratchAllocator) (es rest : List Evicted) (extra : Count) → Parts es rest (k .evicted) → Kept extra k → Kept extra (unevict t f es (withEvicted rest k))
+  unfolding Kept
+  part-good k es rest extra h g =
+      unevict-good es (withEvicted rest k) extra
+      (good-cong (λ s z. stacked (k .cache) s z + (waits (k .evicted) s z + extra s z)) _ (k .cache .made) (λ s z. omega (arith, waits-parts es rest (k .evicted) h s z)) g)
+
   all-good : (k : ScratchAllocator) (extra : Count) → Kept extra k → Kept extra (unevictAll t f k)
-  unfolding Kept waits
-  all-good k extra g = unevict-good (k .evicted) (withEvicted [] k) extra (good-cong (λ s z. stacked (k .cache) s z + (waits (k .evicted) s z + extra s z)) _ (k .cache .made) (λ s z. omega arith) g)
+  all-good k extra g = part-good k (k .evicted) [] extra (all-parts (k .evicted)) g
 
   some-good : (p : Place) (k : ScratchAllocator) (extra : Count) → Kept extra k → Kept extra (unevictForReg t f p k)
-  unfolding Kept unevictForReg
+  unfolding unevictForReg
   some-good p k extra g =
-      unevict-good (filter (overlapsEvicted t f p) (k .evicted)) (withEvicted (filter (λ e. no (overlapsEvicted t f p e)) (k .evicted)) k) extra
-      (good-cong (λ s z. stacked (k .cache) s z + (waits (k .evicted) s z + extra s z)) _ (k .cache .made) (λ s z. omega (arith, waits-split (overlapsEvicted t f p) (k .evicted) s z)) g)
+      part-good k (filter (overlapsEvicted t f p) (k .evicted)) (filter (λ e. no (overlapsEvicted t f p e)) (k .evicted)) extra (filter-parts (overlapsEvicted t f p) (k .evicted)) g
+
+  room-good : (r : ℕ) (k : ScratchAllocator) (extra : Count) → Kept extra k → Kept extra (makeRoom t f r k)
+  unfolding makeRoom unevictBut
+  room-good r k extra g =
+      let k′ = unevictForReg t f (reg r) k in
+      part-good k′ (drop (pred (f .kept)) (k′ .evicted)) (take (pred (f .kept)) (k′ .evicted)) extra (drop-parts (pred (f .kept)) (k′ .evicted)) (some-good (reg r) k extra g)
 
   place-good : (z : ℕ) (p : Place) (k : ScratchAllocator) (extra : Count) → Kept (λ s y. holds p z s y + extra s y) k → Kept extra (releasePlace t f z p k)
   unfolding Kept holds
@@ -262,7 +267,7 @@ module _ (t : RegInfo) (f : Function) (c₀ : Cache) where
 
     reuse-good : (l : List Evicted) (n : ℕ) (k : ScratchAllocator) → Kept extra k → All (Search b c extra) (reuse t f l n b c k)
     unfolding reuse
-    reuse-good [] n k g = evict-good n (unevictAll t f k) (all-good k extra g)
+    reuse-good [] n k g = evict-good n (makeRoom t f (lastInOrder t c) k) (room-good (lastInOrder t c) k extra g)
     reuse-good (e ∷ l) n k g = branch (All (Search b c extra)) (has (e .reg) (classMembers t c)) _ _ (λ _. reg-found (e .reg) n k g) (λ _. reuse-good l n k g)
 
     found-good : (o : Option ℕ) (n : ℕ) (k : ScratchAllocator) → Kept extra k → All (Search b c extra) (orScratch t f o n b c k)

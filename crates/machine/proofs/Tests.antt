@@ -44,6 +44,10 @@ pub or-r : (a b : Bool) → T b → T (a || b)
 or-r true b h = tt
 or-r false b h = h
 
+pub or-case : (a b : Bool) → T (a || b) → T a ⊎ T b
+or-case true b h = inl tt
+or-case false b h = inr h
+
 pub and-split : (a b : Bool) → T (a && b) → T a × T b
 and-split true b h = (tt, h)
 and-split false b h = absurd h

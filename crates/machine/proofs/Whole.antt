@@ -18,7 +18,7 @@ use Rattle.machine.specs.Machine.{Memory, read, fits}
 use Rattle.rules.proofs.Steps.{All, all-then}
 use Rattle.machine.proofs.Tests.{hasIn}
 use Rattle.machine.proofs.Memory.{TargetOk, covers, Apart}
-use Rattle.machine.proofs.Run.{idle, Job, state, Along}
+use Rattle.machine.proofs.Run.{Job, state, Along}
 use Rattle.machine.proofs.Sound.{Needs, can, Within, Sound, sound-nil}
 use Rattle.machine.proofs.Cache.{Loose, CacheOk}
 use Rattle.machine.proofs.Search.{waitOf, ApartW, Kept}
@@ -93,10 +93,9 @@ module _ (t : RegInfo) (F : Function) (tk : TargetOk t) (j : Job) (em : (s : ℕ
   unfolding Sound
   bare k h =
       record {
-        sound = λ m l o. h .sound m l (record { live = λ v y. let q = o .live v y in (q .0, inl (q .1)); ready = o .ready; met = λ p x. ⊎-elim (o .met p x) (λ z. absurd z) });
+        sound = λ w q m l o. h .sound w q m l (record { live = λ v y. let q = o .live v y in (q .0, inl (q .1)); ready = o .ready; met = λ p x. ⊎-elim (o .met p x) (λ z. absurd z) });
         room =
             record {
-              few = h .room .few;
               inside = h .room .inside;
               spare = λ r v n. h .room .spare r v (inl n);
               cache-ok = h .room .cache-ok;
@@ -115,7 +114,7 @@ module _ (t : RegInfo) (F : Function) (tk : TargetOk t) (j : Job) (em : (s : ℕ
       pub scratches : ScratchesOk ss
 
     pub record Done (k : ScratchAllocator) : Type 0 where
-      pub every : (m : Memory) → ((i : ℕ) → i < length ms → read t F m (source t F ms i) ≡ j .content (value t F ms i)) → Along t F j (k .edits) m (state idle m [])
+      pub every : (m : Memory) → ((i : ℕ) → i < length ms → read t F m (source t F ms i) ≡ j .content (value t F ms i)) → Along t F j (k .edits) m (state [] m [])
       pub cache-ok : CacheOk t F (k .cache)
 
     abbrev begin : Cache → ScratchAllocator
@@ -137,11 +136,10 @@ module _ (t : RegInfo) (F : Function) (tk : TargetOk t) (j : Job) (em : (s : ℕ
               sound = sound-nil t F tk j (NeedR (ps ++ ss)) (st .final);
               room =
                   record {
-                    few = omega arith;
                     inside = st .free-may;
                     spare = λ r v n u h i. st .free-dst v r u n h i;
                     cache-ok = co;
-                    waits = tt;
+                    waits = (tt, tt);
                     empty = λ p v n s. ⊎-elim (λ e. st .real p v s n (above s e)) (λ x. absurd x);
                   };
             }

@@ -1,5 +1,5 @@
 -- Demand 3 spelled out, for all words and every start, stop by stop: at swap-full; at slot-to-slot, where a register is evicted; with argument
--- words (02 b), where one is a scratch, and where two are swapped.
+-- words (02 b), where one is a scratch, and where two are swapped; and with two registers evicted (02 i).
 use Prim.Native.Nat.{ℕ, zero, suc}
 use mathlib.Core.Path.{_≡_}
 use mathlib.Core.List.{List, [], _∷_, map}
@@ -10,7 +10,7 @@ use Rattle.reginfo.specs.RegInfo.{RegInfo}
 use Rattle.function.specs.Function.{Function}
 use Rattle.rules.specs.Edit.{Edit, Move, EmergencySpill, EmergencyReload}
 use Rattle.rules.specs.Patch.{Patch, move}
-use Rattle.rules.specs.Trials.{three, plain, patch, swap, arguments}
+use Rattle.rules.specs.Trials.{three, plain, patch, swap, arguments, twoBanks, ofTwo, stored, r0Edits, r1Edits}
 use Rattle.machine.specs.Machine.{Memory, inSlot, Machine, Waiting, begin, steps}
 use Rattle.machine.specs.Claim.{Stopped, Finished}
 
@@ -146,3 +146,44 @@ module _ (start : Memory) (a b c d : ℕ) where
 
 abbrev pub SwapOfWords : Type 0
 SwapOfWords = (start : Memory) (a b c d : ℕ) → start .lists 4 ≡ a ∷ b ∷ [] → start .lists 5 ≡ c ∷ d ∷ [] → WordsSwapped start a b c d
+
+-- ---- two registers evicted
+-- "S s5 r1, S s4 r0, M r1 s2 1, M s3 r1 1, L r1 s5, M r0 s0 0, M s1 r0 0, L r0 s4"
+abbrev pub bothEdits : List Edit
+bothEdits = EmergencySpill 5 1 ∷ EmergencySpill 4 0 ∷ r1Edits 5 (r0Edits 4)
+
+-- r1 waits in slot 5, r0 in slot 4
+abbrev pub r1WaitsIn5 : List Waiting
+r1WaitsIn5 = record { reg = 1; slot = 5 } ∷ []
+
+abbrev pub r0WaitsIn4 : List Waiting → List Waiting
+r0WaitsIn4 l = record { reg = 0; slot = 4 } ∷ l
+
+module _ (start : Memory) (a b : ℕ) where
+  -- at the words of r0 and r1, and the lists of slots 1, 3, 4 and 5: slots 0 and 2 hold a and b
+  abbrev pub StopOfTwo : ℕ → List ℕ → List ℕ → List ℕ → List ℕ → List ℕ → List Waiting → Type 0
+  StopOfTwo k ws w x y z =
+      Stop twoBanks (0 ∷ 1 ∷ []) (512 ∷ 513 ∷ 514 ∷ 515 ∷ 516 ∷ 517 ∷ []) (ofTwo 4 2 2) (patch [] (stored [])) (words a b) bothEdits start k ws ((a ∷ []) ∷ w ∷ (b ∷ []) ∷ x ∷ y ∷ z ∷ [])
+
+  -- what r0 and r1 held
+  abbrev pub w0 : ℕ
+  w0 = start .word 0
+
+  abbrev pub w1 : ℕ
+  w1 = start .word 1
+
+  -- a goes from slot 0 to slot 1 through r0 and b from slot 2 to slot 3 through r1, which both wait meanwhile
+  pub record BothWait : Type 0 where
+    pub stop-0 : StopOfTwo 0 (w0 ∷ w1 ∷ []) (inSlot start 1) (inSlot start 3) (inSlot start 4) (inSlot start 5) []
+    pub stop-1 : StopOfTwo 1 (w0 ∷ w1 ∷ []) (inSlot start 1) (inSlot start 3) (inSlot start 4) (w1 ∷ []) r1WaitsIn5
+    pub stop-2 : StopOfTwo 2 (w0 ∷ w1 ∷ []) (inSlot start 1) (inSlot start 3) (w0 ∷ []) (w1 ∷ []) (r0WaitsIn4 r1WaitsIn5)
+    pub stop-3 : StopOfTwo 3 (w0 ∷ b ∷ []) (inSlot start 1) (inSlot start 3) (w0 ∷ []) (w1 ∷ []) (r0WaitsIn4 r1WaitsIn5)
+    pub stop-4 : StopOfTwo 4 (w0 ∷ b ∷ []) (inSlot start 1) (b ∷ []) (w0 ∷ []) (w1 ∷ []) (r0WaitsIn4 r1WaitsIn5)
+    pub stop-5 : StopOfTwo 5 (w0 ∷ w1 ∷ []) (inSlot start 1) (b ∷ []) (w0 ∷ []) (w1 ∷ []) (r0WaitsIn4 [])
+    pub stop-6 : StopOfTwo 6 (a ∷ w1 ∷ []) (inSlot start 1) (b ∷ []) (w0 ∷ []) (w1 ∷ []) (r0WaitsIn4 [])
+    pub stop-7 : StopOfTwo 7 (a ∷ w1 ∷ []) (a ∷ []) (b ∷ []) (w0 ∷ []) (w1 ∷ []) (r0WaitsIn4 [])
+    pub stop-8 : StopOfTwo 8 (w0 ∷ w1 ∷ []) (a ∷ []) (b ∷ []) (w0 ∷ []) (w1 ∷ []) []
+    pub ends : Ends twoBanks (ofTwo 4 2 2) (patch [] (stored [])) (words a b) bothEdits start
+
+abbrev pub TwoWait : Type 0
+TwoWait = (start : Memory) (a b : ℕ) → inSlot start 0 ≡ a ∷ [] → inSlot start 2 ≡ b ∷ [] → BothWait start a b

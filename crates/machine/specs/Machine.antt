@@ -92,7 +92,7 @@ module _ (t : RegInfo) (f : Function) where
   steps content [] s = some s
   steps content (e ∷ es) s = andThen (step content e s) (steps content es)
 
-  -- "A register is waiting between the two; its units then count as holding what was saved."
+  -- "A register is waiting between the two; its units then count as holding what was saved."; 02 i: "All saved words count"
   unfoldable pub counted : List Waiting → Memory → Memory
   counted [] m = m
   counted (w ∷ l) m = write (reg (w .reg)) (inSlot m (w .slot)) (counted l m)

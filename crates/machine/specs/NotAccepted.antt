@@ -91,6 +91,8 @@ pub record NotAccepted : Type 0 where
   pub left-waiting : plainly one (EmergencySpill 2 2 ∷ right ∷ [])
   -- writes the slot of a waiting register and mends it before the end
   pub waiting-lost : plainly one (EmergencySpill 2 2 ∷ Move (slot 2) (reg 0) 0 ∷ Move (slot 2) (reg 2) 0 ∷ EmergencyReload 2 2 ∷ right ∷ [])
+  -- the same of a register that was saved before another, while both wait (02 i: "All saved words count when the machine is stopped.")
+  pub earlier-lost : plainly one (EmergencySpill 2 2 ∷ EmergencySpill 3 3 ∷ Move (slot 2) (reg 0) 0 ∷ Move (slot 2) (reg 2) 0 ∷ EmergencyReload 3 3 ∷ EmergencyReload 2 2 ∷ right ∷ [])
   -- the empty list
   pub empty : plainly one []
   -- loses value 0 at the first edit and rebuilds it at the second, while its words stand in slot 1 by chance

@@ -10,10 +10,10 @@ use lib.ListN.{length}
 use borrow.Author.Tests.{lt-ltb}
 use Rattle.entity.specs.Logic.{pick, and, or, any, has, indices}
 use Rattle.entity.specs.Place.{Place}
-use Rattle.reginfo.specs.RegInfo.{RegInfo, includesSpillslots, classMembers, allocationOrder, stackToStackClass, topLevelClass, isMemory}
+use Rattle.reginfo.specs.RegInfo.{RegInfo, includesSpillslots, classMembers, lastInOrder, allocationOrder, stackToStackClass, topLevelClass, isMemory}
 use Rattle.function.specs.Function.{Function, valueBank, rematClass}
 use Rattle.rules.specs.Edit.{andThen, each, find}
-use Rattle.rules.specs.Scratch.{Cache, ScratchAllocator, Evicted, acquireFrom, unevict, unevictAll, unevictForReg, usable, meeting, searchedTo, slotScratch, evictLast, reuse, orScratch, getScratchReg, nothingBarred, moveEdits, doMove}
+use Rattle.rules.specs.Scratch.{Cache, ScratchAllocator, Evicted, acquireFrom, unevict, unevictBut, unevictForReg, makeRoom, usable, meeting, searchedTo, slotScratch, evictLast, reuse, orScratch, getScratchReg, nothingBarred, moveEdits, doMove}
 use Rattle.rules.specs.Order.{KeptMove, Remat, ParallelMoves, remats, rematWithScratch, source, dest, value, writerFrom, writersOf, writers, cycleMoveSources, emit, noted, divert, carried, lead, lost, undivert, undivertAll, close, visit, visitUnlessMemory, start, moves, withState, Pending, Done, isNew, isPending}
 use Rattle.rules.specs.Counts.{news}
 use Rattle.rules.specs.Patch.{Patch, Sorted, run}
@@ -79,8 +79,8 @@ module _ (t : RegInfo) (f : Function) where
   evict-ends n b c k = bind _ _ (acquire-ends _ (k .cache) _) (λ a. stay _)
 
   reuse-ends : (es : List Evicted) (n b c : ℕ) (k : ScratchAllocator) → Ends (λ l. reuse t (F l) es n b c k)
-  unfolding reuse unevict
-  reuse-ends [] n b c k = evict-ends n b c (unevictAll t f k)
+  unfolding reuse makeRoom unevictBut unevictForReg unevict
+  reuse-ends [] n b c k = evict-ends n b c (makeRoom t f (lastInOrder t c) k)
   reuse-ends (e ∷ es) n b c k = choose (has (e .reg) (classMembers t c)) _ _ (λ _. stay _) (λ _. reuse-ends es n b c k)
 
   or-ends : (o : Option ℕ) (n b c : ℕ) (k : ScratchAllocator) → Ends (λ l. orScratch t (F l) o n b c k)

@@ -3,6 +3,8 @@ pub mod Sum
 pub mod News
 pub mod Writers
 pub mod Position
+pub mod Parts
+pub mod Evictions
 pub mod Fuel
 pub mod Trials
 pub mod Accepted

@@ -11,10 +11,10 @@ use lib.ListN.{length}
 use borrow.Author.Tests.{ltb-true, ltb-false}
 use Rattle.entity.specs.Logic.{pick, and, or, any, has, indices}
 use Rattle.entity.specs.Place.{Place, reg, slot}
-use Rattle.reginfo.specs.RegInfo.{RegInfo, includesSpillslots, classMembers, allocationOrder, stackToStackClass, topLevelClass, isMemory}
+use Rattle.reginfo.specs.RegInfo.{RegInfo, includesSpillslots, classMembers, lastInOrder, allocationOrder, stackToStackClass, topLevelClass, isMemory}
 use Rattle.function.specs.Function.{Function, valueBank, rematClass}
 use Rattle.rules.specs.Edit.{andThen, each, find}
-use Rattle.rules.specs.Scratch.{Cache, ScratchAllocator, Evicted, Found, Acquired, acquireFrom, unevict, unevictAll, unevictForReg, usable, meeting, searchedTo, slotScratch, evictLast, reuse, orScratch, getScratchReg, nothingBarred, moveEdits, doMove, releasePlace, withEvicted}
+use Rattle.rules.specs.Scratch.{Cache, ScratchAllocator, Evicted, Found, Acquired, acquireFrom, unevict, unevictBut, unevictForReg, makeRoom, usable, meeting, searchedTo, slotScratch, evictLast, reuse, orScratch, getScratchReg, nothingBarred, moveEdits, doMove, releasePlace, withEvicted}
 use Rattle.rules.specs.Order.{KeptMove, Remat, ParallelMoves, doRemat, remats, rematWithScratch, source, dest, value, writerFrom, writersOf, writers, cycleMoveSources, emit, noted, divert, carried, lead, lost, undivert, undivertAll, close, visit, visitUnlessMemory, start, moves, withState, Pending, Done, isNew, isPending}
 use Rattle.rules.specs.Patch.{Patch, Sorted, run}
 use Rattle.rules.specs.Refusals.{withLimit, ByLimit}
@@ -113,6 +113,10 @@ module _ (t : RegInfo) (f : Function) (l : ℕ) where
   unfolding unevictForReg
   for-made p k = unevict-made _ _
 
+  room-made : (r : ℕ) (k : ScratchAllocator) → ofKeeper (makeRoom t f r k) ≡ ofKeeper k
+  unfolding makeRoom unevictBut
+  room-made r k = unevict-made _ _ ∙ for-made (reg r) k
+
   release-made : (z : ℕ) (p : Place) (k : ScratchAllocator) → ofKeeper (releasePlace t f z p k) ≡ ofKeeper k
   release-made z (reg r) k = refl
   release-made z (slot s) k = refl
@@ -126,8 +130,8 @@ module _ (t : RegInfo) (f : Function) (l : ℕ) where
   evict-same n b c k = bind ofCache ofFound (ofKeeper k) _ _ _ _ (acquire-same _ (k .cache) _) (λ a. stay ofFound (ofCache a) _ refl)
 
   reuse-same : (es : List Evicted) (n b c : ℕ) (k : ScratchAllocator) → Same ofFound (ofKeeper k) (reuse t f es n b c k) (reuse t f′ es n b c k)
-  unfolding reuse unevict
-  reuse-same [] n b c k = from ofFound (ofKeeper (unevictAll t f k)) (ofKeeper k) _ _ (unevict-made (k .evicted) (withEvicted [] k)) (evict-same n b c (unevictAll t f k))
+  unfolding reuse makeRoom unevictBut unevictForReg unevict
+  reuse-same [] n b c k = from ofFound (ofKeeper (makeRoom t f (lastInOrder t c) k)) (ofKeeper k) _ _ (room-made (lastInOrder t c) k) (evict-same n b c (makeRoom t f (lastInOrder t c) k))
   reuse-same (e ∷ es) n b c k = choose ofFound (ofKeeper k) (has (e .reg) (classMembers t c)) _ _ _ _ (stay ofFound (ofKeeper k) _ refl) (reuse-same es n b c k)
 
   or-same : (o : Option ℕ) (n b c : ℕ) (k : ScratchAllocator) → Same ofFound (ofKeeper k) (orScratch t f o n b c k) (orScratch t f′ o n b c k)

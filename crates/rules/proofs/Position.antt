@@ -8,10 +8,10 @@ use native.Mathlib.Omega.{arith}
 use lib.ListN.{length, getD}
 use Rattle.entity.specs.Logic.{pick, has}
 use Rattle.entity.specs.Place.{reg}
-use Rattle.reginfo.specs.RegInfo.{RegInfo, allocationOrder, includesSpillslots, classMembers}
+use Rattle.reginfo.specs.RegInfo.{RegInfo, allocationOrder, includesSpillslots, classMembers, lastInOrder}
 use Rattle.function.specs.Function.{Function}
 use Rattle.rules.specs.Edit.{find, firstAt}
-use Rattle.rules.specs.Scratch.{ScratchAllocator, Evicted, Found, meeting, searchedTo, usable, unevict, unevictAll, withEvicted, acquire, slotScratch, evictLast, reuse, orScratch, getScratchReg}
+use Rattle.rules.specs.Scratch.{ScratchAllocator, Evicted, Found, meeting, searchedTo, usable, unevict, unevictBut, unevictForReg, makeRoom, slotScratch, evictLast, reuse, orScratch, getScratchReg}
 use Rattle.rules.specs.Position.{Reported, SearchReports}
 use Rattle.rules.proofs.Steps.{All, all-after, branch}
 
@@ -50,6 +50,10 @@ module _ (t : RegInfo) (f : Function) where
   unevict-met [] k = refl
   unevict-met (e ∷ es) k = unevict-met es k
 
+  room-met : (r : ℕ) (k : ScratchAllocator) → makeRoom t f r k .met ≡ k .met
+  unfolding makeRoom unevictBut unevictForReg
+  room-met r k = unevict-met _ _ ∙ unevict-met _ _
+
   -- what is found failing the order: the position passed on, and nothing else is met
   abbrev Passed : ℕ → ScratchAllocator → Found → Type 0
   Passed n k x = (x .position ≡ n) × (x .scratch .met ≡ k .met)
@@ -60,7 +64,7 @@ module _ (t : RegInfo) (f : Function) where
 
   reuse-passed : (es : List Evicted) (n b c : ℕ) (k : ScratchAllocator) → All (Passed n k) (reuse t f es n b c k)
   unfolding reuse evictLast
-  reuse-passed [] n b c k = all-after (Passed n k) _ _ (λ a. (refl, unevict-met (k .evicted) (withEvicted [] k)))
+  reuse-passed [] n b c k = all-after (Passed n k) _ _ (λ a. (refl, room-met (lastInOrder t c) k))
   reuse-passed (e ∷ es) n b c k = branch (All (Passed n k)) (has (e .reg) (classMembers t c)) _ _ (λ _. (refl, refl)) (λ _. reuse-passed es n b c k)
 
   or-passed : (o : Option ℕ) (n b c : ℕ) (k : ScratchAllocator) → All (Passed n k) (orScratch t f o n b c k)

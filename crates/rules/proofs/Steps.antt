@@ -54,6 +54,10 @@ pub every-getD : {A : Type 0} (P : A → Type 0) (d : A) (l : List A) → ((i : 
 every-getD P d [] h = tt
 every-getD P d (x ∷ l) h = (h 0 (omega arith), every-getD P d l (λ i k. h (suc i) (omega arith)))
 
+pub every-map : {A : Type 0} (P Q : A → Type 0) → ((x : A) → P x → Q x) → (l : List A) → Every P l → Every Q l
+every-map P Q f [] h = tt
+every-map P Q f (x ∷ l) h = (f x (h .0), every-map P Q f l (h .1))
+
 every-reverseAux : {A : Type 0} (P : A → Type 0) (l r : List A) → Every P l → Every P r → Every P (reverseAux l r)
 every-reverseAux P [] r h k = k
 every-reverseAux P (x ∷ l) r h k = every-reverseAux P l (x ∷ r) (h .1) (h .0, k)

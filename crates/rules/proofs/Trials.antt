@@ -3,15 +3,16 @@ use mathlib.Core.Path.{refl}
 use Rattle.entity.specs.Logic.{any, all, has, meets, twice, lastOr, indices}
 use Rattle.reginfo.specs.RegInfo.{spillslotSize, topLevelClass, stackToStackClass, regMemory, bankForReg, regUnits, bankForClass, classSlots, classMembers, allocationOrder}
 use Rattle.reginfo.specs.Refused.{orderTotal, countsFit, bankFits, regFits, classFits, outsideLimits, listedTwice, unequalWidths, foreignMember, sharedMemory, unfitClass, firstOf, targetRefusal}
-use Rattle.function.specs.Function.{valueBank, rematCost, rematClass}
+use Rattle.function.specs.Function.{valueBank, rematCost, rematClass, isSetting}
+use Rattle.function.specs.Refused as function
 use Rattle.rules.specs.Edit.{updated, andThen, each, find, firstAt, filter}
-use Rattle.rules.specs.Scratch.{acquireFrom, unevict, unevictForReg, slotScratch, evictLast, reuse, orScratch, getScratchReg, moveEdits, doMove}
+use Rattle.rules.specs.Scratch.{acquireFrom, unevict, unevictBut, unevictForReg, makeRoom, slotScratch, evictLast, reuse, orScratch, getScratchReg, moveEdits, doMove}
 use Rattle.rules.specs.Order.{carryOne, carry, remats, rematWithScratch, writerFrom, writersOf, writers, cycleMoveSources, divert, lead, undivert, undivertAll, close, visit, visitUnlessMemory, start, moves}
 use Rattle.rules.specs.Patch.{destinations, add, entryConditions, patchConditions, run, resolveSorted, resolveFrom, resolve}
-use Rattle.rules.specs.Trials.{three, chained, five, six, halves, between, sizes, slotsAlone, memory, eight, doubled, ordered, Trials, ToldApart, Overlaps, Sources, ArgumentWords, Positions}
+use Rattle.rules.specs.Trials.{three, chained, five, six, halves, between, sizes, slotsAlone, memory, eight, doubled, ordered, twoBanks, threeBanks, onNewer, onBoth, onEach, members, Trials, ToldApart, Overlaps, Sources, ArgumentWords, Positions, TwoKept, BroughtBack}
 
 all-trials : Trials × ToldApart × Overlaps × Sources × ArgumentWords × Positions
-unfolding any all has meets lastOr indices spillslotSize topLevelClass stackToStackClass regMemory bankForReg regUnits bankForClass classSlots classMembers allocationOrder firstOf valueBank rematCost rematClass updated andThen each find firstAt filter acquireFrom unevict unevictForReg slotScratch evictLast reuse orScratch getScratchReg moveEdits doMove carryOne carry remats rematWithScratch writerFrom writersOf writers cycleMoveSources divert lead undivert undivertAll close visit visitUnlessMemory start moves destinations add entryConditions patchConditions run resolveSorted resolveFrom resolve three chained five six halves between sizes slotsAlone memory eight ordered orderTotal countsFit bankFits regFits classFits outsideLimits listedTwice unequalWidths foreignMember sharedMemory unfitClass targetRefusal twice doubled
+unfolding any all has meets lastOr indices spillslotSize topLevelClass stackToStackClass regMemory bankForReg regUnits bankForClass classSlots classMembers allocationOrder firstOf valueBank rematCost rematClass updated andThen each find firstAt filter acquireFrom unevict unevictBut unevictForReg makeRoom slotScratch evictLast reuse orScratch getScratchReg moveEdits doMove carryOne carry remats rematWithScratch writerFrom writersOf writers cycleMoveSources divert lead undivert undivertAll close visit visitUnlessMemory start moves destinations add entryConditions patchConditions run resolveSorted resolveFrom resolve three chained five six halves between sizes slotsAlone memory eight ordered orderTotal countsFit bankFits regFits classFits outsideLimits listedTwice unequalWidths foreignMember sharedMemory unfitClass targetRefusal twice doubled
 all-trials = (
   record {
     swap-full = (refl, refl, refl);
@@ -110,3 +111,33 @@ argument-words = all-trials .4
 
 pub positions : Positions
 positions = all-trials .5
+
+pub two-kept : TwoKept
+unfolding any all has meets lastOr indices spillslotSize topLevelClass stackToStackClass regMemory bankForReg regUnits bankForClass classSlots classMembers allocationOrder firstOf valueBank rematCost rematClass updated andThen each find firstAt filter acquireFrom unevict unevictBut unevictForReg makeRoom slotScratch evictLast reuse orScratch getScratchReg moveEdits doMove carryOne carry remats rematWithScratch writerFrom writersOf writers cycleMoveSources divert lead undivert undivertAll close visit visitUnlessMemory start moves destinations add entryConditions patchConditions run resolveSorted resolveFrom resolve orderTotal countsFit bankFits regFits classFits outsideLimits listedTwice unequalWidths foreignMember sharedMemory unfitClass targetRefusal twice three twoBanks isSetting function.countsFit function.valueFits function.foreignClass function.valuesRefusal function.functionRefusal
+two-kept =
+    record {
+      target = refl;
+      functions = (refl, refl);
+      settings = (refl, refl, refl, refl);
+      alternates = (refl, refl, refl);
+      one-alternates = (refl, refl, refl);
+      both-wait = (refl, refl, refl);
+      second-slot = refl;
+      one-slot = (refl, refl, refl);
+      older-read = (refl, refl, refl);
+      newer-read = (refl, refl, refl);
+    }
+
+pub brought-back : BroughtBack
+unfolding any all has meets lastOr indices spillslotSize topLevelClass stackToStackClass regMemory bankForReg regUnits bankForClass classSlots classMembers allocationOrder firstOf valueBank rematCost rematClass updated andThen each find firstAt filter acquireFrom unevict unevictBut unevictForReg makeRoom slotScratch evictLast reuse orScratch getScratchReg moveEdits doMove carryOne carry remats rematWithScratch writerFrom writersOf writers cycleMoveSources divert lead undivert undivertAll close visit visitUnlessMemory start moves destinations add entryConditions patchConditions run resolveSorted resolveFrom resolve orderTotal countsFit bankFits regFits classFits outsideLimits listedTwice unequalWidths foreignMember sharedMemory unfitClass targetRefusal twice threeBanks onNewer onBoth onEach members isSetting function.countsFit function.valueFits function.foreignClass function.valuesRefusal function.functionRefusal
+brought-back =
+    record {
+      targets = (refl, refl, refl, refl, refl);
+      functions = (refl, refl, refl, refl, refl, refl);
+      both-read = (refl, refl, refl);
+      both-rebuilt = (refl, refl, refl);
+      source-first = (refl, refl, refl);
+      older-stays = (refl, refl, refl);
+      by-eviction = (refl, refl, refl);
+      newest-member = (refl, refl, refl);
+    }

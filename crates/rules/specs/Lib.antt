@@ -4,6 +4,7 @@ pub mod Order
 pub mod Counts
 pub mod Depth
 pub mod Position
+pub mod Evictions
 pub mod Patch
 pub mod Sorted
 pub mod Trials

@@ -83,7 +83,7 @@ module _ (t : RegInfo) (f : Function) where
 
   -- "A rebuild with scratch brings back the evicted register if it overlaps the destination, searches the rebuild class, emits scratch to
   -- destination, bringing nothing back for the scratch (both memory: through a second scratch, of the stack class), then the rebuild into
-  -- the scratch, and puts a slot scratch back."
+  -- the scratch, and puts a slot scratch back."; 02 i: whichever overlap the destination
   unfoldable pub rematWithScratch : Remat → ScratchAllocator → Option ScratchAllocator
   rematWithScratch r k =
       andThen (getScratchReg t f b (rematClass f (r .value)) (nothingBarred t f) (unevictForReg t f (r .dest) k))
@@ -184,7 +184,7 @@ module _ (t : RegInfo) (f : Function) where
     unfoldable pub start : ScratchAllocator → ParallelMoves
     start k = record { allocator = k; state = λ i. New; alloc = λ v. slot 0; scratch = λ v. slot 0; diverted = record { refCount = λ v. 0; values = λ i. [] } }
 
-    -- "two passes over the kept moves"; "At the end the evicted register is saved."
+    -- "two passes over the kept moves"; "At the end the evicted register is saved."; 02 i: "the end of a patch brings back all held"
     unfoldable pub moves : ScratchAllocator → Option ScratchAllocator
     moves k =
         andThen (andThen (each visitUnlessMemory (indices 0 (length ms)) (start k)) (each (visit (length ms)) (indices 0 (length ms))))

@@ -42,7 +42,7 @@ module _ (t : RegInfo) (f : Function) where
 
   -- f with another L
   abbrev pub withLimit : ℕ → Function
-  withLimit l = record { values = f .values; slots = f .slots; limit = l }
+  withLimit l = record { values = f .values; slots = f .slots; limit = l; kept = f .kept }
 
   -- k is where the run of a patch ends with slots enough: under every L from some one on
   abbrev pub EndsWithSlots : Patch → Sorted → Cache → ScratchAllocator → Type 0

@@ -1,9 +1,10 @@
--- 01, Scratch keeper. A step answers none where 17 is given: "a slot is needed, its stack is empty and L are made".
-use Prim.Native.Nat.{ℕ, _+_}
+-- 01, Scratch keeper; 02 i, two registers evicted. A step answers none where 17 is given: "a slot is needed, its stack is empty and L are made".
+use Prim.Native.Nat.{ℕ, pred, _+_}
 use mathlib.Core.Bool.{Bool, false}
 use mathlib.Core.List.{List, [], _∷_}
 use mathlib.Core.Option.{Option, none, some}
 use lib.Dec.{ltb}
+use lib.ListN.{take, drop}
 use Rattle.entity.specs.Logic.{pick, and, or, no, all, has}
 use Rattle.entity.specs.Place.{Place, reg, slot}
 use Rattle.reginfo.specs.RegInfo.{RegInfo, regUnits, allocationOrder, classMembers, includesSpillslots, lastInOrder, spillslotSize, stackToStackClass, overlap, isMemory}
@@ -25,8 +26,8 @@ pub record Evicted : Type 0 where
   pub slot : ℕ
   pub size : ℕ
 
--- 01: the scratch keeper. `edits` stands in the order handed out, so a new edit is put in front; of several evicted registers the
--- newest stands first (there is one at most). 02 d: `met` is the greatest position that a search of the patch met, 0 without searches.
+-- 01: the scratch keeper. `edits` stands in the order handed out, so a new edit is put in front. 02 i: "the record holds an older and a newer":
+-- of the evicted registers the newest stands first. 02 d: `met` is the greatest position that a search of the patch met, 0 without searches.
 pub record ScratchAllocator : Type 0 where
   pub edits : List Edit
   pub available : ℕ → Bool
@@ -92,7 +93,7 @@ module _ (t : RegInfo) (f : Function) where
   releasePlace z (slot s) k = withCache (release z s (k .cache)) k
   releasePlace z (reg r) k = k
 
-  -- "To bring back is to emit the save and put the slot back." Of several the older comes first.
+  -- "To bring back is to emit the save and put the slot back."; 02 i: "Of several for one place or at the end the older comes back first."
   unfoldable pub unevict : List Evicted → ScratchAllocator → ScratchAllocator
   unevict [] k = k
   unevict (e ∷ l) k = withCache (release (e .size) (e .slot) (unevict l k .cache)) (push (EmergencySpill (e .slot) (e .reg)) (unevict l k))
@@ -100,12 +101,21 @@ module _ (t : RegInfo) (f : Function) where
   abbrev pub unevictAll : ScratchAllocator → ScratchAllocator
   unevictAll k = unevict (k .evicted) (withEvicted [] k)
 
-  -- "bring back the evicted register if it overlaps"
+  -- all but the n newest
+  unfoldable pub unevictBut : ℕ → ScratchAllocator → ScratchAllocator
+  unevictBut n k = unevict (drop n (k .evicted)) (withEvicted (take n (k .evicted)) k)
+
+  -- "bring back the evicted register if it overlaps"; 02 i: "whichever overlap"
   abbrev pub overlapsEvicted : Place → Evicted → Bool
   overlapsEvicted p e = overlap t p (reg (e .reg))
 
   unfoldable pub unevictForReg : Place → ScratchAllocator → ScratchAllocator
   unevictForReg p k = unevict (filter (overlapsEvicted p) (k .evicted)) (withEvicted (filter (λ e. no (overlapsEvicted p e)) (k .evicted)) k)
+
+  -- 02 i: "Before a new eviction, those that overlap the new register are brought back, and then the older if two are still held.", so that
+  -- with the new one no more are held than the function keeps
+  unfoldable pub makeRoom : ℕ → ScratchAllocator → ScratchAllocator
+  makeRoom r k = unevictBut (pred (f .kept)) (unevictForReg (reg r) k)
 
   -- "whose units are all available (none of them a source unit of a kept move, if asked for a cycle)": `barred` are those source units
   abbrev pub usable : (ℕ → Bool) → ScratchAllocator → ℕ → Bool
@@ -127,9 +137,9 @@ module _ (t : RegInfo) (f : Function) where
             (push (EmergencyReload (lastInOrder t c) (a .slot)) (withCache (a .cache) k));
       }))
 
-  -- "the evicted register if a member; else bring back the evicted one", and evict
+  -- "the evicted register if a member; else bring back the evicted one", and evict; 02 i: "A search reuses the newest held member of its class."
   unfoldable pub reuse : List Evicted → ℕ → ℕ → ℕ → ScratchAllocator → Option Found
-  reuse [] n b c k = evictLast n b c (unevictAll k)
+  reuse [] n b c k = evictLast n b c (makeRoom (lastInOrder t c) k)
   reuse (e ∷ l) n b c k = pick (has (e .reg) (classMembers t c)) (some (record { place = reg (e .reg); position = n; scratch = k })) (reuse l n b c k)
 
   unfoldable pub orScratch : Option ℕ → ℕ → ℕ → ℕ → ScratchAllocator → Option Found
@@ -157,7 +167,7 @@ module _ (t : RegInfo) (f : Function) where
       (some (push (Move to from v) k))
 
   -- "Emitting a move: bring back the evicted register if it overlaps source or destination, source first; [..] then the destination's
-  -- units become available and the source's unavailable."
+  -- units become available and the source's unavailable."; 02 i: "whichever overlap its source, then its destination"
   unfoldable pub doMove : ℕ → Place → Place → ℕ → ScratchAllocator → Option ScratchAllocator
   doMove b to from v k =
       andThen (moveEdits b to from v (unevictForReg to (unevictForReg from k))) (λ k′. some (makeUnavailable from (makeAvailable to k′)))

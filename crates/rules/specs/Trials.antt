@@ -2,12 +2,13 @@
 use Prim.Native.Nat.{ℕ}
 use mathlib.Core.Path.{_≡_}
 use mathlib.Core.List.{List, [], _∷_, map}
-use mathlib.Core.Option.{some}
+use mathlib.Core.Option.{none, some}
 use Rattle.entity.specs.Logic.{indices}
 use Rattle.entity.specs.Place.{reg, slot}
-use Rattle.reginfo.specs.RegInfo.{Reg, RegInfo}
+use Rattle.reginfo.specs.RegInfo.{Reg, Class, RegInfo}
 use Rattle.reginfo.specs.Refused as target
 use Rattle.function.specs.Function.{ValueData, Function}
+use Rattle.function.specs.Refused as function
 use Rattle.rules.specs.Edit.{Edit, Move, Rematerialize, EmergencySpill, EmergencyReload, updated}
 use Rattle.rules.specs.Scratch.{Cache, emptyCache}
 use Rattle.rules.specs.Patch.{Entry, move, remat, Patch, Answer, refused, resolved, resolve, cacheAfter}
@@ -28,13 +29,13 @@ three =
           ∷ [];
     }
 
--- two values, neither rebuildable; N and L
+-- two values, neither rebuildable; N and L; one eviction is kept
 abbrev pub plain : ℕ → ℕ → Function
-plain n l = record { values = record { bank = 0; cost = 0; class = 0 } ∷ record { bank = 0; cost = 0; class = 0 } ∷ []; slots = n; limit = l }
+plain n l = record { values = record { bank = 0; cost = 0; class = 0 } ∷ record { bank = 0; cost = 0; class = 0 } ∷ []; slots = n; limit = l; kept = 1 }
 
 -- value 0 of cost 2, rebuilt by the stack class
 abbrev pub rebuildable : ℕ → ℕ → Function
-rebuildable n l = record { values = record { bank = 0; cost = 2; class = 1 } ∷ record { bank = 0; cost = 0; class = 0 } ∷ []; slots = n; limit = l }
+rebuildable n l = record { values = record { bank = 0; cost = 2; class = 1 } ∷ record { bank = 0; cost = 0; class = 0 } ∷ []; slots = n; limit = l; kept = 1 }
 
 abbrev pub patch : List ℕ → List Entry → Patch
 patch free es = record { free = free; entries = es }
@@ -185,7 +186,7 @@ rebuilt c = record { bank = 0; cost = 2; class = c }
 
 -- a function of these values; N and L
 abbrev pub over : List ValueData → ℕ → ℕ → Function
-over vs n l = record { values = vs; slots = n; limit = l }
+over vs n l = record { values = vs; slots = n; limit = l; kept = 1 }
 
 -- One patch for each of 01's temptations, and for other rules that are easily taken for these. The edits are those of the original.
 pub record ToldApart : Type 0 where
@@ -435,3 +436,160 @@ pub record Positions : Type 0 where
   pub newly-evicted : Met (resolve three (plain 2 1) (patch [] (move (slot 0) (slot 1) 0 ∷ [])) 8 emptyCache) 3
   -- the first scratch of a rebuild at 0, the length of an empty order, the second at 1
   pub of-the-second-scratch : Met (resolve ordered (over (rebuilt 3 ∷ []) 0 1) (patch (1 ∷ []) (remat (reg 3) 0 ∷ [])) 5 emptyCache) 1
+
+-- ---- 02 i, two registers evicted
+abbrev pub keeping : ℕ → Function → Function
+keeping n f = record { values = f .values; slots = f .slots; limit = f .limit; kept = n }
+
+abbrev pub regOf : ℕ → List ℕ → Reg
+regOf b us = record { memory = 0; bank = b; units = us }
+
+-- each bank's top-level class is slots alone, and its stack class a register
+abbrev pub slotsOf : ℕ → Class
+slotsOf b = record { bank = b; slots = 1; members = []; order = [] }
+
+abbrev pub soleOf : ℕ → ℕ → Class
+soleOf b r = record { bank = b; slots = 0; members = r ∷ []; order = r ∷ [] }
+
+-- r0 of bank 0 and r1 of bank 1
+unfoldable pub twoBanks : RegInfo
+twoBanks =
+    record {
+      units = 2;
+      banks = record { size = 3; top = 0; stack = 1 } ∷ record { size = 3; top = 2; stack = 3 } ∷ [];
+      regs = regOf 0 (0 ∷ []) ∷ regOf 1 (1 ∷ []) ∷ [];
+      classes = slotsOf 0 ∷ soleOf 0 0 ∷ slotsOf 1 ∷ soleOf 1 1 ∷ [];
+    }
+
+-- the same and bank 2, whose stack class is r2
+abbrev pub withBank : ℕ → ℕ → List Reg → RegInfo
+withBank n z rs =
+    record {
+      units = n;
+      banks = record { size = z; top = 0; stack = 1 } ∷ record { size = z; top = 2; stack = 3 } ∷ record { size = 3; top = 4; stack = 5 } ∷ [];
+      regs = regOf 0 (0 ∷ []) ∷ regOf 1 (1 ∷ []) ∷ rs;
+      classes = slotsOf 0 ∷ soleOf 0 0 ∷ slotsOf 1 ∷ soleOf 1 1 ∷ slotsOf 2 ∷ soleOf 2 2 ∷ [];
+    }
+
+-- r2 is apart from r0 and r1
+unfoldable pub threeBanks : RegInfo
+threeBanks = withBank 3 3 (regOf 2 (2 ∷ []) ∷ [])
+
+-- r2 lies half on r1; the slots of banks 0 and 1 have size 2
+unfoldable pub onNewer : RegInfo
+onNewer = withBank 3 2 (regOf 2 (1 ∷ 2 ∷ []) ∷ [])
+
+-- r2 lies on r0 and r1
+unfoldable pub onBoth : RegInfo
+onBoth = withBank 2 3 (regOf 2 (0 ∷ 1 ∷ []) ∷ [])
+
+-- r2 lies half on r0, and r3 half on r1
+unfoldable pub onEach : RegInfo
+onEach = withBank 4 3 (regOf 2 (0 ∷ 2 ∷ []) ∷ regOf 2 (1 ∷ 3 ∷ []) ∷ [])
+
+-- the stack class is r0 and r1, and each is a class of its own
+unfoldable pub members : RegInfo
+members =
+    record {
+      units = 2;
+      banks = record { size = 3; top = 0; stack = 1 } ∷ [];
+      regs = single 0 ∷ single 1 ∷ [];
+      classes = slotsOf 0 ∷ record { bank = 0; slots = 0; members = 0 ∷ 1 ∷ []; order = 0 ∷ 1 ∷ [] } ∷ soleOf 0 0 ∷ soleOf 0 1 ∷ [];
+    }
+
+-- value v is of bank v, of two or three; N, L and the setting
+abbrev pub ofTwo : ℕ → ℕ → ℕ → Function
+ofTwo n l k = keeping k (over (fixed 0 ∷ fixed 1 ∷ []) n l)
+
+abbrev pub ofThree : ℕ → ℕ → ℕ → Function
+ofThree n l k = keeping k (over (fixed 0 ∷ fixed 1 ∷ fixed 2 ∷ []) n l)
+
+-- values 0 and 1 are rebuilt by r0 and by r1; N = L = 2, and two evictions are kept
+abbrev pub rebuiltAnd : ValueData → Function
+rebuiltAnd v = keeping 2 (over (rebuilt 1 ∷ record { bank = 1; cost = 2; class = 3 } ∷ v ∷ []) 2 2)
+
+-- value 2 of bank 2, rebuilt by slots
+abbrev pub bySlots : ValueData
+bySlots = record { bank = 2; cost = 2; class = 4 }
+
+-- values rebuilt by r0, by r1 and by either
+abbrev pub ofMembers : Function
+ofMembers = keeping 2 (over (rebuilt 2 ∷ rebuilt 3 ∷ rebuilt 1 ∷ []) 3 2)
+
+-- slot 0 to slot 1 and slot 2 to slot 3
+abbrev pub stored : List Entry → List Entry
+stored es = move (slot 0) (slot 1) 0 ∷ move (slot 2) (slot 3) 1 ∷ es
+
+-- values 0 and 1 are rebuilt into slots 0 and 1
+abbrev pub rebuiltSlots : List Entry → List Entry
+rebuiltSlots es = remat (slot 0) 0 ∷ remat (slot 1) 1 ∷ es
+
+-- of r0, and of r1: the edits made first, which are handed out last
+abbrev pub r0Edits : ℕ → List Edit
+r0Edits s = Move (reg 0) (slot 0) 0 ∷ Move (slot 1) (reg 0) 0 ∷ EmergencyReload 0 s ∷ []
+
+abbrev pub r1Edits : ℕ → List Edit → List Edit
+r1Edits s es = Move (reg 1) (slot 2) 1 ∷ Move (slot 3) (reg 1) 1 ∷ EmergencyReload 1 s ∷ es
+
+abbrev pub rebuiltEdits : List Edit
+rebuiltEdits = Rematerialize (reg 1) 1 ∷ Move (slot 1) (reg 1) 1 ∷ EmergencyReload 1 3 ∷ Rematerialize (reg 0) 0 ∷ Move (slot 0) (reg 0) 0 ∷ EmergencyReload 0 2 ∷ []
+
+-- and slot 4 to slot 5
+abbrev pub alternating : List Entry → List Entry
+alternating es = stored (move (slot 4) (slot 5) 0 ∷ es)
+
+pub record TwoKept : Type 0 where
+  pub target : target.Accepted twoBanks
+  pub functions : function.Accepted twoBanks (ofTwo 8 2 2) × function.Accepted twoBanks (ofTwo 6 2 1)
+  -- "22, a setting other than 1 or 2, tested before the job": N is too great too
+  pub settings :
+      (function.functionRefusal three (plain 0 1) ≡ none) × (function.functionRefusal three (keeping 2 (plain 0 1)) ≡ none)
+      × (function.functionRefusal three (keeping 0 (plain 5000 1)) ≡ some 22) × (function.functionRefusal three (keeping 3 (plain 5000 1)) ≡ some 22)
+  -- "formulas that alternate banks"
+  pub alternates :
+      Gives (resolve twoBanks (ofTwo 8 2 2) (patch [] (alternating (move (slot 6) (slot 7) 1 ∷ []))) 32 emptyCache)
+      (EmergencySpill 9 1 ∷ EmergencySpill 8 0 ∷ Move (reg 1) (slot 6) 1 ∷ Move (slot 7) (reg 1) 1 ∷ Move (reg 0) (slot 4) 0 ∷ Move (slot 5) (reg 0) 0 ∷ r1Edits 9 (r0Edits 8)) 2 (9 ∷ 8 ∷ [])
+  -- "one eviction at a time saves and reloads without end"
+  pub one-alternates :
+      Gives (resolve twoBanks (ofTwo 6 2 1) (patch [] (alternating [])) 24 emptyCache)
+      (EmergencySpill 6 0 ∷ Move (reg 0) (slot 4) 0 ∷ Move (slot 5) (reg 0) 0 ∷ EmergencyReload 0 6 ∷ EmergencySpill 6 1 ∷ r1Edits 6 (EmergencySpill 6 0 ∷ r0Edits 6)) 1 (6 ∷ [])
+  -- both wait
+  pub both-wait : Gives (resolve twoBanks (ofTwo 4 2 2) (patch [] (stored [])) 16 emptyCache) (EmergencySpill 5 1 ∷ EmergencySpill 4 0 ∷ r1Edits 5 (r0Edits 4)) 2 (5 ∷ 4 ∷ [])
+  -- the second that is kept needs a second slot
+  pub second-slot : resolve twoBanks (ofTwo 4 1 2) (patch [] (stored [])) 16 emptyCache ≡ refused 17
+  pub one-slot : Gives (resolve twoBanks (ofTwo 4 1 1) (patch [] (stored [])) 16 emptyCache) (EmergencySpill 4 1 ∷ r1Edits 4 (EmergencySpill 4 0 ∷ r0Edits 4)) 1 (4 ∷ [])
+  -- either is brought back alone: the older, then the newer
+  pub older-read :
+      Gives (resolve twoBanks (ofTwo 5 2 2) (patch [] (stored (move (reg 0) (slot 4) 0 ∷ []))) 24 emptyCache) (EmergencySpill 6 1 ∷ Move (slot 4) (reg 0) 0 ∷ EmergencySpill 5 0 ∷ r1Edits 6 (r0Edits 5)) 2 (6 ∷ 5 ∷ [])
+  pub newer-read :
+      Gives (resolve twoBanks (ofTwo 5 2 2) (patch [] (stored (move (reg 1) (slot 4) 1 ∷ []))) 24 emptyCache) (EmergencySpill 5 0 ∷ Move (slot 4) (reg 1) 1 ∷ EmergencySpill 6 1 ∷ r1Edits 6 (r0Edits 5)) 2 (5 ∷ 6 ∷ [])
+
+-- which one comes back, and when
+pub record BroughtBack : Type 0 where
+  pub targets : target.Accepted threeBanks × target.Accepted onNewer × target.Accepted onBoth × target.Accepted onEach × target.Accepted members
+  pub functions :
+      function.Accepted threeBanks (ofThree 8 3 2) × function.Accepted onNewer (ofThree 8 3 2) × function.Accepted onBoth (ofThree 5 2 2)
+      × function.Accepted onBoth (rebuiltAnd bySlots) × function.Accepted onEach (rebuiltAnd (fixed 2)) × function.Accepted members ofMembers
+  -- "Of several for one place [..] the older comes back first.": of a source, and of the destination of a rebuild with scratch, by a slot
+  pub both-read :
+      Gives (resolve onBoth (ofThree 5 2 2) (patch [] (stored (move (reg 2) (slot 4) 2 ∷ []))) 24 emptyCache) (Move (slot 4) (reg 2) 2 ∷ EmergencySpill 6 1 ∷ EmergencySpill 5 0 ∷ r1Edits 6 (r0Edits 5)) 2 (6 ∷ 5 ∷ [])
+  pub both-rebuilt :
+      Gives (resolve onBoth (rebuiltAnd bySlots) (patch [] (rebuiltSlots (remat (reg 2) 2 ∷ []))) 15 emptyCache) (Rematerialize (slot 3) 2 ∷ Move (reg 2) (slot 3) 2 ∷ EmergencySpill 3 1 ∷ EmergencySpill 2 0 ∷ rebuiltEdits) 2 (3 ∷ 2 ∷ [])
+  -- "its source, then its destination": r1, the newer, then r0
+  pub source-first :
+      Gives (resolve onEach (rebuiltAnd (fixed 2)) (patch [] (rebuiltSlots (move (reg 3) (reg 2) 2 ∷ []))) 18 emptyCache)
+      (Move (reg 2) (reg 3) 2 ∷ EmergencySpill 2 0 ∷ EmergencySpill 3 1 ∷ rebuiltEdits) 2 (2 ∷ 3 ∷ [])
+  -- "those that overlap the new register are brought back, and then the older if two are still held": r1 is, and r0 is then held alone
+  pub older-stays :
+      Leaves (resolve onNewer (ofThree 8 3 2) (patch [] (stored (move (slot 4) (slot 5) 2 ∷ move (slot 6) (slot 7) 0 ∷ []))) 32 emptyCache)
+      (EmergencySpill 10 2 ∷ EmergencySpill 8 0 ∷ Move (reg 0) (slot 6) 0 ∷ Move (slot 7) (reg 0) 0 ∷ Move (reg 2) (slot 4) 2 ∷ Move (slot 5) (reg 2) 2 ∷ EmergencyReload 2 10 ∷ EmergencySpill 9 1 ∷ r1Edits 9 (r0Edits 8))
+      3 (updated 2 (8 ∷ 9 ∷ []) (updated 3 (10 ∷ []) (λ z. [])))
+  -- "older" by eviction: r0 is brought back for r2, though it was used after r1
+  pub by-eviction :
+      Gives (resolve threeBanks (ofThree 8 3 2) (patch [] (stored (move (slot 6) (slot 7) 0 ∷ move (slot 4) (slot 5) 2 ∷ []))) 32 emptyCache)
+      (EmergencySpill 8 2 ∷ EmergencySpill 9 1 ∷ Move (reg 2) (slot 4) 2 ∷ Move (slot 5) (reg 2) 2 ∷ EmergencyReload 2 8 ∷ EmergencySpill 8 0 ∷ Move (reg 0) (slot 6) 0 ∷ Move (slot 7) (reg 0) 0 ∷ r1Edits 9 (r0Edits 8)) 2 (8 ∷ 9 ∷ [])
+  -- "A search reuses the newest held member of its class.": r1
+  pub newest-member :
+      Gives (resolve members ofMembers (patch [] (rebuiltSlots (remat (slot 2) 2 ∷ []))) 15 emptyCache)
+      (EmergencySpill 4 1 ∷ EmergencySpill 3 0 ∷ Rematerialize (reg 1) 2 ∷ Move (slot 2) (reg 1) 2 ∷ Rematerialize (reg 1) 1 ∷ Move (slot 1) (reg 1) 1 ∷ EmergencyReload 1 4 ∷ Rematerialize (reg 0) 0 ∷ Move (slot 0) (reg 0) 0 ∷ EmergencyReload 0 3 ∷ [])
+      2 (4 ∷ 3 ∷ [])

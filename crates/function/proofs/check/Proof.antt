@@ -18,21 +18,33 @@ Inv-loop t f i₀ left₀ i left = (functionRefusal (regInfoOf t) (functionOf f)
 abbrev μ-loop : tie.MeasureT-loop
 μ-loop t f i₀ left₀ i left = left
 
-counts-fit-requires : tie.Need-counts-fit-requires Inv-loop μ-loop
-counts-fit-requires c κs = search needs
+kept-evictions-requires : tie.Need-kept-evictions-requires Inv-loop μ-loop
+kept-evictions-requires c κs = search needs
+
+is-setting-requires : tie.Need-is-setting-requires Inv-loop μ-loop
+is-setting-requires c κs = search needs
 
 returns : tie.Need-returns Inv-loop μ-loop
 unfolding functionRefusal
-returns c = rw (← c .before .counts-fit .ensures, c .if1 .taken)
+returns c = rw (← c .before .before .kept-evictions .ensures, ← c .before .is-setting .ensures, c .if1 .taken)
+
+counts-fit-requires : tie.Need-counts-fit-requires Inv-loop μ-loop
+counts-fit-requires c κs = search needs
+
+returns-2 : tie.Need-returns-2 Inv-loop μ-loop
+unfolding functionRefusal
+returns-2 c =
+    rw (← c .before .counts-fit .ensures, ← c .before .before .before .before .kept-evictions .ensures, ← c .before .before .before .is-setting .ensures, c .before .before .if1 .left, c .if2 .taken)
 
 num-values-requires : tie.Need-num-values-requires Inv-loop μ-loop
 num-values-requires c κs = search needs
 
 loop-holds : tie.Need-loop-holds Inv-loop μ-loop
 loop-holds c =
-    let s = c .before .before .before in
-    let fit = sym (c .before .before .counts-fit .ensures) ∙ no-false (c .before .before .counts-fit .result) (c .before .if1 .left) in
-    (values-left (regInfoOf (s .args .t .now)) (functionOf (s .args .f .now)) fit ∙ rw (c .num-values .ensures), omega arith, fit-values (regInfoOf (s .args .t .now)) (functionOf (s .args .f .now)) fit)
+    let s = c .before .before .before .before .before .before in
+    let setting = sym (rw (c .before .before .before .before .before .kept-evictions .ensures) at (c .before .before .before .before .is-setting .ensures)) ∙ no-false (c .before .before .before .before .is-setting .result) (c .before .before .before .if1 .left) in
+    let fit = sym (c .before .before .counts-fit .ensures) ∙ no-false (c .before .before .counts-fit .result) (c .before .if2 .left) in
+    (values-left (regInfoOf (s .args .t .now)) (functionOf (s .args .f .now)) fit setting ∙ rw (c .num-values .ensures), omega arith, fit-values (regInfoOf (s .args .t .now)) (functionOf (s .args .f .now)) fit)
 
 narrow-requires : tie.Need-narrow-requires Inv-loop μ-loop
 narrow-requires c κs = search needs
@@ -40,20 +52,20 @@ narrow-requires c κs = search needs
 value-fits-requires : tie.Need-value-fits-requires Inv-loop μ-loop
 value-fits-requires c κs = record { is = omega arith; few = omega arith }
 
-returns-2 : tie.Need-returns-2 Inv-loop μ-loop
-returns-2 c =
-    let s = c .before .before .before .before .before .before .before .before in
-    let l = c .before .before .before .before .loop in
-    rw (l .inv .0, values-step (regInfoOf (s .args .t .now)) (functionOf (s .args .f .now)) (l .i) (l .left) (c .before .before .before .loop-test .taken), ← c .before .before .narrow .ensures, ← c .before .value-fits .ensures, c .if2 .taken)
-
-foreign-class-requires : tie.Need-foreign-class-requires Inv-loop μ-loop
-foreign-class-requires c κs = (record { is = omega arith; few = omega arith }, c .before .before .before .before .before .before .before .before .pre, sym (c .before .value-fits .ensures) ∙ no-false (c .before .value-fits .result) (c .if2 .left))
-
 returns-3 : tie.Need-returns-3 Inv-loop μ-loop
 returns-3 c =
-    let s = c .before .before .before .before .before .before .before .before .before .before in
+    let s = c .before .before .before .before .before .before .before .before .before .before .before in
+    let l = c .before .before .before .before .loop in
+    rw (l .inv .0, values-step (regInfoOf (s .args .t .now)) (functionOf (s .args .f .now)) (l .i) (l .left) (c .before .before .before .loop-test .taken), ← c .before .before .narrow .ensures, ← c .before .value-fits .ensures, c .if3 .taken)
+
+foreign-class-requires : tie.Need-foreign-class-requires Inv-loop μ-loop
+foreign-class-requires c κs = (record { is = omega arith; few = omega arith }, c .before .before .before .before .before .before .before .before .before .before .before .pre, sym (c .before .value-fits .ensures) ∙ no-false (c .before .value-fits .result) (c .if3 .left))
+
+returns-4 : tie.Need-returns-4 Inv-loop μ-loop
+returns-4 c =
+    let s = c .before .before .before .before .before .before .before .before .before .before .before .before .before in
     let l = c .before .before .before .before .before .before .loop in
-    rw (l .inv .0, values-step (regInfoOf (s .args .t .now)) (functionOf (s .args .f .now)) (l .i) (l .left) (c .before .before .before .before .before .loop-test .taken), ← c .before .before .before .before .narrow .ensures, ← c .before .before .before .value-fits .ensures, c .before .before .if2 .left, ← c .before .foreign-class .ensures, c .if3 .taken)
+    rw (l .inv .0, values-step (regInfoOf (s .args .t .now)) (functionOf (s .args .f .now)) (l .i) (l .left) (c .before .before .before .before .before .loop-test .taken), ← c .before .before .before .before .narrow .ensures, ← c .before .before .before .value-fits .ensures, c .before .before .if3 .left, ← c .before .foreign-class .ensures, c .if4 .taken)
 
 add-i : tie.Need-add-i Inv-loop μ-loop
 add-i c = search needs
@@ -66,14 +78,14 @@ loop-less c = search needs
 
 loop-again : tie.Need-loop-again Inv-loop μ-loop
 loop-again c =
-    let s = c .before .before .before .before .before .before .before .before .before .before in
+    let s = c .before .before .before .before .before .before .before .before .before .before .before .before .before in
     let l = c .before .before .before .before .before .before .loop in
-    (l .inv .0 ∙ values-step (regInfoOf (s .args .t .now)) (functionOf (s .args .f .now)) (l .i) (l .left) (c .before .before .before .before .before .loop-test .taken) ∙ rw (← c .before .before .before .before .narrow .ensures, ← c .before .before .before .value-fits .ensures, c .before .before .if2 .left, ← c .before .foreign-class .ensures, c .if3 .left), omega arith, omega arith)
+    (l .inv .0 ∙ values-step (regInfoOf (s .args .t .now)) (functionOf (s .args .f .now)) (l .i) (l .left) (c .before .before .before .before .before .loop-test .taken) ∙ rw (← c .before .before .before .before .narrow .ensures, ← c .before .before .before .value-fits .ensures, c .before .before .if3 .left, ← c .before .foreign-class .ensures, c .if4 .left), omega arith, omega arith)
 
-returns-4 : tie.Need-returns-4 Inv-loop μ-loop
+returns-5 : tie.Need-returns-5 Inv-loop μ-loop
 unfolding valuesRefusal indices
-returns-4 c =
-    let s = c .before .before .before .before .before in
+returns-5 c =
+    let s = c .before .before .before .before .before .before .before .before in
     let l = c .before .loop in
     let z : l .left ≡ 0 = omega arith in
     sym (l .inv .0 ∙ ap (λ (n : ℕ). valuesRefusal (regInfoOf (s .args .t .now)) (functionOf (s .args .f .now)) (indices (l .i) n)) z)
@@ -84,17 +96,20 @@ check-spec =
     (tie.spec
     Inv-loop
     μ-loop
-    counts-fit-requires
+    kept-evictions-requires
+    is-setting-requires
     returns
+    counts-fit-requires
+    returns-2
     num-values-requires
     loop-holds
     narrow-requires
     value-fits-requires
-    returns-2
-    foreign-class-requires
     returns-3
+    foreign-class-requires
+    returns-4
     add-i
     sub-left
     loop-less
     loop-again
-    returns-4)
+    returns-5)
