@@ -2,17 +2,18 @@
 use Prim.Native.Nat.{ℕ, _+_, _<_}
 use mathlib.Core.Path.{_≡_}
 use mathlib.Core.Bool.{Bool}
-use mathlib.Core.List.{List}
+use mathlib.Core.List.{List, [], _∷_}
 use mathlib.Core.Option.{Option, none, some}
 use lib.ListN.{length}
 use Rattle.entity.specs.Place.{placeAt}
 use Rattle.reginfo.specs.RegInfo.{allocationOrder}
 use Rattle.rules.specs.Scratch as rules
 use Rattle.slots.specs.Stacks.{metOf}
+use Rattle.scratch.specs.declared.Held.{Held}
 use Rattle.scratch.specs.declared.ScratchAllocator.{ScratchAllocator}
 use Rattle.scratch.specs.declared.Scratch.{Scratch}
 use Rattle.scratch.specs.declared.Taken.{Taken}
-use Rattle.scratch.specs.State.{T, F, cacheIn, allocatorOf, Fits, PlaceFits}
+use Rattle.scratch.specs.State.{T, F, heldOf, evictedOf, cacheIn, allocatorOf, Fits, PlaceFits}
 
 -- the lent tables as a step finds or leaves them
 pub record Tables : Type 0 where
@@ -26,6 +27,11 @@ tables e a s = record { edits = e; available = a; slots = s }
 -- a search that nothing of the class's order would do for
 abbrev pub failing : List ℕ → List ℕ → ℕ → ℕ → rules.ScratchAllocator → Option rules.Found
 failing t f b c k = rules.orScratch (T t) (F f) none (length (allocationOrder (T t) c)) b c (rules.meeting (length (allocationOrder (T t) c)) k)
+
+-- one more held
+pub record Holds (e : Held) (k k′ : ScratchAllocator) : Type 0 where
+  pub is : evictedOf (k′ .evicted) ≡ heldOf e ∷ evictedOf (k .evicted)
+  pub made : k′ .made ≡ k .made
 
 module _ (t f cache : List ℕ) where
   abbrev pub stateOf : ScratchAllocator → Tables → rules.ScratchAllocator
@@ -42,7 +48,13 @@ module _ (t f cache : List ℕ) where
     pub small : r .slot .0 < 8192
     pub fits : (a b n : ℕ) (edits : List ℕ) → Fits a (b + 1) n t k edits slots cache → Fits a b n t (r .allocator) edits slots′ cache
 
-  -- the evicted register brought back: the edit owed is made, and its slot put back
+  -- a register brought back that is no longer on the record: an edit is made, and its slot put back
+  pub record Back (e : Held) (k : ScratchAllocator) (w : Tables) (k′ : ScratchAllocator) (w′ : Tables) : Type 0 where
+    pub same : k′ ≡ k
+    pub is : stateOf k′ w′ ≡ rules.unevict (T t) (F f) (heldOf e ∷ []) (stateOf k w)
+    pub fits : (a b n : ℕ) → FitsIn a b (n + 1) k w → FitsIn a b n k′ w′
+
+  -- evicted registers brought back: the edits owed for them are made, and their slots put back
   pub record Brought (k : ScratchAllocator) (w : Tables) (k′ : ScratchAllocator) (w′ : Tables) (to : rules.ScratchAllocator → rules.ScratchAllocator) : Type 0 where
     pub is : stateOf k′ w′ ≡ to (stateOf k w)
     pub fits : (a b n : ℕ) → FitsIn a b n k w → FitsIn a b n k′ w′

@@ -15,8 +15,9 @@ use Rattle.small_set.specs.Set.{setOf}
 use Rattle.rules.specs.Scratch as rules
 use Rattle.edit.specs.Buffer.{countOf, editsOf, Written}
 use Rattle.slots.specs.Stacks.{metOf, stacksOf, SlotsFit, Untouched}
+use Rattle.scratch.specs.declared.Held.{Held}
 use Rattle.scratch.specs.declared.Evicted.{Evicted}
-use Rattle.scratch.specs.declared.Evicted.the-variants.{Nothing, Held}
+use Rattle.scratch.specs.declared.Evicted.the-variants.{Nothing, One, Two}
 use Rattle.scratch.specs.declared.ScratchAllocator.{ScratchAllocator}
 
 abbrev pub T : List ℕ → RegInfo
@@ -24,14 +25,19 @@ T t = regInfoOf t
 
 -- slots past L are made too, and whether there were such is asked at a patch's end: so the rules here have a limit that is never met
 abbrev pub unlimited : Function → Function
-unlimited f = record { values = f .values; slots = f .slots; limit = 4096 }
+unlimited f = record { values = f .values; slots = f .slots; limit = 4096; kept = f .kept }
 
 abbrev pub F : List ℕ → Function
 F f = unlimited (functionOf f)
 
+abbrev pub heldOf : Held → rules.Evicted
+heldOf e = record { reg = e .reg .0; slot = e .slot .0; size = e .size }
+
+-- the newer first
 abbrev pub evictedOf : Evicted → List rules.Evicted
 evictedOf Nothing = []
-evictedOf (Held r s z) = record { reg = r .0; slot = s .0; size = z } ∷ []
+evictedOf (One e) = heldOf e ∷ []
+evictedOf (Two e o) = heldOf e ∷ heldOf o ∷ []
 
 abbrev pub cacheIn : ScratchAllocator → List ℕ → List ℕ → rules.Cache
 cacheIn k slots cache = record { stacks = stacksOf slots cache; made = k .made }
@@ -50,14 +56,19 @@ pub record Stocked (k : ScratchAllocator) (slots cache : List ℕ) : Type 0 wher
   pub made : k .made < 4096
   pub stacked : Stacked (stacksOf slots cache)
 
-abbrev pub HeldFits : RegInfo → Evicted → Type 0
-HeldFits t Nothing = Unit
-HeldFits t (Held r s z) = (r .0 < numRegs t) × (s .0 < 8192) × (z < 32)
+abbrev pub HeldFits : RegInfo → Held → Type 0
+HeldFits t e = (e .reg .0 < numRegs t) × (e .slot .0 < 8192) × (e .size < 32)
 
--- the save of the evicted register is still to be made
+abbrev pub AllFit : RegInfo → Evicted → Type 0
+AllFit t Nothing = Unit
+AllFit t (One e) = HeldFits t e
+AllFit t (Two e o) = HeldFits t e × HeldFits t o
+
+-- the saves of the evicted registers are still to be made
 abbrev pub owed : Evicted → ℕ
 owed Nothing = 0
-owed (Held r s z) = 1
+owed (One e) = 1
+owed (Two e o) = 2
 
 -- room for n edits more than those owed; on no stack were more put back than `most`, which is a less than the edits made; b less than
 -- 2,050 and the edits were made of slots
@@ -68,7 +79,7 @@ pub record Fits (a b n : ℕ) (t : List ℕ) (k : ScratchAllocator) (edits slots
   pub own : most + a ≤ countOf edits
   pub made : k .made + b ≤ 2050 + countOf edits
   pub stacked : Stacked (stacksOf slots cache)
-  pub held : HeldFits (T t) (k .evicted)
+  pub held : AllFit (T t) (k .evicted)
   pub written : Written edits
   pub untouched : Untouched cache slots
 

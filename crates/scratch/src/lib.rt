@@ -19,13 +19,13 @@ use slots::Slots;
 use small_set::RegUnitSet;
 ghost use mathlib.Core.Path.{_≡_};
 ghost use mathlib.Core.Bool.{Bool, true};
-ghost use mathlib.Core.List.{List, []};
-ghost use Prim.Native.Nat.{ℕ, _+_, _<_};
+ghost use mathlib.Core.List.{List, [], _∷_};
+ghost use Prim.Native.Nat.{ℕ, pred, _+_, _<_, _≤_};
 ghost use Rattle.entity.specs.Logic.{and};
 ghost use Rattle.entity.specs.Place.{placeAt};
-ghost use Rattle.reginfo.specs.RegInfo.{numBanks, numClasses, spillslotSize, isMemory};
+ghost use Rattle.reginfo.specs.RegInfo.{numBanks, numClasses, spillslotSize, lastInOrder, isMemory};
 ghost use Rattle.reginfo.specs.Known.{KnownPlace};
-ghost use Rattle.rules.specs.Scratch.{makeAvailable, makeUnavailable, unevictAll, unevictForReg, slotScratch, evictLast, reuse, getScratchReg, moveEdits, doMove, releasePlace};
+ghost use Rattle.rules.specs.Scratch.{makeAvailable, makeUnavailable, unevictAll, unevictBut, unevictForReg, makeRoom, slotScratch, evictLast, reuse, getScratchReg, moveEdits, doMove, releasePlace};
 ghost use Rattle.search.specs.Search.{barredBy};
 ghost use Rattle.slots.specs.Stacks.{SlotsFit};
 ghost use lib.ListN.{length};
@@ -33,13 +33,21 @@ ghost use Rattle.function.specs.Function.{numValues, valueBank};
 ghost use Rattle.function.specs.Table.{functionOf};
 ghost use Rattle.scratch.specs.Diversions.{countAt, allocAt, scratchAt, Noted, Diverts, Ended, Undiverts};
 ghost use Rattle.function.specs.Known.{Checked};
-ghost use Rattle.scratch.specs.State.{T, F, evictedOf, allocatorOf, Stocked, Fits, PlaceFits, Evictable, Movable};
-ghost use Rattle.scratch.specs.Contracts.{tables, failing, Acquired, Brought, Found, Moved, Released};
+ghost use Rattle.scratch.specs.State.{T, F, heldOf, evictedOf, allocatorOf, Stocked, HeldFits, owed, Fits, PlaceFits, Evictable, Movable};
+ghost use Rattle.scratch.specs.Contracts.{tables, failing, Acquired, Back, Brought, Holds, Found, Moved, Released};
 
-// The evicted register, its slot and the slot's size.
+// An evicted register, its slot and the slot's size.
+pub struct Held {
+    pub reg: PhysReg,
+    pub slot: SpillSlot,
+    pub size: u16,
+}
+
+// 02 i: "the record holds an older and a newer", of which the newer stands first.
 pub enum Evicted {
     Nothing,
-    Held(PhysReg, SpillSlot, u16),
+    One(Held),
+    Two(Held, Held),
 }
 
 pub struct ScratchAllocator {
@@ -181,7 +189,46 @@ impl ScratchAllocator {
         }
     }
 
-    // Brings back the evicted register: emits its save and puts its slot back.
+    // Brings back a register that the record no longer has: emits its save and puts its slot back.
+    fn bring_back(
+        mut self,
+        t: &RegInfo,
+        f: &Function,
+        cache: &SlotCache,
+        edits: &mut Edits,
+        slots: &mut Slots,
+        e: Held,
+    ) -> Self
+        requires { ⌜ Checked (now t) (now f) × HeldFits (T (now t)) e × Fits 0 0 1 (now t) self (now edits) (now slots) (now cache) ⌝ }
+        ensures { λ r. ⌜ ((available : List Bool) → Back (now (t .entry)) (now (f .entry)) (now (cache .entry)) e self (tables (now (edits .entry)) available (now (slots .entry))) r (tables (now (edits .exit)) available (now (slots .exit)))) ⌝ }
+    {
+        edit::push_spill(edits, e.slot, e.reg);
+        slots::put_back(slots, wide(e.size), e.slot);
+        self
+    }
+
+    // The older of two is brought back, and the newer stays.
+    fn unevict_older(
+        mut self,
+        t: &RegInfo,
+        f: &Function,
+        cache: &SlotCache,
+        edits: &mut Edits,
+        slots: &mut Slots,
+        newer: Held,
+        older: Held,
+    ) -> Self
+        requires { ⌜ Checked (now t) (now f) × (self .evicted ≡ Evicted.Two newer older) × Fits 0 0 0 (now t) self (now edits) (now slots) (now cache) ⌝ }
+        ensures { λ r. ⌜ ((available : List Bool) → Brought (now (t .entry)) (now (f .entry)) (now (cache .entry)) self (tables (now (edits .entry)) available (now (slots .entry))) r (tables (now (edits .exit)) available (now (slots .exit))) (unevictBut (T (now (t .entry))) (F (now (f .entry))) 1)) ⌝ }
+    {
+        let k = ScratchAllocator {
+            evicted: Evicted::One(newer),
+            made: self.made,
+        };
+        k.bring_back(t, f, cache, edits, slots, older)
+    }
+
+    // Brings back all, the older first.
     pub fn unevict_all(
         mut self,
         t: &RegInfo,
@@ -194,18 +241,53 @@ impl ScratchAllocator {
         ensures { λ r. ⌜ ((available : List Bool) → Brought (now (t .entry)) (now (f .entry)) (now (cache .entry)) self (tables (now (edits .entry)) available (now (slots .entry))) r (tables (now (edits .exit)) available (now (slots .exit))) (unevictAll (T (now (t .entry))) (F (now (f .entry))))) ⌝ }
     {
         let e = self.evicted;
-        let Evicted::Held(r, s, z) = e else {
-            return self;
-        };
-        edit::push_spill(edits, s, r);
-        slots::put_back(slots, wide(z), s);
-        ScratchAllocator {
+        let k = ScratchAllocator {
             evicted: Evicted::Nothing,
             made: self.made,
+        };
+        match e {
+            Evicted::Nothing => self,
+            Evicted::One(newer) => k.bring_back(t, f, cache, edits, slots, newer),
+            Evicted::Two(newer, older) => {
+                let left = k.bring_back(t, f, cache, edits, slots, older);
+                left.bring_back(t, f, cache, edits, slots, newer)
+            }
         }
     }
 
-    // Brings back the evicted register if it overlaps the place.
+    // Of two those that overlap the place are brought back, the older first.
+    fn unevict_of_two(
+        mut self,
+        t: &RegInfo,
+        f: &Function,
+        cache: &SlotCache,
+        edits: &mut Edits,
+        slots: &mut Slots,
+        p: Allocation,
+        newer: Held,
+        older: Held,
+    ) -> Self
+        requires { ⌜ Checked (now t) (now f) × KnownPlace (T (now t)) (placeAt (p .0)) × (self .evicted ≡ Evicted.Two newer older) × Fits 0 0 0 (now t) self (now edits) (now slots) (now cache) ⌝ }
+        ensures { λ r. ⌜ ((available : List Bool) → Brought (now (t .entry)) (now (f .entry)) (now (cache .entry)) self (tables (now (edits .entry)) available (now (slots .entry))) r (tables (now (edits .exit)) available (now (slots .exit))) (unevictForReg (T (now (t .entry))) (F (now (f .entry))) (placeAt (p .0)))) ⌝ }
+    {
+        let met = reginfo::overlaps_reg(t, p, newer.reg);
+        if reginfo::overlaps_reg(t, p, older.reg) {
+            if met {
+                return self.unevict_all(t, f, cache, edits, slots);
+            }
+            return self.unevict_older(t, f, cache, edits, slots, newer, older);
+        }
+        if met {
+            let k = ScratchAllocator {
+                evicted: Evicted::One(older),
+                made: self.made,
+            };
+            return k.bring_back(t, f, cache, edits, slots, newer);
+        }
+        self
+    }
+
+    // Brings back those that overlap the place.
     pub fn unevict_for_reg(
         mut self,
         t: &RegInfo,
@@ -219,12 +301,70 @@ impl ScratchAllocator {
         ensures { λ r. ⌜ ((available : List Bool) → Brought (now (t .entry)) (now (f .entry)) (now (cache .entry)) self (tables (now (edits .entry)) available (now (slots .entry))) r (tables (now (edits .exit)) available (now (slots .exit))) (unevictForReg (T (now (t .entry))) (F (now (f .entry))) (placeAt (p .0)))) ⌝ }
     {
         let e = self.evicted;
-        let Evicted::Held(r, _, _) = e else {
-            return self;
-        };
-        if reginfo::overlaps_reg(t, p, r) {
+        match e {
+            Evicted::Nothing => self,
+            Evicted::One(newer) => {
+                if reginfo::overlaps_reg(t, p, newer.reg) {
+                    return self.unevict_all(t, f, cache, edits, slots);
+                }
+                self
+            }
+            Evicted::Two(newer, older) => self.unevict_of_two(
+                t,
+                f,
+                cache,
+                edits,
+                slots,
+                p,
+                newer,
+                older,
+            ),
+        }
+    }
+
+    // As few are left as the function keeps beside a new one: none, or one.
+    fn unevict_rest(
+        mut self,
+        t: &RegInfo,
+        f: &Function,
+        cache: &SlotCache,
+        edits: &mut Edits,
+        slots: &mut Slots,
+    ) -> Self
+        requires { ⌜ Checked (now t) (now f) × Fits 0 0 0 (now t) self (now edits) (now slots) (now cache) ⌝ }
+        ensures { λ r. ⌜ ((available : List Bool) → Brought (now (t .entry)) (now (f .entry)) (now (cache .entry)) self (tables (now (edits .entry)) available (now (slots .entry))) r (tables (now (edits .exit)) available (now (slots .exit))) (unevictBut (T (now (t .entry))) (F (now (f .entry))) (pred (functionOf (now (f .entry)) .kept)))) ⌝ }
+    {
+        if function::kept_evictions(f) == 1 {
             return self.unevict_all(t, f, cache, edits, slots);
         }
+        let e = self.evicted;
+        if let Evicted::Two(newer, older) = e {
+            return self.unevict_older(t, f, cache, edits, slots, newer, older);
+        }
+        self
+    }
+
+    // Before the last register of a class's order is evicted, those that overlap it are brought back, and then the older if two are still held.
+    fn make_room(
+        mut self,
+        t: &RegInfo,
+        f: &Function,
+        cache: &SlotCache,
+        edits: &mut Edits,
+        slots: &mut Slots,
+        b: RegBank,
+        c: RegClass,
+    ) -> Self
+        requires { ⌜ Evictable (now t) (now f) (b .0) (c .0) × Fits 0 0 0 (now t) self (now edits) (now slots) (now cache) ⌝ }
+        ensures { λ r. ⌜ owed (r .evicted) ≤ 1 ⌝ }
+        ensures { λ r. ⌜ ((available : List Bool) → Brought (now (t .entry)) (now (f .entry)) (now (cache .entry)) self (tables (now (edits .entry)) available (now (slots .entry))) r (tables (now (edits .exit)) available (now (slots .exit))) (makeRoom (T (now (t .entry))) (F (now (f .entry))) (lastInOrder (T (now (t .entry))) (c .0)))) ⌝ }
+    {
+        let e = self.evicted;
+        let Evicted::Nothing = e else {
+            let r = reginfo::order_last(t, c);
+            let k = self.unevict_for_reg(t, f, cache, edits, slots, Allocation::reg(r));
+            return k.unevict_rest(t, f, cache, edits, slots);
+        };
         self
     }
 
@@ -251,6 +391,24 @@ impl ScratchAllocator {
         }
     }
 
+    // One more is held.
+    fn hold(mut self, new: Held) -> Self
+        requires { ⌜ owed (self .evicted) ≤ 1 ⌝ }
+        ensures { λ r. ⌜ Holds new self r ⌝ }
+    {
+        let e = self.evicted;
+        if let Evicted::One(older) = e {
+            return ScratchAllocator {
+                evicted: Evicted::Two(new, older),
+                made: self.made,
+            };
+        }
+        ScratchAllocator {
+            evicted: Evicted::One(new),
+            made: self.made,
+        }
+    }
+
     // Evicts the last register of a class's order into a slot, and emits its reload.
     fn evict_last(
         mut self,
@@ -263,7 +421,7 @@ impl ScratchAllocator {
         c: RegClass,
         n: u16,
     ) -> Scratch
-        requires { ⌜ Evictable (now t) (now f) (b .0) (c .0) × (self .evicted ≡ Evicted.Nothing) × Fits 0 1 2 (now t) self (now edits) (now slots) (now cache) ⌝ }
+        requires { ⌜ Evictable (now t) (now f) (b .0) (c .0) × (owed (self .evicted) ≤ 1) × Fits 0 1 2 (now t) self (now edits) (now slots) (now cache) ⌝ }
         ensures { λ r. ⌜ ((available : List Bool) → Found (now (t .entry)) (now (f .entry)) (now (cache .entry)) self (tables (now (edits .entry)) available (now (slots .entry))) r (tables (now (edits .exit)) available (now (slots .exit))) (evictLast (T (now (t .entry))) (F (now (f .entry))) n (b .0) (c .0))) ⌝ }
     {
         let z = reginfo::spillslot_size(t, b);
@@ -272,17 +430,19 @@ impl ScratchAllocator {
         let k = got.allocator;
         let r = reginfo::order_last(t, c);
         edit::push_reload(edits, r, s);
+        let held = k.hold(Held {
+            reg: r,
+            slot: s,
+            size: narrow(z),
+        });
         Scratch {
             place: Allocation::reg(r),
             position: n,
-            allocator: ScratchAllocator {
-                evicted: Evicted::Held(r, s, narrow(z)),
-                made: k.made,
-            },
+            allocator: held,
         }
     }
 
-    // Brings back the evicted register, and evicts the order's last.
+    // Makes room, and evicts the order's last.
     fn evict(
         mut self,
         t: &RegInfo,
@@ -297,11 +457,66 @@ impl ScratchAllocator {
         requires { ⌜ Evictable (now t) (now f) (b .0) (c .0) × Fits 0 1 2 (now t) self (now edits) (now slots) (now cache) ⌝ }
         ensures { λ r. ⌜ ((available : List Bool) → Found (now (t .entry)) (now (f .entry)) (now (cache .entry)) self (tables (now (edits .entry)) available (now (slots .entry))) r (tables (now (edits .exit)) available (now (slots .exit))) (reuse (T (now (t .entry))) (F (now (f .entry))) [] n (b .0) (c .0))) ⌝ }
     {
-        let k = self.unevict_all(t, f, cache, edits, slots);
+        let k = self.make_room(t, f, cache, edits, slots, b, c);
         k.evict_last(t, f, cache, edits, slots, b, c, n)
     }
 
-    // The evicted register if it is a member of the class, else the order's last.
+    // A held register if it is a member of the class, else the order's last.
+    fn reuse_held(
+        mut self,
+        t: &RegInfo,
+        f: &Function,
+        cache: &SlotCache,
+        edits: &mut Edits,
+        slots: &mut Slots,
+        b: RegBank,
+        c: RegClass,
+        n: u16,
+        e: Held,
+    ) -> Scratch
+        requires { ⌜ Evictable (now t) (now f) (b .0) (c .0) × HeldFits (T (now t)) e × Fits 0 1 2 (now t) self (now edits) (now slots) (now cache) ⌝ }
+        ensures { λ r. ⌜ ((available : List Bool) → Found (now (t .entry)) (now (f .entry)) (now (cache .entry)) self (tables (now (edits .entry)) available (now (slots .entry))) r (tables (now (edits .exit)) available (now (slots .exit))) (reuse (T (now (t .entry))) (F (now (f .entry))) (heldOf e ∷ []) n (b .0) (c .0))) ⌝ }
+    {
+        let r = e.reg;
+        if reginfo::class_has_reg(t, c, r) {
+            return Scratch {
+                place: Allocation::reg(r),
+                position: n,
+                allocator: self,
+            };
+        }
+        self.evict(t, f, cache, edits, slots, b, c, n)
+    }
+
+    // The newer of two if it is a member of the class, else the older, else the order's last.
+    fn reuse_of_two(
+        mut self,
+        t: &RegInfo,
+        f: &Function,
+        cache: &SlotCache,
+        edits: &mut Edits,
+        slots: &mut Slots,
+        b: RegBank,
+        c: RegClass,
+        n: u16,
+        newer: Held,
+        older: Held,
+    ) -> Scratch
+        requires { ⌜ Evictable (now t) (now f) (b .0) (c .0) × HeldFits (T (now t)) newer × HeldFits (T (now t)) older × Fits 0 1 2 (now t) self (now edits) (now slots) (now cache) ⌝ }
+        ensures { λ r. ⌜ ((available : List Bool) → Found (now (t .entry)) (now (f .entry)) (now (cache .entry)) self (tables (now (edits .entry)) available (now (slots .entry))) r (tables (now (edits .exit)) available (now (slots .exit))) (reuse (T (now (t .entry))) (F (now (f .entry))) (heldOf newer ∷ heldOf older ∷ []) n (b .0) (c .0))) ⌝ }
+    {
+        let r = newer.reg;
+        if reginfo::class_has_reg(t, c, r) {
+            return Scratch {
+                place: Allocation::reg(r),
+                position: n,
+                allocator: self,
+            };
+        }
+        self.reuse_held(t, f, cache, edits, slots, b, c, n, older)
+    }
+
+    // The newest held member of the class, else the order's last.
     fn reuse(
         mut self,
         t: &RegInfo,
@@ -317,17 +532,22 @@ impl ScratchAllocator {
         ensures { λ r. ⌜ ((available : List Bool) → Found (now (t .entry)) (now (f .entry)) (now (cache .entry)) self (tables (now (edits .entry)) available (now (slots .entry))) r (tables (now (edits .exit)) available (now (slots .exit))) (reuse (T (now (t .entry))) (F (now (f .entry))) (evictedOf (self .evicted)) n (b .0) (c .0))) ⌝ }
     {
         let e = self.evicted;
-        let Evicted::Held(r, _, _) = e else {
-            return self.evict(t, f, cache, edits, slots, b, c, n);
-        };
-        if reginfo::class_has_reg(t, c, r) {
-            return Scratch {
-                place: Allocation::reg(r),
-                position: n,
-                allocator: self,
-            };
+        match e {
+            Evicted::Nothing => self.evict(t, f, cache, edits, slots, b, c, n),
+            Evicted::One(newer) => self.reuse_held(t, f, cache, edits, slots, b, c, n, newer),
+            Evicted::Two(newer, older) => self.reuse_of_two(
+                t,
+                f,
+                cache,
+                edits,
+                slots,
+                b,
+                c,
+                n,
+                newer,
+                older,
+            ),
         }
-        self.evict(t, f, cache, edits, slots, b, c, n)
     }
 
     // Failing the class's order, whose length is then the position: a slot or an evicted register.
