@@ -54,7 +54,7 @@ module _ (t : RegInfo) (f : Function) where
   but-evicted n k = unevict-evicted _ _
 
   -- one more has room
-  room-few : (r : ℕ) (k : ScratchAllocator) → length (makeRoom t f r k .evicted) ≤ pred (f .kept)
+  pub room-few : (r : ℕ) (k : ScratchAllocator) → length (makeRoom t f r k .evicted) ≤ pred (f .kept)
   unfolding makeRoom
   room-few r k = let k′ = unevictForReg t f (reg r) k in omega (arith, ap length (but-evicted (pred (f .kept)) k′), length-take (pred (f .kept)) (k′ .evicted))
 

@@ -8,8 +8,6 @@ use native.Mathlib.Omega.{arith}
 use lib.Dec.{eqb}
 use borrow.Author.Tests.{eqb-true}
 use Rattle.entity.specs.Logic.{pick, or, has}
-use Rattle.entity.specs.declared.PhysReg.{PhysReg}
-use Rattle.entity.specs.declared.SpillSlot.{SpillSlot}
 use Rattle.entity.proofs.Laws.{has-getD}
 use Rattle.rules.specs.Edit.{updated}
 use Rattle.edit.specs.Buffer.{countOf, Written}
@@ -18,9 +16,10 @@ use Rattle.slots.specs.Stacks.{stacksOf}
 use Rattle.slots.specs.Steps.{topOf, withoutTop, Taken, PutBack, Meets}
 use Rattle.slots.proofs.Laws.{fits-more}
 use Rattle.scratch.specs.declared.Evicted.{Evicted}
-use Rattle.scratch.specs.declared.Evicted.the-variants.{Nothing, Held}
+use Rattle.scratch.specs.declared.Held.{Held}
 use Rattle.scratch.specs.declared.ScratchAllocator.{ScratchAllocator}
-use Rattle.scratch.specs.State.{T, Stacked, Stocked, HeldFits, owed, Fits}
+use Rattle.scratch.specs.State.{T, Stacked, Stocked, HeldFits, AllFit, owed, Fits}
+use Rattle.scratch.specs.Contracts.{Holds}
 
 -- lists of slots below 8,192
 abbrev Low : List ℕ → Type 0
@@ -126,17 +125,26 @@ pub one-made : {a b n m : ℕ} {v : Evicted} {t edits slots cache : List ℕ} �
 one-made h =
     record { few = omega arith; most = h .most; put = h .put; own = omega arith; made = omega arith; stacked = h .stacked; held = h .held; written = h .written; untouched = h .untouched }
 
--- the evicted register no longer held, and another one held
-module _ {a b n z : ℕ} {r : PhysReg} {s : SpillSlot} {t : List ℕ} {k : ScratchAllocator} {edits slots cache : List ℕ} where
-  pub let-go : k .evicted ≡ Held r s z → Fits a b n t k edits slots cache → Fits a b (n + 1) t (record { evicted = Nothing; made = k .made }) edits slots cache
-  let-go e h =
-      let q : owed (k .evicted) ≡ 1 = rw e in
-      record { few = omega arith; most = h .most; put = h .put; own = omega arith; made = omega arith; stacked = h .stacked; held = tt; written = h .written; untouched = h .untouched }
-
-  pub hold : k .evicted ≡ Nothing → HeldFits (T t) (Held r s z) → Fits a b (n + 1) t k edits slots cache → Fits a b n t (record { evicted = Held r s z; made = k .made }) edits slots cache
-  hold e f h =
-      let q : owed (k .evicted) ≡ 0 = rw e in
+module _ {a b n : ℕ} {t : List ℕ} {k : ScratchAllocator} {edits slots cache : List ℕ} where
+  -- registers no longer held: the edits owed for them are room
+  pub let-go : (v : Evicted) (m : ℕ) → AllFit (T t) v → owed v + m ≤ owed (k .evicted) → Fits a b n t k edits slots cache → Fits a b (n + m) t (record { evicted = v; made = k .made }) edits slots cache
+  let-go v m f q h =
       record { few = omega arith; most = h .most; put = h .put; own = omega arith; made = omega arith; stacked = h .stacked; held = f; written = h .written; untouched = h .untouched }
 
-  pub held-fits : k .evicted ≡ Held r s z → Fits a b n t k edits slots cache → HeldFits (T t) (Held r s z)
-  held-fits e h = rw e at (h .held)
+  -- one more held
+  pub hold : {e : Held} {k′ : ScratchAllocator} → Holds e k k′ → HeldFits (T t) e → Fits a b (n + 1) t k edits slots cache → Fits a b n t k′ edits slots cache
+  hold g f h =
+      record {
+        few = omega (arith, g .owes, h .few);
+        most = h .most;
+        put = h .put;
+        own = omega arith;
+        made = omega (arith, g .made, h .made);
+        stacked = h .stacked;
+        held = g .fits (T t) f (h .held);
+        written = h .written;
+        untouched = h .untouched;
+      }
+
+  pub all-fit : {v : Evicted} → k .evicted ≡ v → Fits a b n t k edits slots cache → AllFit (T t) v
+  all-fit e h = rw e at (h .held)

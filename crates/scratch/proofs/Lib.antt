@@ -1,6 +1,7 @@
 pub mod Bounds
 pub mod Steps
+pub mod Unlimited
+pub mod Bringing
 pub mod Outcomes
 pub mod Diversions
 pub mod Agree
-pub mod Unlimited

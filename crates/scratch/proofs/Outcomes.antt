@@ -18,9 +18,9 @@ use Rattle.reginfo.specs.RegInfo.{numRegs, numClasses, classMembers, allocation
 use Rattle.reginfo.proofs.Accepted.{regs-fit, known-units, size-fits, ordered-fits, last-ordered}
 use Rattle.function.specs.Table.{functionOf}
 use Rattle.small_set.specs.Set.{setOf}
-use Rattle.rules.specs.Edit.{Move, EmergencySpill, EmergencyReload, find, andThen}
+use Rattle.rules.specs.Edit.{Move, EmergencyReload, find, andThen}
 use Rattle.rules.specs.Scratch as rules
-use Rattle.rules.specs.Scratch.{meeting, searchedTo, unevict, unevictAll, unevictForReg, slotScratch, evictLast, reuse, orScratch, getScratchReg, moveEdits, doMove, makeAvailable, makeUnavailable, releasePlace}
+use Rattle.rules.specs.Scratch.{meeting, searchedTo, unevictForReg, makeRoom, slotScratch, evictLast, reuse, orScratch, getScratchReg, moveEdits, doMove, makeAvailable, makeUnavailable, releasePlace}
 use Rattle.search.specs.declared.Search.{Search}
 use Rattle.search.specs.declared.Search.the-variants as search
 use Rattle.search.specs.declared.Search.the-variants.{At}
@@ -29,16 +29,17 @@ use Rattle.edit.specs.Buffer.{countOf, editsOf, Written}
 use Rattle.slots.specs.declared.Popped.the-variants as popped
 use Rattle.slots.specs.Stacks.{stacksOf, SlotsFit}
 use Rattle.slots.specs.Steps as slots
+use Rattle.scratch.specs.declared.Held.{Held}
 use Rattle.scratch.specs.declared.Evicted.{Evicted}
-use Rattle.scratch.specs.declared.Evicted.the-variants.{Nothing, Held}
+use Rattle.scratch.specs.declared.Evicted.the-variants.{Nothing}
 use Rattle.scratch.specs.declared.ScratchAllocator.{ScratchAllocator}
 use Rattle.scratch.specs.declared.Scratch.{Scratch}
 use Rattle.scratch.specs.declared.Taken.{Taken}
 use Rattle.function.specs.Known.{Checked}
-use Rattle.scratch.specs.State.{T, F, evictedOf, cacheIn, allocatorOf, Stocked, Fits, PlaceFits, Evictable}
-use Rattle.scratch.specs.Contracts.{Tables, tables, failing, stateOf, Acquired, Brought, Found, Moved, Released}
-use Rattle.scratch.proofs.Bounds.{top-low, fewer, pushed, put-back, taken, met-one, one-made, let-go, hold, held-fits}
-use Rattle.scratch.proofs.Steps.{took, made, all-none, for-none, for-apart, for-met, reuse-member, reuse-stranger, find-has}
+use Rattle.scratch.specs.State.{T, F, heldOf, evictedOf, cacheIn, allocatorOf, Stocked, Fits, PlaceFits, Evictable}
+use Rattle.scratch.specs.Contracts.{Tables, tables, failing, stateOf, Acquired, Brought, Holds, Found, Moved, Released}
+use Rattle.scratch.proofs.Bounds.{top-low, fewer, pushed, put-back, taken, met-one, one-made, hold}
+use Rattle.scratch.proofs.Steps.{took, made, reuse-member, reuse-stranger, find-has}
 
 -- a class without slots has a last register
 pub last-low : (t f : List ℕ) (b c : ℕ) → Evictable t f b c → (r : ℕ) → r ≡ lastInOrder (T t) c → r < numRegs (T t)
@@ -70,51 +71,6 @@ module _ (t f cache : List ℕ) where
         fits = λ a b n edits h. taken p (one-made h);
       }
 
-  -- bringing back
-  pub brought-none : (k : ScratchAllocator) (w : Tables) → k .evicted ≡ Nothing → Brought t f cache k w k w (unevictAll (T t) (F f))
-  brought-none k w e = record { is = sym (all-none (T t) (F f) (stateOf t f cache k w) (ap evictedOf e)); fits = λ a b n h. h }
-
-  pub brought-held : (k : ScratchAllocator) (e e′ s s′ : List ℕ) (r : PhysReg) (x : SpillSlot) (z : ℕ) → Fits 0 0 0 t k e s cache → k .evicted ≡ Held r x z → (editsOf e′ ≡ EmergencySpill (x .0) (r .0) ∷ editsOf e) × (countOf e′ ≡ countOf e + 1) × (Written e → Written e′) → slots.PutBack s s′ z (x .0) → (available : List Bool) → Brought t f cache k (tables e available s) (record { evicted = Nothing; made = k .made }) (tables e′ available s′) (unevictAll (T t) (F f))
-  unfolding unevict
-  brought-held k e e′ s s′ r x z ok v p q available =
-      record {
-        is = rw (p .0, q .stacks cache, v, q .met);
-        fits = λ a b n h. put-back q (held-fits v ok .1) (pushed (omega arith) (omega arith) (omega arith) (p .1) (p .2) (let-go v h));
-      }
-
-  -- nothing is held then
-  none-left : (v : Evicted) (k : rules.ScratchAllocator) → unevict (T t) (F f) (evictedOf v) (rules.withEvicted [] k) .evicted ≡ []
-  unfolding unevict
-  none-left Nothing k = refl
-  none-left (Held r x z) k = refl
-
-  nothing : (v : Evicted) → evictedOf v ≡ [] → v ≡ Nothing
-  nothing Nothing e = refl
-  nothing (Held r x z) e = absurd (let z : _≡_ {A = ℕ} 0 1 = cc in omega arith)
-
-  pub brought-all : (k k′ : ScratchAllocator) (w w′ : Tables) → Brought t f cache k w k′ w′ (unevictAll (T t) (F f)) → k′ .evicted ≡ Nothing
-  brought-all k k′ w w′ h = nothing (k′ .evicted) (ap (λ (x : rules.ScratchAllocator). x .evicted) (h .is) ∙ none-left (k .evicted) (stateOf t f cache k w))
-
-  -- bringing back for a place
-  module _ (k : ScratchAllocator) (w : Tables) (p : Place) where
-    pub brought-for-none : k .evicted ≡ Nothing → Brought t f cache k w k w (unevictForReg (T t) (F f) p)
-    brought-for-none e = record { is = sym (for-none (T t) (F f) (stateOf t f cache k w) p (ap evictedOf e)); fits = λ a b n h. h }
-
-    module _ (r : PhysReg) (x : SpillSlot) (z : ℕ) (e : k .evicted ≡ Held r x z) where
-      pub brought-apart : (o : Bool) → o ≡ overlap (T t) p (reg (r .0)) → o ≡ false → Brought t f cache k w k w (unevictForReg (T t) (F f) p)
-      brought-apart o m n =
-          record {
-            is = sym (for-apart (T t) (F f) (stateOf t f cache k w) p (record { reg = r .0; slot = x .0; size = z }) (ap evictedOf e) (sym m ∙ n));
-            fits = λ a b n h. h;
-          }
-
-      pub brought-met : (k′ : ScratchAllocator) (w′ : Tables) (o : Bool) → o ≡ overlap (T t) p (reg (r .0)) → o ≡ true → Brought t f cache k w k′ w′ (unevictAll (T t) (F f)) → Brought t f cache k w k′ w′ (unevictForReg (T t) (F f) p)
-      brought-met k′ w′ o m n h =
-          record {
-            is = h .is ∙ sym (for-met (T t) (F f) (stateOf t f cache k w) p (record { reg = r .0; slot = x .0; size = z }) (ap evictedOf e) (sym m ∙ n));
-            fits = h .fits;
-          }
-
   -- places found
   slot-fits : (c s : ℕ) → c ≡ codeOf (slot s) → s < 8192 → PlaceFits t c
   slot-fits c s q h = record { known = rw (q, place-there (slot s)) (omega arith); small = omega arith }
@@ -134,19 +90,20 @@ module _ (t f cache : List ℕ) where
         fits = λ a b n g. fewer (omega arith) (omega arith) (omega arith) (h .fits a b (n + 2) e g);
       }
 
-  pub found-last : (m b c z y : ℕ) (k : ScratchAllocator) (e e′ : List ℕ) (available : List Bool) (s s′ : List ℕ) (r : Taken) (q : PhysReg) (p : Allocation) → Evictable t f b c → k .evicted ≡ Nothing → z ≡ spillslotSize (T t) b → Acquired t f cache z k s r s′ → q .0 ≡ lastInOrder (T t) c → (editsOf e′ ≡ EmergencyReload (q .0) (r .slot .0) ∷ editsOf e) × (countOf e′ ≡ countOf e + 1) × (Written e → Written e′) → y ≡ z → p .0 ≡ codeOf (reg (q .0)) → Found t f cache k (tables e available s) (record { place = p; position = m; allocator = record { evicted = Held q (r .slot) y; made = r .allocator .made } }) (tables e′ available s′) (evictLast (T t) (F f) m b c)
+  pub found-last : (m b c z : ℕ) (k k′ : ScratchAllocator) (e e′ : List ℕ) (available : List Bool) (s s′ : List ℕ) (r : Taken) (h : Held) (p : Allocation) → Evictable t f b c → z ≡ spillslotSize (T t) b → Acquired t f cache z k s r s′ → h .reg .0 ≡ lastInOrder (T t) c → h .slot .0 ≡ r .slot .0 → (editsOf e′ ≡ EmergencyReload (h .reg .0) (r .slot .0) ∷ editsOf e) × (countOf e′ ≡ countOf e + 1) × (Written e → Written e′) → h .size ≡ z → Holds h (r .allocator) k′ → p .0 ≡ codeOf (reg (h .reg .0)) → Found t f cache k (tables e available s) (record { place = p; position = m; allocator = k′ }) (tables e′ available s′) (evictLast (T t) (F f) m b c)
   unfolding evictLast andThen
-  found-last n b c z y k e e′ available s s′ r q p ok v u h l m d o =
+  found-last n b c z k k′ e e′ available s s′ r q p ok u h l x m d v o =
       let i = rw u at (h .is) in
-      let low = last-low t f b c ok (q .0) l in
+      let low = last-low t f b c ok (q .reg .0) l in
       let size = size-fits (T t) (ok .checked .target) b (ok .bank) in
+      let same : evictedOf (k′ .evicted) ≡ record { reg = lastInOrder (T t) c; slot = r .slot .0; size = spillslotSize (T t) b } ∷ evictedOf (k .evicted) = rw (v .is, h .kept, l, x, d, u) in
       record {
-        is = rw (i, o, place-there (reg (q .0)), m .0, d, u, v, l, h .met);
-        place = reg-fits (p .0) (q .0) (ok .checked) o low;
-        fits = λ a b n g. hold (h .kept ∙ v) (low, h .small, omega arith) (pushed (omega arith) (omega arith) (omega arith) (m .1) (m .2) (h .fits a b (n + 2) e g));
+        is = rw (i, o, place-there (reg (q .reg .0)), m .0, same, v .made, l, h .met);
+        place = reg-fits (p .0) (q .reg .0) (ok .checked) o low;
+        fits = λ a b n g. hold v (low, omega (arith, x, h .small), omega (arith, d, u, size)) (pushed (omega arith) (omega arith) (omega arith) (m .1) (m .2) (h .fits a b (n + 2) e g));
       }
 
-  pub found-evicted : (m b c : ℕ) (k k′ : ScratchAllocator) (w w′ : Tables) (r : Scratch) (w″ : Tables) → Brought t f cache k w k′ w′ (unevictAll (T t) (F f)) → Found t f cache k′ w′ r w″ (evictLast (T t) (F f) m b c) → Found t f cache k w r w″ (reuse (T t) (F f) [] m b c)
+  pub found-evicted : (m b c : ℕ) (k k′ : ScratchAllocator) (w w′ : Tables) (r : Scratch) (w″ : Tables) → Brought t f cache k w k′ w′ (makeRoom (T t) (F f) (lastInOrder (T t) c)) → Found t f cache k′ w′ r w″ (evictLast (T t) (F f) m b c) → Found t f cache k w r w″ (reuse (T t) (F f) [] m b c)
   unfolding reuse
   found-evicted m b c k k′ w w′ r w″ h g =
       record { is = ap (evictLast (T t) (F f) m b c) (sym (h .is)) ∙ g .is; place = g .place; fits = λ a b n i. g .fits a b n (h .fits a (b + 1) (n + 2) i) }
@@ -164,20 +121,19 @@ module _ (t f cache : List ℕ) where
         fits = λ a b n g. fewer (omega arith) (omega arith) (omega arith) g;
       }
 
-  pub found-none : (m b c : ℕ) (k : ScratchAllocator) (w : Tables) (r : Scratch) (w′ : Tables) → k .evicted ≡ Nothing → Found t f cache k w r w′ (reuse (T t) (F f) [] m b c) → Found t f cache k w r w′ (reuse (T t) (F f) (evictedOf (k .evicted)) m b c)
-  found-none m b c k w r w′ e h =
-      found-as k w r w′ (reuse (T t) (F f) [] m b c) (reuse (T t) (F f) (evictedOf (k .evicted)) m b c) (ap (λ (v : Evicted). reuse (T t) (F f) (evictedOf v) m b c (stateOf t f cache k w)) e) h
+  -- what is held as the record has it
+  pub found-held : (m b c : ℕ) (k : ScratchAllocator) (w : Tables) (r : Scratch) (w′ : Tables) (v : Evicted) → k .evicted ≡ v → Found t f cache k w r w′ (reuse (T t) (F f) (evictedOf v) m b c) → Found t f cache k w r w′ (reuse (T t) (F f) (evictedOf (k .evicted)) m b c)
+  found-held m b c k w r w′ v e h =
+      found-as k w r w′ (reuse (T t) (F f) (evictedOf v) m b c) (reuse (T t) (F f) (evictedOf (k .evicted)) m b c) (ap (λ (v : Evicted). reuse (T t) (F f) (evictedOf v) m b c (stateOf t f cache k w)) e) h
 
-  module _ (y b c : ℕ) (k : ScratchAllocator) (w : Tables) (v : PhysReg) (x : SpillSlot) (z : ℕ) (e : k .evicted ≡ Held v x z) where
-    pub found-member : (p : Allocation) → Checked t f → v .0 < numRegs (T t) → p .0 ≡ codeOf (reg (v .0)) → (m : Bool) → m ≡ has (v .0) (classMembers (T t) c) → m ≡ true → Found t f cache k w (record { place = p; position = y; allocator = k }) w (reuse (T t) (F f) (evictedOf (k .evicted)) y b c)
-    found-member p ok h q m n o =
-        found-reg k w p (v .0) y (reuse (T t) (F f) (evictedOf (k .evicted)) y b c) ok q h
-        (reuse-member (T t) (F f) y b c (stateOf t f cache k w) (evictedOf (k .evicted)) (record { reg = v .0; slot = x .0; size = z }) (ap evictedOf e) (sym n ∙ o))
+  module _ (y b c : ℕ) (k : ScratchAllocator) (w : Tables) (e : Held) (l : List rules.Evicted) (m : Bool) (n : m ≡ has (e .reg .0) (classMembers (T t) c)) where
+    pub found-member : (p : Allocation) → Checked t f → e .reg .0 < numRegs (T t) → p .0 ≡ codeOf (reg (e .reg .0)) → m ≡ true → Found t f cache k w (record { place = p; position = y; allocator = k }) w (reuse (T t) (F f) (heldOf e ∷ l) y b c)
+    found-member p ok h q o =
+        found-reg k w p (e .reg .0) y (reuse (T t) (F f) (heldOf e ∷ l) y b c) ok q h (reuse-member (T t) (F f) y b c (stateOf t f cache k w) (heldOf e) l (sym n ∙ o))
 
-    pub found-stranger : (r : Scratch) (w′ : Tables) (m : Bool) → m ≡ has (v .0) (classMembers (T t) c) → m ≡ false → Found t f cache k w r w′ (reuse (T t) (F f) [] y b c) → Found t f cache k w r w′ (reuse (T t) (F f) (evictedOf (k .evicted)) y b c)
-    found-stranger r w′ m n o h =
-        found-as k w r w′ (reuse (T t) (F f) [] y b c) (reuse (T t) (F f) (evictedOf (k .evicted)) y b c)
-        (reuse-stranger (T t) (F f) y b c (stateOf t f cache k w) (evictedOf (k .evicted)) (record { reg = v .0; slot = x .0; size = z }) (ap evictedOf e) (sym n ∙ o)) h
+    pub found-stranger : (r : Scratch) (w′ : Tables) → m ≡ false → Found t f cache k w r w′ (reuse (T t) (F f) l y b c) → Found t f cache k w r w′ (reuse (T t) (F f) (heldOf e ∷ l) y b c)
+    found-stranger r w′ o h =
+        found-as k w r w′ (reuse (T t) (F f) l y b c) (reuse (T t) (F f) (heldOf e ∷ l) y b c) (reuse-stranger (T t) (F f) y b c (stateOf t f cache k w) (heldOf e) l (sym n ∙ o)) h
 
   -- a position met, and what is found then
   module _ (m : ℕ) (k : ScratchAllocator) (w : Tables) (s : List ℕ) (put : SlotsFit 1024 (w .slots)) (u : slots.Meets (w .slots) s m) where

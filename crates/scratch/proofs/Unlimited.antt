@@ -12,7 +12,7 @@ use Rattle.machine.specs.Paid as machine
 use Rattle.edit.specs.Buffer.{countOf}
 use Rattle.edit.proofs.Laws.{length-edits}
 use Rattle.scratch.specs.declared.Evicted.{Evicted}
-use Rattle.scratch.specs.declared.Evicted.the-variants.{Nothing, Held}
+use Rattle.scratch.specs.declared.Evicted.the-variants.{Nothing, One, Two}
 use Rattle.scratch.specs.declared.ScratchAllocator.{ScratchAllocator}
 use Rattle.scratch.specs.State.{T, F, evictedOf, owed}
 use Rattle.scratch.specs.Contracts.{Tables, stateOf}
@@ -29,9 +29,10 @@ pub all-placed : (t f : List ℕ) → Checked t f → Placed (T t) (F f)
 unfolding valueBank rematClass rematCost
 all-placed t f known = let p = placed (T t) (functionOf f) (known .function) in record { bank = p .bank; class = p .class }
 
-length-evicted : (v : Evicted) → length (evictedOf v) ≡ owed v
+pub length-evicted : (v : Evicted) → length (evictedOf v) ≡ owed v
 length-evicted Nothing = refl
-length-evicted (Held r s z) = refl
+length-evicted (One e) = refl
+length-evicted (Two e o) = refl
 
 pub owed-is : (t f cache : List ℕ) (k : ScratchAllocator) (w : Tables) → machine.owed (stateOf t f cache k w) ≡ countOf (w .edits) + owed (k .evicted)
 owed-is t f cache k w = omega (arith, length-edits (w .edits), length-evicted (k .evicted))

@@ -6,14 +6,14 @@ use mathlib.Core.List.{List, [], _∷_}
 use mathlib.Core.Option.{Option, none, some}
 use lib.ListN.{length}
 use Rattle.entity.specs.Place.{placeAt}
-use Rattle.reginfo.specs.RegInfo.{allocationOrder}
+use Rattle.reginfo.specs.RegInfo.{RegInfo, allocationOrder}
 use Rattle.rules.specs.Scratch as rules
 use Rattle.slots.specs.Stacks.{metOf}
 use Rattle.scratch.specs.declared.Held.{Held}
 use Rattle.scratch.specs.declared.ScratchAllocator.{ScratchAllocator}
 use Rattle.scratch.specs.declared.Scratch.{Scratch}
 use Rattle.scratch.specs.declared.Taken.{Taken}
-use Rattle.scratch.specs.State.{T, F, heldOf, evictedOf, cacheIn, allocatorOf, Fits, PlaceFits}
+use Rattle.scratch.specs.State.{T, F, heldOf, evictedOf, cacheIn, allocatorOf, HeldFits, AllFit, owed, Fits, PlaceFits}
 
 -- the lent tables as a step finds or leaves them
 pub record Tables : Type 0 where
@@ -32,6 +32,8 @@ failing t f b c k = rules.orScratch (T t) (F f) none (length (allocationOrder (T
 pub record Holds (e : Held) (k k′ : ScratchAllocator) : Type 0 where
   pub is : evictedOf (k′ .evicted) ≡ heldOf e ∷ evictedOf (k .evicted)
   pub made : k′ .made ≡ k .made
+  pub owes : owed (k′ .evicted) ≡ owed (k .evicted) + 1
+  pub fits : (t : RegInfo) → HeldFits t e → AllFit t (k .evicted) → AllFit t (k′ .evicted)
 
 module _ (t f cache : List ℕ) where
   abbrev pub stateOf : ScratchAllocator → Tables → rules.ScratchAllocator

@@ -338,10 +338,13 @@ impl ScratchAllocator {
             return self.unevict_all(t, f, cache, edits, slots);
         }
         let e = self.evicted;
-        if let Evicted::Two(newer, older) = e {
-            return self.unevict_older(t, f, cache, edits, slots, newer, older);
+        match e {
+            Evicted::Nothing => self,
+            Evicted::One(_) => self,
+            Evicted::Two(newer, older) => {
+                self.unevict_older(t, f, cache, edits, slots, newer, older)
+            }
         }
-        self
     }
 
     // Before the last register of a class's order is evicted, those that overlap it are brought back, and then the older if two are still held.
@@ -397,15 +400,16 @@ impl ScratchAllocator {
         ensures { λ r. ⌜ Holds new self r ⌝ }
     {
         let e = self.evicted;
-        if let Evicted::One(older) = e {
-            return ScratchAllocator {
+        match e {
+            Evicted::Nothing => ScratchAllocator {
+                evicted: Evicted::One(new),
+                made: self.made,
+            },
+            Evicted::One(older) => ScratchAllocator {
                 evicted: Evicted::Two(new, older),
                 made: self.made,
-            };
-        }
-        ScratchAllocator {
-            evicted: Evicted::One(new),
-            made: self.made,
+            },
+            Evicted::Two(_, _) => self,
         }
     }
 

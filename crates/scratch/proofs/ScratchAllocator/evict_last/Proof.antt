@@ -1,10 +1,20 @@
--- `scratch::ScratchAllocator::evict_last` meets its contract.
+use mathlib.Core.Path.{refl, ap}
 use native.Mathlib.Omega.{arith}
 use Rattle.reginfo.proofs.Accepted.{known-bank, known-class, size-fits, order-some, order-fits, regs-fit}
+use Rattle.scratch.specs.State.{owed}
 use Rattle.scratch.proofs.Bounds.{stocked}
 use Rattle.scratch.proofs.Outcomes.{last-low, found-last}
 use Rattle.scratch.proofs.ScratchAllocator.evict_last.Statement.{statement}
 use Rattle.scratch.proofs.ScratchAllocator.evict_last.Tie as tie
+use Rattle.scratch.proofs.ScratchAllocator.evict_last.Reads as reads
+use Rattle.scratch.proofs.ScratchAllocator.evict_last.Lts as lts
+use Rattle.edit.proofs.push_reload.Reads as push-reload-reads
+use Rattle.entity.proofs.Allocation.reg.Reads as reg-reads
+use Rattle.entity.proofs.narrow.Reads as narrow-reads
+use Rattle.reginfo.proofs.order_last.Reads as order-last-reads
+use Rattle.reginfo.proofs.spillslot_size.Reads as spillslot-size-reads
+use Rattle.scratch.proofs.ScratchAllocator.acquire.Reads as acquire-reads
+use Rattle.scratch.proofs.ScratchAllocator.hold.Reads as hold-reads
 
 spillslot-size-requires : tie.Need-spillslot-size-requires
 spillslot-size-requires c κs = known-bank _ (c .pre .0 .checked .target) _ (c .pre .0 .bank)
@@ -27,21 +37,24 @@ push-reload-requires c κs =
     let low = last-low _ _ _ _ (pre .0) _ (c .before .order-last .ensures) in
     (omega (arith, got .fits 0 0 2 _ (pre .2) .few), omega (arith, low, regs-fit _ (pre .0 .checked .target) .1), got .small)
 
-reg-requires : tie.Need-reg-requires
-reg-requires c κs =
-    let pre = c .before .before .before .before .before .before .before .before .pre in
-    let low = last-low _ _ _ _ (pre .0) _ (c .before .before .order-last .ensures) in
-    omega (arith, low, regs-fit _ (pre .0 .checked .target) .1)
-
 narrow-requires : tie.Need-narrow-requires
 narrow-requires c κs =
-    let ok = c .before .before .before .before .before .before .before .before .before .pre .0 in
-    omega (arith, c .before .before .before .before .before .before .before .before .spillslot-size .ensures, size-fits _ (ok .checked .target) _ (ok .bank))
+    let ok = c .before .before .before .before .before .before .before .before .pre .0 in
+    omega (arith, c .before .before .before .before .before .before .before .spillslot-size .ensures, size-fits _ (ok .checked .target) _ (ok .bank))
+
+hold-requires : tie.Need-hold-requires
+hold-requires c κs =
+    omega (arith, ap owed (c .before .before .before .before .before .before .acquire .ensures .kept), c .before .before .before .before .before .before .before .before .before .pre .1)
+
+reg-requires : tie.Need-reg-requires
+reg-requires c κs =
+    let pre = c .before .before .before .before .before .before .before .before .before .before .pre in
+    let low = last-low _ _ _ _ (pre .0) _ (c .before .before .before .before .order-last .ensures) in
+    omega (arith, low, regs-fit _ (pre .0 .checked .target) .1)
 
 returns : tie.Need-returns
 returns c =
-    let pre = c .before .before .before .before .before .before .before .before .before .before .pre in
-    λ available. found-last _ _ _ _ _ _ _ _ _ _ _ _ _ _ _ _ _ (pre .0) (pre .1) (c .before .before .before .before .before .before .before .before .before .spillslot-size .ensures) (c .before .before .before .before .before .before .before .acquire .ensures) (c .before .before .before .before .order-last .ensures) (c .before .before .push-reload .ensures) (c .narrow .ensures) (c .before .reg .ensures)
+    λ available. found-last _ _ _ _ _ _ _ _ _ _ _ _ _ _ _ _ _ (c .before .before .before .before .before .before .before .before .before .before .before .pre .0) (c .before .before .before .before .before .before .before .before .before .before .spillslot-size .ensures) (c .before .before .before .before .before .before .before .before .acquire .ensures) (c .before .before .before .before .before .order-last .ensures) refl (c .before .before .before .push-reload .ensures) (c .before .before .narrow .ensures) (c .before .hold .ensures) (c .reg .ensures)
 
 pub evict-last-spec : {M : Type 1} → statement M
 evict-last-spec =
@@ -51,6 +64,7 @@ evict-last-spec =
     acquire-requires
     order-last-requires
     push-reload-requires
-    reg-requires
     narrow-requires
+    hold-requires
+    reg-requires
     returns)

@@ -1,14 +1,13 @@
--- `scratch::ScratchAllocator::reuse` meets its contract.
-use native.Mathlib.Omega.{arith}
+use Rattle.scratch.proofs.Bounds.{all-fit}
+use Rattle.scratch.proofs.Outcomes.{found-held}
 use borrow.Author.Needs.{needs}
-use Rattle.reginfo.proofs.Accepted.{known-members, regs-fit}
-use Rattle.scratch.proofs.Bounds.{held-fits}
-use Rattle.scratch.proofs.Outcomes.{found-none, found-member, found-stranger}
 use Rattle.scratch.proofs.ScratchAllocator.reuse.Statement.{statement}
 use Rattle.scratch.proofs.ScratchAllocator.reuse.Tie as tie
-
-enum-known-e : tie.Need-enum-known-e
-enum-known-e c = search needs
+use Rattle.scratch.proofs.ScratchAllocator.reuse.Reads as reads
+use Rattle.scratch.proofs.ScratchAllocator.reuse.Lts as lts
+use Rattle.scratch.proofs.ScratchAllocator.evict.Reads as evict-reads
+use Rattle.scratch.proofs.ScratchAllocator.reuse_held.Reads as reuse-held-reads
+use Rattle.scratch.proofs.ScratchAllocator.reuse_of_two.Reads as reuse-of-two-reads
 
 enum-told : tie.Need-enum-told
 enum-told c = search needs
@@ -16,44 +15,44 @@ enum-told c = search needs
 evict-requires : tie.Need-evict-requires
 evict-requires c κs = c .before .before .before .before .pre
 
-returns : tie.Need-returns
-returns c = λ available. found-none _ _ _ _ _ _ _ _ _ _ (c .before .before .before .enum-told .given .1) (c .evict .ensures available)
+enum-known-e : tie.Need-enum-known-e
+enum-known-e c = search needs
 
-class-has-reg-requires : tie.Need-class-has-reg-requires
-class-has-reg-requires c κs =
-    let pre = c .before .before .before .pre in
-    let ok = pre .0 .checked in
-    let h = held-fits (c .before .e .given .1) (pre .1) in
-    (known-members _ (ok .target) (ok .indexed) _ (pre .0 .class), omega (arith, h .0, regs-fit _ (ok .target) .1))
+reuse-held-requires : tie.Need-reuse-held-requires
+reuse-held-requires c κs =
+    let pre = c .before .before .before .before .before .pre in (pre .0, all-fit (c .before .before .before .e .given .1) (pre .1), pre .1)
 
-reg-requires : tie.Need-reg-requires
-reg-requires c κs =
+enum-known-e-2 : tie.Need-enum-known-e-2
+enum-known-e-2 c = search needs
+
+reuse-of-two-requires : tie.Need-reuse-of-two-requires
+reuse-of-two-requires c κs =
     let pre = c .before .before .before .before .before .pre in
-    omega (arith, held-fits (c .before .before .before .e .given .1) (pre .1) .0, regs-fit _ (pre .0 .checked .target) .1)
+    let h = all-fit (c .before .before .before .e2 .given .1) (pre .1) in
+    (pre .0, h .0, h .1, pre .1)
+
+returns : tie.Need-returns
+returns c =
+    λ available. found-held _ _ _ _ _ _ _ _ _ _ _ (c .before .before .before .enum-told .given .1) (c .evict .ensures available)
 
 returns-2 : tie.Need-returns-2
 returns-2 c =
-    let pre = c .before .before .before .before .before .before .pre in
-    let e = c .before .before .before .before .e .given .1 in
-    λ available. found-member _ _ _ _ _ _ _ _ _ _ _ e _ (pre .0 .checked) (held-fits e (pre .1) .0) (c .reg .ensures) _ (c .before .before .class-has-reg .ensures) (c .before .if1 .taken)
-
-evict-requires-2 : tie.Need-evict-requires-2
-evict-requires-2 c κs = c .before .before .before .before .before .before .before .pre
+    λ available. found-held _ _ _ _ _ _ _ _ _ _ _ (c .before .before .before .before .e .given .1) (c .reuse-held .ensures available)
 
 returns-3 : tie.Need-returns-3
 returns-3 c =
-    λ available. found-stranger _ _ _ _ _ _ _ _ _ _ _ (c .before .before .before .before .before .before .e .given .1) _ _ _ (c .before .before .before .before .class-has-reg .ensures) (c .before .before .before .if1 .left) (c .evict2 .ensures available)
+    λ available. found-held _ _ _ _ _ _ _ _ _ _ _ (c .before .before .before .before .e2 .given .1) (c .reuse-of-two .ensures available)
 
 pub reuse-spec : {M : Type 1} → statement M
 reuse-spec =
     tie.close
     (tie.spec
-    enum-known-e
     enum-told
     evict-requires
+    enum-known-e
+    reuse-held-requires
+    enum-known-e-2
+    reuse-of-two-requires
     returns
-    class-has-reg-requires
-    reg-requires
     returns-2
-    evict-requires-2
     returns-3)

@@ -1,55 +1,64 @@
--- `scratch::ScratchAllocator::unevict_all` meets its contract.
-use Prim.Native.Nat.{_<_}
+use mathlib.Core.Path.{ap}
+use mathlib.Core.List.{[]}
 use native.Mathlib.Omega.{arith}
+use Rattle.scratch.specs.declared.Evicted.the-variants.{Nothing}
+use Rattle.scratch.specs.State.{owed}
+use Rattle.scratch.proofs.Bounds.{fewer, let-go, all-fit}
+use Rattle.scratch.proofs.Bringing.{none-all, one-all, two-all}
 use borrow.Author.Needs.{needs}
-use Rattle.reginfo.proofs.Accepted.{regs-fit}
-use Rattle.slots.proofs.Laws.{fits-more}
-use Rattle.scratch.proofs.Bounds.{let-go, held-fits}
-use Rattle.scratch.proofs.Outcomes.{brought-none, brought-held}
 use Rattle.scratch.proofs.ScratchAllocator.unevict_all.Statement.{statement}
 use Rattle.scratch.proofs.ScratchAllocator.unevict_all.Tie as tie
-
-enum-known-e : tie.Need-enum-known-e
-enum-known-e c = search needs
+use Rattle.scratch.proofs.ScratchAllocator.unevict_all.Reads as reads
+use Rattle.scratch.proofs.ScratchAllocator.unevict_all.Lts as lts
+use Rattle.scratch.proofs.ScratchAllocator.bring_back.Reads as bring-back-reads
 
 enum-told : tie.Need-enum-told
 enum-told c = search needs
 
+enum-known-e : tie.Need-enum-known-e
+enum-known-e c = search needs
+
+bring-back-requires : tie.Need-bring-back-requires
+bring-back-requires c κs =
+    let pre = c .before .before .before .before .before .pre in
+    let q = c .before .before .before .e .given .1 in
+    (pre .0, all-fit q (pre .1), let-go Nothing 1 tt (omega (arith, ap owed q)) (pre .1))
+
+enum-known-e-2 : tie.Need-enum-known-e-2
+enum-known-e-2 c = search needs
+
+bring-back-requires-2 : tie.Need-bring-back-requires-2
+bring-back-requires-2 c κs =
+    let pre = c .before .before .before .before .before .pre in
+    let q = c .before .before .before .e2 .given .1 in
+    (pre .0, all-fit q (pre .1) .1, let-go Nothing 1 tt (omega (arith, ap owed q)) (pre .1))
+
+bring-back-requires-3 : tie.Need-bring-back-requires-3
+bring-back-requires-3 c κs =
+    let pre = c .before .before .before .before .before .before .before .before .pre in
+    let q = c .before .before .before .before .before .before .e2 .given .1 in
+    (pre .0, all-fit q (pre .1) .0, c .before .before .bring-back2 .ensures [] .fits 0 0 1 (let-go Nothing 2 tt (omega (arith, ap owed q)) (pre .1)))
+
 returns : tie.Need-returns
-returns c = λ available. brought-none _ _ _ _ _ (c .enum-told .given .1)
-
-push-spill-requires : tie.Need-push-spill-requires
-push-spill-requires c κs =
-    let pre = c .before .before .before .before .pre in
-    let e = c .before .before .e .given .1 in
-    let g = let-go e (pre .1) in
-    let h = held-fits e (pre .1) in
-    (omega (arith, g .few), h .1, omega (arith, h .0, regs-fit _ (pre .0 .target) .1))
-
-wide-requires : tie.Need-wide-requires
-wide-requires c κs = search needs
-
-put-back-requires : tie.Need-put-back-requires
-put-back-requires c κs =
-    let pre = c .before .before .before .before .before .before .before .pre in
-    let e = c .before .before .before .before .before .e .given .1 in
-    let g = let-go e (pre .1) in
-    let h = held-fits e (pre .1) in
-    let z : c .wide .result < 32 = omega (arith, h .2, c .wide .ensures .0) in
-    (z, fits-more _ 1024 _ (omega (arith, g .own, g .few)) (g .put), omega (arith, g .put .own _ z, g .own, g .few))
+returns c = λ available. none-all _ _ _ _ _ (c .enum-told .given .1)
 
 returns-2 : tie.Need-returns-2
-returns-2 c =
-    brought-held _ _ _ _ _ _ _ _ _ _ _ (c .before .before .before .before .before .before .before .before .pre .1) (c .before .before .before .before .before .before .e .given .1) (c .before .before .before .push-spill .ensures) (rw (c .before .wide .ensures .0) at (c .put-back .ensures))
+returns-2 c = λ available. one-all _ _ _ _ _ _ (c .before .before .before .before .e .given .1) _ _ (c .bring-back .ensures available)
+
+returns-3 : tie.Need-returns-3
+returns-3 c =
+    λ available. two-all _ _ _ _ _ _ _ (c .before .before .before .before .before .before .before .e2 .given .1) _ _ _ _ (c .before .before .before .bring-back2 .ensures available) (c .bring-back3 .ensures available)
 
 pub unevict-all-spec : {M : Type 1} → statement M
 unevict-all-spec =
     tie.close
     (tie.spec
-    enum-known-e
     enum-told
+    enum-known-e
+    bring-back-requires
+    enum-known-e-2
+    bring-back-requires-2
+    bring-back-requires-3
     returns
-    push-spill-requires
-    wide-requires
-    put-back-requires
-    returns-2)
+    returns-2
+    returns-3)

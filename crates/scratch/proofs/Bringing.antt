@@ -1,0 +1,161 @@
+-- Evicted registers brought back, as the contracts have it.
+use Prim.Native.Nat.{ℕ, pred, _+_, _≤_}
+use mathlib.Core.Path.{_≡_, refl, sym, ap, _∙_}
+use mathlib.Core.Bool.{Bool, true, false}
+use mathlib.Core.List.{List, [], _∷_}
+use mathlib.Core.Logic.{_⊎_, inl, inr}
+use native.Mathlib.Omega.{arith}
+use lib.ListN.{length}
+use Rattle.entity.specs.Place.{Place, reg, codeOf, placeAt}
+use Rattle.entity.proofs.Laws.{place-there}
+use Rattle.reginfo.specs.RegInfo.{overlap}
+use Rattle.function.specs.Known.{Checked}
+use Rattle.function.specs.Table.{functionOf}
+use Rattle.function.proofs.Laws.{one-or-two}
+use Rattle.rules.specs.Edit.{EmergencySpill}
+use Rattle.rules.specs.Scratch as rules
+use Rattle.rules.specs.Scratch.{unevict, unevictAll, unevictBut, unevictForReg, makeRoom}
+use Rattle.rules.proofs.Evictions.{room-few}
+use Rattle.edit.specs.Buffer.{countOf, editsOf, Written}
+use Rattle.slots.specs.Steps as slots
+use Rattle.scratch.specs.declared.Held.{Held}
+use Rattle.scratch.specs.declared.Evicted.{Evicted}
+use Rattle.scratch.specs.declared.Evicted.the-variants.{Nothing, One, Two}
+use Rattle.scratch.specs.declared.ScratchAllocator.{ScratchAllocator}
+use Rattle.scratch.specs.State.{T, F, heldOf, evictedOf, HeldFits, AllFit, owed}
+use Rattle.scratch.specs.Contracts.{Tables, tables, stateOf, Back, Brought, Holds}
+use Rattle.scratch.proofs.Bounds.{fewer, pushed, put-back, let-go, all-fit}
+use Rattle.scratch.proofs.Steps.{all-is, all-none, but-all, but-none, but-one, but-two, for-none, for-apart, for-met, for-two, for-both, for-older, for-neither, room-none}
+use Rattle.scratch.proofs.Unlimited.{length-evicted}
+
+abbrev without : ScratchAllocator → Evicted → ScratchAllocator
+without k v = record { evicted = v; made = k .made }
+
+module _ (t f cache : List ℕ) where
+  abbrev By : Type 0
+  By = rules.ScratchAllocator → rules.ScratchAllocator
+
+  -- one register
+  pub back-made : (k : ScratchAllocator) (x x′ s s′ : List ℕ) (e : Held) → HeldFits (T t) e → (editsOf x′ ≡ EmergencySpill (e .slot .0) (e .reg .0) ∷ editsOf x) × (countOf x′ ≡ countOf x + 1) × (Written x → Written x′) → slots.PutBack s s′ (e .size) (e .slot .0) → (available : List Bool) → Back t f cache e k (tables x available s) k (tables x′ available s′)
+  unfolding unevict
+  back-made k x x′ s s′ e ok p q available =
+      record {
+        same = refl;
+        is = rw (p .0, q .stacks cache, q .met);
+        fits = λ a b n h. put-back q (ok .1) (pushed (omega arith) (omega arith) (omega arith) (p .1) (p .2) h);
+      }
+
+  module _ (k : ScratchAllocator) (w : Tables) where
+    abbrev state : rules.ScratchAllocator
+    state = stateOf t f cache k w
+
+    -- a step of the rules that changes nothing, and one that does what another does
+    same : (to : By) → to state ≡ state → Brought t f cache k w k w to
+    same to e = record { is = sym e; fits = λ a b n h. h }
+
+    alike : (k′ : ScratchAllocator) (w′ : Tables) (to to′ : By) → to′ state ≡ to state → Brought t f cache k w k′ w′ to → Brought t f cache k w k′ w′ to′
+    alike k′ w′ to to′ e h = record { is = h .is ∙ sym e; fits = h .fits }
+
+    -- one of those held
+    module _ (u v : Evicted) (q : k .evicted ≡ u) (l : owed v + 1 ≤ owed u) (g : AllFit (T t) u → AllFit (T t) v) (e : Held) (k′ : ScratchAllocator) (w′ : Tables) where
+      brought-back : (to : By) → to state ≡ unevict (T t) (F f) (heldOf e ∷ []) (stateOf t f cache (without k v) w) → Back t f cache e (without k v) w k′ w′ → Brought t f cache k w k′ w′ to
+      brought-back to i h = record { is = h .is ∙ sym i; fits = λ a b n x. h .fits a b n (let-go v 1 (g (all-fit q x)) (omega (arith, l, ap owed q)) x) }
+
+    pub none-all : k .evicted ≡ Nothing → Brought t f cache k w k w (unevictAll (T t) (F f))
+    none-all q = same (unevictAll (T t) (F f)) (all-none (T t) (F f) state (ap evictedOf q))
+
+    pub none-but : (n : ℕ) → k .evicted ≡ Nothing → Brought t f cache k w k w (unevictBut (T t) (F f) n)
+    none-but n q = same (unevictBut (T t) (F f) n) (but-none (T t) (F f) state n (ap evictedOf q))
+
+    pub none-for : (p : Place) → k .evicted ≡ Nothing → Brought t f cache k w k w (unevictForReg (T t) (F f) p)
+    none-for p q = same (unevictForReg (T t) (F f) p) (for-none (T t) (F f) state p (ap evictedOf q))
+
+    pub none-room : (r : ℕ) → k .evicted ≡ Nothing → Brought t f cache k w k w (makeRoom (T t) (F f) r)
+    none-room r q = same (makeRoom (T t) (F f) r) (room-none (T t) (F f) state r (ap evictedOf q))
+
+    -- one is held
+    module _ (e : Held) (q : k .evicted ≡ One e) where
+      pub one-all : (k′ : ScratchAllocator) (w′ : Tables) → Back t f cache e (without k Nothing) w k′ w′ → Brought t f cache k w k′ w′ (unevictAll (T t) (F f))
+      one-all k′ w′ h = brought-back (One e) Nothing q (omega arith) (λ _. tt) e k′ w′ (unevictAll (T t) (F f)) (all-is (T t) (F f) state (heldOf e ∷ []) (ap evictedOf q)) h
+
+      pub one-but : Brought t f cache k w k w (unevictBut (T t) (F f) 1)
+      one-but = same (unevictBut (T t) (F f) 1) (but-one (T t) (F f) state (heldOf e) (ap evictedOf q))
+
+      module _ (p : Place) (o : Bool) (m : o ≡ overlap (T t) p (reg (e .reg .0))) where
+        pub one-apart : o ≡ false → Brought t f cache k w k w (unevictForReg (T t) (F f) p)
+        one-apart n = same (unevictForReg (T t) (F f) p) (for-apart (T t) (F f) state p (heldOf e) (ap evictedOf q) (sym m ∙ n))
+
+        pub one-met : o ≡ true → (k′ : ScratchAllocator) (w′ : Tables) → Brought t f cache k w k′ w′ (unevictAll (T t) (F f)) → Brought t f cache k w k′ w′ (unevictForReg (T t) (F f) p)
+        one-met n k′ w′ h = alike k′ w′ (unevictAll (T t) (F f)) (unevictForReg (T t) (F f) p) (for-met (T t) (F f) state p (heldOf e) (ap evictedOf q) (sym m ∙ n)) h
+
+    -- two are
+    module _ (e o : Held) (q : k .evicted ≡ Two e o) where
+      pub two-all : (k′ k″ : ScratchAllocator) (w′ w″ : Tables) → Back t f cache o (without k Nothing) w k′ w′ → Back t f cache e k′ w′ k″ w″ → Brought t f cache k w k″ w″ (unevictAll (T t) (F f))
+      unfolding unevict
+      two-all k′ k″ w′ w″ h g =
+          record {
+            is = g .is ∙ ap (unevict (T t) (F f) (heldOf e ∷ [])) (h .is) ∙ sym (all-is (T t) (F f) state (heldOf e ∷ heldOf o ∷ []) (ap evictedOf q));
+            fits = λ a b n x. g .fits a b n (h .fits a b (n + 1) (fewer (omega arith) (omega arith) (omega arith) (let-go Nothing 2 tt (omega (arith, ap owed q)) x)));
+          }
+
+      pub two-older : (k′ : ScratchAllocator) (w′ : Tables) → Back t f cache o (without k (One e)) w k′ w′ → Brought t f cache k w k′ w′ (unevictBut (T t) (F f) 1)
+      two-older k′ w′ h = brought-back (Two e o) (One e) q (omega arith) (λ x. x .0) o k′ w′ (unevictBut (T t) (F f) 1) (but-two (T t) (F f) state (heldOf e) (heldOf o) (ap evictedOf q)) h
+
+      module _ (p : Place) (b c : Bool) (m : b ≡ overlap (T t) p (reg (e .reg .0))) (n : c ≡ overlap (T t) p (reg (o .reg .0))) where
+        pub two-met : b ≡ true → c ≡ true → (k′ : ScratchAllocator) (w′ : Tables) → Brought t f cache k w k′ w′ (unevictAll (T t) (F f)) → Brought t f cache k w k′ w′ (unevictForReg (T t) (F f) p)
+        two-met x y k′ w′ h =
+            alike k′ w′ (unevictAll (T t) (F f)) (unevictForReg (T t) (F f) p) (for-both (T t) (F f) state p (heldOf e) (heldOf o) (ap evictedOf q) (sym m ∙ x) (sym n ∙ y)) h
+
+        pub older-met : b ≡ false → c ≡ true → (k′ : ScratchAllocator) (w′ : Tables) → Brought t f cache k w k′ w′ (unevictBut (T t) (F f) 1) → Brought t f cache k w k′ w′ (unevictForReg (T t) (F f) p)
+        older-met x y k′ w′ h =
+            alike k′ w′ (unevictBut (T t) (F f) 1) (unevictForReg (T t) (F f) p) (for-older (T t) (F f) state p (heldOf e) (heldOf o) (ap evictedOf q) (sym m ∙ x) (sym n ∙ y)) h
+
+        pub newer-met : b ≡ true → c ≡ false → (k′ : ScratchAllocator) (w′ : Tables) → Back t f cache e (without k (One o)) w k′ w′ → Brought t f cache k w k′ w′ (unevictForReg (T t) (F f) p)
+        newer-met x y k′ w′ h =
+            brought-back (Two e o) (One o) q (omega arith) (λ z. z .1) e k′ w′ (unevictForReg (T t) (F f) p) (for-two (T t) (F f) state p (heldOf e) (heldOf o) (ap evictedOf q) true false (sym m ∙ x) (sym n ∙ y)) h
+
+        pub neither-met : b ≡ false → c ≡ false → Brought t f cache k w k w (unevictForReg (T t) (F f) p)
+        neither-met x y = same (unevictForReg (T t) (F f) p) (for-neither (T t) (F f) state p (heldOf e) (heldOf o) (ap evictedOf q) (sym m ∙ x) (sym n ∙ y))
+
+  -- at setting 1 all, at 2 all but one
+  module _ (k k′ : ScratchAllocator) (w w′ : Tables) where
+    pub rest-all : functionOf f .kept ≡ 1 → Brought t f cache k w k′ w′ (unevictAll (T t) (F f)) → Brought t f cache k w k′ w′ (unevictBut (T t) (F f) (pred (functionOf f .kept)))
+    rest-all q h =
+        alike k w k′ w′ (unevictAll (T t) (F f)) (unevictBut (T t) (F f) (pred (functionOf f .kept)))
+        (ap (λ (n : ℕ). unevictBut (T t) (F f) (pred n) (stateOf t f cache k w)) q ∙ but-all (T t) (F f) (stateOf t f cache k w)) h
+
+    pub rest-one : Checked t f → (functionOf f .kept ≡ 1 → ⊥) → Brought t f cache k w k′ w′ (unevictBut (T t) (F f) 1) → Brought t f cache k w k′ w′ (unevictBut (T t) (F f) (pred (functionOf f .kept)))
+    rest-one ok q h = by (one-or-two (T t) (functionOf f) (ok .function))
+      where
+        by : (functionOf f .kept ≡ 1) ⊎ (functionOf f .kept ≡ 2) → Brought t f cache k w k′ w′ (unevictBut (T t) (F f) (pred (functionOf f .kept)))
+        by (inl x) = absurd (q x)
+        by (inr x) = alike k w k′ w′ (unevictBut (T t) (F f) 1) (unevictBut (T t) (F f) (pred (functionOf f .kept))) (ap (λ (n : ℕ). unevictBut (T t) (F f) (pred n) (stateOf t f cache k w)) x) h
+
+    -- with room for one more
+    room-owed : (r : ℕ) → Checked t f → Brought t f cache k w k′ w′ (makeRoom (T t) (F f) r) → owed (k′ .evicted) ≤ 1
+    room-owed r ok h = by (one-or-two (T t) (functionOf f) (ok .function))
+      where
+        by : (functionOf f .kept ≡ 1) ⊎ (functionOf f .kept ≡ 2) → owed (k′ .evicted) ≤ 1
+        by (inl x) = omega (arith, x, length-evicted (k′ .evicted), ap (λ (y : rules.ScratchAllocator). length (y .evicted)) (h .is), room-few (T t) (F f) r (stateOf t f cache k w))
+        by (inr x) = omega (arith, x, length-evicted (k′ .evicted), ap (λ (y : rules.ScratchAllocator). length (y .evicted)) (h .is), room-few (T t) (F f) r (stateOf t f cache k w))
+
+  -- those for the new register, then as many as there is no room for
+  pub made-room : (p r l : ℕ) (k k′ k″ : ScratchAllocator) (w w′ w″ : Tables) → p ≡ codeOf (reg r) → r ≡ l → Brought t f cache k w k′ w′ (unevictForReg (T t) (F f) (placeAt p)) → Brought t f cache k′ w′ k″ w″ (unevictBut (T t) (F f) (pred (functionOf f .kept))) → Brought t f cache k w k″ w″ (makeRoom (T t) (F f) l)
+  unfolding makeRoom
+  made-room p r l k k′ k″ w w′ w″ e d h g =
+      let at : placeAt p ≡ reg l = ap placeAt e ∙ place-there (reg r) ∙ ap reg d in
+      record {
+        is = g .is ∙ ap (unevictBut (T t) (F f) (pred (functionOf f .kept))) (h .is ∙ ap (λ (x : Place). unevictForReg (T t) (F f) x (stateOf t f cache k w)) at);
+        fits = λ a b n x. g .fits a b n (h .fits a b n x);
+      }
+
+  pub with-room : (l : ℕ) (k k′ : ScratchAllocator) (e e′ s s′ : List ℕ) → Checked t f → ((available : List Bool) → Brought t f cache k (tables e available s) k′ (tables e′ available s′) (makeRoom (T t) (F f) l)) → (owed (k′ .evicted) ≤ 1) × ((available : List Bool) → Brought t f cache k (tables e available s) k′ (tables e′ available s′) (makeRoom (T t) (F f) l))
+  with-room l k k′ e e′ s s′ ok h = (room-owed k k′ (tables e [] s) (tables e′ [] s′) l ok (h []), h)
+
+-- one more held
+module _ (e : Held) (k : ScratchAllocator) where
+  pub held-first : k .evicted ≡ Nothing → Holds e k (without k (One e))
+  held-first q = record { is = rw q; made = refl; owes = omega (arith, ap owed q); fits = λ t h _. h }
+
+  pub held-second : (o : Held) → k .evicted ≡ One o → Holds e k (without k (Two e o))
+  held-second o q = record { is = rw q; made = refl; owes = omega (arith, ap owed q); fits = λ t h g. (h, rw q at g) }
