@@ -15,10 +15,11 @@ use Rattle.rules.proofs.Steps.{All, every-index, all-each}
 use Rattle.rules.specs.Counts.{bit}
 use Rattle.rules.proofs.Sum.{bit-le, sum-le, sum-ones}
 use Rattle.machine.specs.Paid.{owed}
+use Rattle.rules.proofs.Evictions.{unevict-evicted}
 use Rattle.machine.proofs.Bound as bound
 use Rattle.carried.specs.Carried as rows
 use Rattle.scratch.specs.declared.Evicted.{Evicted}
-use Rattle.scratch.specs.declared.Evicted.the-variants.{Nothing, Held}
+use Rattle.scratch.specs.declared.Evicted.the-variants.{Nothing, One, Two}
 use Rattle.scratch.specs.declared.ScratchAllocator.{ScratchAllocator}
 use Rattle.scratch.specs.State.{T, F, evictedOf, Fits}
 use Rattle.scratch.specs.Contracts.{Tables, stateOf, FitsIn, Brought}
@@ -34,7 +35,8 @@ use Rattle.visiting.proofs.Passing.{firstFor, first-paid-here}
 
 nothing-evicted : (e : Evicted) → evictedOf e ≡ [] → e ≡ Nothing
 nothing-evicted Nothing q = refl
-nothing-evicted (Held r s z) q = let z : _≡_ {A = ℕ} 0 1 = cc in absurd (omega arith)
+nothing-evicted (One e) q = let z : _≡_ {A = ℕ} 0 1 = cc in absurd (omega arith)
+nothing-evicted (Two e o) q = let z : _≡_ {A = ℕ} 0 1 = cc in absurd (omega arith)
 
 unclosed-all : (n : ℕ) (s : ℕ → State) → unclosed n s ≤ n
 unfolding unclosed bit
@@ -103,10 +105,10 @@ module _ (t f cache e : List ℕ) (ok : MovesOk t f e) (k : ScratchAllocator) (w
         pub second-fits : FitsIn t f cache 0 0 0 k₂ (w₂ .tables)
         second-fits = fewer (omega arith) (omega arith) (omega arith) (twice .stands .fits)
 
-        -- the evicted register is saved
+        -- the evicted registers are saved
         module _ (k₃ : ScratchAllocator) (w₃ : Tables) (b : Brought t f cache k₂ (w₂ .tables) k₃ w₃ (unevictAll (T t) (F f))) where
           saved : evictedOf (k₃ .evicted) ≡ []
-          saved = ap (λ (x : rules.ScratchAllocator). x .evicted) (b .is) ∙ bound.unevict-evicted (T t) (F f) (evictedOf (k₂ .evicted)) (withEvicted [] (stateOf t f cache k₂ (w₂ .tables)))
+          saved = ap (λ (x : rules.ScratchAllocator). x .evicted) (b .is) ∙ unevict-evicted (T t) (F f) (evictedOf (k₂ .evicted)) (withEvicted [] (stateOf t f cache k₂ (w₂ .tables)))
 
           pub all-moved : Moves t f cache e k (w .tables) k₃ w₃
           all-moved =
