@@ -364,8 +364,8 @@ impl ScratchAllocator {
     {
         let e = self.evicted;
         let Evicted::Nothing = e else {
-            let r = reginfo::order_last(t, c);
-            let k = self.unevict_for_reg(t, f, cache, edits, slots, Allocation::reg(r));
+            let last = reginfo::order_last(t, c);
+            let k = self.unevict_for_reg(t, f, cache, edits, slots, Allocation::reg(last));
             return k.unevict_rest(t, f, cache, edits, slots);
         };
         self
@@ -481,10 +481,9 @@ impl ScratchAllocator {
         requires { ⌜ Evictable (now t) (now f) (b .0) (c .0) × HeldFits (T (now t)) e × Fits 0 1 2 (now t) self (now edits) (now slots) (now cache) ⌝ }
         ensures { λ r. ⌜ ((available : List Bool) → Found (now (t .entry)) (now (f .entry)) (now (cache .entry)) self (tables (now (edits .entry)) available (now (slots .entry))) r (tables (now (edits .exit)) available (now (slots .exit))) (reuse (T (now (t .entry))) (F (now (f .entry))) (heldOf e ∷ []) n (b .0) (c .0))) ⌝ }
     {
-        let r = e.reg;
-        if reginfo::class_has_reg(t, c, r) {
+        if reginfo::class_has_reg(t, c, e.reg) {
             return Scratch {
-                place: Allocation::reg(r),
+                place: Allocation::reg(e.reg),
                 position: n,
                 allocator: self,
             };
@@ -509,10 +508,9 @@ impl ScratchAllocator {
         requires { ⌜ Evictable (now t) (now f) (b .0) (c .0) × HeldFits (T (now t)) newer × HeldFits (T (now t)) older × Fits 0 1 2 (now t) self (now edits) (now slots) (now cache) ⌝ }
         ensures { λ r. ⌜ ((available : List Bool) → Found (now (t .entry)) (now (f .entry)) (now (cache .entry)) self (tables (now (edits .entry)) available (now (slots .entry))) r (tables (now (edits .exit)) available (now (slots .exit))) (reuse (T (now (t .entry))) (F (now (f .entry))) (heldOf newer ∷ heldOf older ∷ []) n (b .0) (c .0))) ⌝ }
     {
-        let r = newer.reg;
-        if reginfo::class_has_reg(t, c, r) {
+        if reginfo::class_has_reg(t, c, newer.reg) {
             return Scratch {
-                place: Allocation::reg(r),
+                place: Allocation::reg(newer.reg),
                 position: n,
                 allocator: self,
             };

@@ -12,20 +12,20 @@ use Rattle.scratch.proofs.ScratchAllocator.reuse_held.Reads as reuse-he
 
 class-has-reg-requires : tie.Need-class-has-reg-requires
 class-has-reg-requires c κs =
-    let pre = c .before .pre in
+    let pre = c .pre in
     let ok = pre .0 .checked in
     (known-members _ (ok .target) (ok .indexed) _ (pre .0 .class), omega (arith, pre .1 .0, regs-fit _ (ok .target) .1))
 
 reg-requires : tie.Need-reg-requires
-reg-requires c κs = let pre = c .before .before .before .pre in omega (arith, pre .1 .0, regs-fit _ (pre .0 .checked .target) .1)
+reg-requires c κs = let pre = c .before .before .pre in omega (arith, pre .1 .0, regs-fit _ (pre .0 .checked .target) .1)
 
 returns : tie.Need-returns
 returns c =
-    let pre = c .before .before .before .before .pre in
+    let pre = c .before .before .before .pre in
     λ available. found-member _ _ _ _ _ _ _ _ _ _ _ (c .before .before .class-has-reg .ensures) _ (pre .0 .checked) (pre .1 .0) (c .reg .ensures) (c .before .if1 .taken)
 
 reuse-held-requires : tie.Need-reuse-held-requires
-reuse-held-requires c κs = let pre = c .before .before .before .before .before .pre in (pre .0, pre .2, pre .3)
+reuse-held-requires c κs = let pre = c .before .before .before .before .pre in (pre .0, pre .2, pre .3)
 
 returns-2 : tie.Need-returns-2
 returns-2 c =
