@@ -180,8 +180,9 @@ fn answer_patches(
     Whole::Answered(n)
 }
 
-// A whole job. `t`, `f` and `cache` are working tables too.
+// A whole job of a function with so many kept evictions; 22 first, for a setting other than 1 or 2. `t`, `f` and `cache` are working tables too.
 pub fn answer_job(
+    kept_evictions: u32,
     s: &[u8],
     words: &mut [u64],
     t: &mut RegInfo,
@@ -198,10 +199,10 @@ pub fn answer_job(
     marks: &mut Marks,
     c: &mut Carried,
 ) -> Whole
-    ensures { λ r. ⌜ Wholly (now (words .entry)) (jobIn (length (now (words .entry))) (now (s .entry))) r (now (words .exit)) ⌝ }
+    ensures { λ r. ⌜ Wholly (now (words .entry)) (jobIn (length (now (words .entry))) kept_evictions (now (s .entry))) r (now (words .exit)) ⌝ }
     ensures { λ _. ⌜ Anything (now (t .exit)) × Anything (now (f .exit)) × Anything (now (cache .exit)) × Anything (now (free .exit)) × Anything (now (e .exit)) × Anything (now (w .exit)) × Anything (now (available .exit)) × Anything (now (sources .exit)) × Anything (now (edits .exit)) × Anything (now (slots .exit)) × Anything (now (d .exit)) × Anything (now (marks .exit)) × Anything (now (c .exit)) ⌝ }
 {
-    match job::read_opening(s, t, f) {
+    match job::read_opening(kept_evictions, s, t, f) {
         Number::Refused(k) => Whole::Refused(k, 0),
         Number::Is(count, at) => {
             slots::clear(cache);

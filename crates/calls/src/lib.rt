@@ -34,11 +34,18 @@ pub enum Opened {
     Refused(u8),
 }
 
-// Opens the target and the function that the bytes are, with a cache that has no slot made. What the tables held does not matter.
-pub fn open(s: &[u8], t: &mut RegInfo, f: &mut Function, cache: &mut SlotCache) -> Opened
-    ensures { λ r. ⌜ OpenedAs (opened (now (s .entry))) r (now (t .exit)) (now (f .exit)) (now (cache .entry)) (now (cache .exit)) ⌝ }
+// Opens the target and the function that the bytes are, with its setting and a cache that has no slot made; 22 first, for a setting other than 1
+// or 2. What the tables held does not matter.
+pub fn open(
+    kept_evictions: u32,
+    s: &[u8],
+    t: &mut RegInfo,
+    f: &mut Function,
+    cache: &mut SlotCache,
+) -> Opened
+    ensures { λ r. ⌜ OpenedAs (opened kept_evictions (now (s .entry))) r (now (t .exit)) (now (f .exit)) (now (cache .entry)) (now (cache .exit)) ⌝ }
 {
-    match job::read_beginning(s, t, f) {
+    match job::read_beginning(kept_evictions, s, t, f) {
         Next::Refused(k) => Opened::Refused(k),
         Next::At(next) => {
             if next < s.len() {

@@ -25,17 +25,19 @@ ghost use Rattle.calls.specs.Opening.{opened};
 ghost use Rattle.calls.specs.Call.{callOf};
 ghost use Rattle.calls_c.specs.Called.{OpenedBy, CalledAs};
 
-// Opens the target and the function that the bytes are, for `parallel_moves_resolve`: answers 0, or 01's number.
+// Opens the target and the function that the bytes are, with its number of kept evictions, for `parallel_moves_resolve`: answers 0, or 01's number:
+// 22, tested before the bytes, for one other than 1 or 2.
 #[no_mangle]
-pub extern "C" fn parallel_moves_open_3(
+pub extern "C" fn parallel_moves_open_4(
+    kept_evictions: u32,
     bytes: &[u8],
     target: &mut RegInfo,
     function: &mut Function,
     cache: &mut SlotCache,
 ) -> u8
-    ensures { λ r. ⌜ OpenedBy (opened (now (bytes .entry))) r (now (target .exit)) (now (function .exit)) (now (cache .entry)) (now (cache .exit)) ⌝ }
+    ensures { λ r. ⌜ OpenedBy (opened kept_evictions (now (bytes .entry))) r (now (target .exit)) (now (function .exit)) (now (cache .entry)) (now (cache .exit)) ⌝ }
 {
-    match calls::open(bytes, target, function, cache) {
+    match calls::open(kept_evictions, bytes, target, function, cache) {
         Opened::Yes => 0,
         Opened::Refused(k) => k,
     }
@@ -45,7 +47,7 @@ pub extern "C" fn parallel_moves_open_3(
 // `refusal` to 01's number or 0, and `position`, unless it is refused, to the greatest position that its searches met. Asked is that target, function and cache are as `parallel_moves_open` left them when it answered 0, the cache
 // as the last call on it left it: "nothing else writes the cache between calls".
 #[no_mangle]
-pub extern "C" fn parallel_moves_resolve_3(
+pub extern "C" fn parallel_moves_resolve_4(
     target: &RegInfo,
     function: &Function,
     free: &[u32],
@@ -99,7 +101,7 @@ pub extern "C" fn parallel_moves_resolve_3(
 
 // How many emergency slots the function has.
 #[no_mangle]
-pub extern "C" fn parallel_moves_made_3(cache: &SlotCache) -> u16
+pub extern "C" fn parallel_moves_made_4(cache: &SlotCache) -> u16
     ensures { λ n. ⌜ n ≡ cacheOf (now (cache .entry)) .made ⌝ }
 {
     slots::made(cache)

@@ -15,11 +15,13 @@ use sparse::SparseMap;
 use target_check::TargetCheck;
 use visits::Marks;
 ghost use mathlib.Core.Path.{_≡_};
+ghost use mathlib.Core.Bool.{true};
 ghost use Prim.Native.Nat.{ℕ, _≤_};
 ghost use lib.ListN.{length, drop};
 ghost use Rattle.entity.specs.Logic.{has, Anything};
 ghost use Rattle.reginfo.specs.Refused.{targetRefusal};
 ghost use Rattle.reginfo.specs.Table.{regInfoOf};
+ghost use Rattle.function.specs.Function.{isSetting};
 ghost use Rattle.function.specs.Known.{Checked};
 ghost use Rattle.function.specs.Table.{functionOf};
 ghost use Rattle.small_set.specs.Set.{setOf};
@@ -38,12 +40,19 @@ pub enum Step {
     Refused(u8),
 }
 
-// 4 to 7, then the function.
-fn read_after_target(s: &[u8], at: usize, t: &mut RegInfo, f: &mut Function) -> Next
-    ensures { λ r. ⌜ BegunAt (now (s .entry)) (unlessGiven (targetRefusal (regInfoOf (now (t .entry)))) (withFunction (regInfoOf (now (t .entry))) (drop at (now (s .entry))))) r (now (t .exit)) (now (f .exit)) ⌝ }
+// 4 to 7, then the function, of `kept` kept evictions.
+fn read_after_target(
+    s: &[u8],
+    at: usize,
+    t: &mut RegInfo,
+    f: &mut Function,
+    kept: u16,
+) -> Next
+    requires { ⌜ isSetting kept ≡ true ⌝ }
+    ensures { λ r. ⌜ BegunAt (now (s .entry)) (unlessGiven (targetRefusal (regInfoOf (now (t .entry)))) (withFunction (regInfoOf (now (t .entry))) kept (drop at (now (s .entry))))) r (now (t .exit)) (now (f .exit)) ⌝ }
 {
     match target_check::check(t) {
-        TargetCheck::Accepted => job_function::read_function(t, s, at, f),
+        TargetCheck::Accepted => job_function::read_function(t, s, at, f, kept),
         TargetCheck::OutsideLimits => Next::Refused(2),
         TargetCheck::ListedTwice => Next::Refused(3),
         TargetCheck::UnequalWidths => Next::Refused(4),
@@ -53,24 +62,38 @@ fn read_after_target(s: &[u8], at: usize, t: &mut RegInfo, f: &mut Function) -> 
     }
 }
 
-// The target and the function that the bytes begin with. What the tables held does not matter.
-pub fn read_beginning(s: &[u8], t: &mut RegInfo, f: &mut Function) -> Next
-    ensures { λ r. ⌜ BegunAt (now (s .entry)) (beginning (now (s .entry))) r (now (t .exit)) (now (f .exit)) ⌝ }
+// The target and the function that the bytes begin with; 22 first, for a setting other than 1 or 2. What the tables held does not matter.
+pub fn read_beginning(
+    kept_evictions: u32,
+    s: &[u8],
+    t: &mut RegInfo,
+    f: &mut Function,
+) -> Next
+    ensures { λ r. ⌜ BegunAt (now (s .entry)) (beginning kept_evictions (now (s .entry))) r (now (t .exit)) (now (f .exit)) ⌝ }
 {
+    if !function::is_setting(kept_evictions as usize) {
+        return Next::Refused(22);
+    }
     if 65536 < s.len() {
         return Next::Refused(2);
     }
     match job_target::read_target(s, 0, t) {
         Next::Refused(k) => Next::Refused(k),
-        Next::At(next) => read_after_target(s, next, t, f),
+        Next::At(next) => read_after_target(s, next, t, f, kept_evictions as u16),
     }
 }
 
-// The target, the function and the patch count of a job, which goes on at the offset given. What the tables held does not matter.
-pub fn read_opening(s: &[u8], t: &mut RegInfo, f: &mut Function) -> Number
-    ensures { λ r. ⌜ HeaderAt (now (s .entry)) (opening (now (s .entry))) r (now (t .exit)) (now (f .exit)) ⌝ }
+// The target, the function and the patch count of a job, which goes on at the offset given; 22 first, for a setting other than 1 or 2. What the
+// tables held does not matter.
+pub fn read_opening(
+    kept_evictions: u32,
+    s: &[u8],
+    t: &mut RegInfo,
+    f: &mut Function,
+) -> Number
+    ensures { λ r. ⌜ HeaderAt (now (s .entry)) (opening kept_evictions (now (s .entry))) r (now (t .exit)) (now (f .exit)) ⌝ }
 {
-    match read_beginning(s, t, f) {
+    match read_beginning(kept_evictions, s, t, f) {
         Next::Refused(k) => Number::Refused(k),
         Next::At(next) => reading::between(s, next, 1, 1024),
     }

@@ -1,4 +1,4 @@
-// 01, The job: the function, read from a job's bytes into the lent table that `function` reads.
+// 01, The job: the function, read from a job's bytes into the lent table that `function` reads, with its setting, which is given beside them.
 use entity::RegClass;
 use entity::wide;
 use function::Function;
@@ -28,8 +28,8 @@ enum Row {
 }
 
 // Does nothing: a call tells the length of the table that is passed.
-fn told(f: [u16; 16387]) -> bool
-    ensures { λ _. ⌜ length f ≡ 16387 ⌝ }
+fn told(f: [u16; 16388]) -> bool
+    ensures { λ _. ⌜ length f ≡ 16388 ⌝ }
 {
     true
 }
@@ -93,7 +93,7 @@ fn read_values(t: &RegInfo, s: &[u8], from: usize, f: &mut Function, n: usize) -
     Next::At(at)
 }
 
-// The values, and the counts beside them.
+// The values, the counts beside them, and the setting.
 fn read_valued(
     t: &RegInfo,
     s: &[u8],
@@ -102,9 +102,10 @@ fn read_valued(
     n: u16,
     slots: u16,
     limit: u16,
+    kept: u16,
 ) -> Next
     requires { ⌜ Accepted (regInfoOf (now t)) × (n ≤ 4096) ⌝ }
-    ensures { λ r. ⌜ NextAt (valued (regInfoOf (now (t .entry))) n slots limit) (now (s .entry)) at (functionOf (now (f .exit))) Unit r ⌝ }
+    ensures { λ r. ⌜ NextAt (valued (regInfoOf (now (t .entry))) kept n slots limit) (now (s .entry)) at (functionOf (now (f .exit))) Unit r ⌝ }
 {
     match read_values(t, s, at, f, wide(n)) {
         Next::Refused(k) => Next::Refused(k),
@@ -113,15 +114,16 @@ fn read_valued(
             f[16384] = n;
             f[16385] = slots;
             f[16386] = limit;
+            f[16387] = kept;
             Next::At(next)
         }
     }
 }
 
-// Reads a function over an accepted target.
-pub fn read_function(t: &RegInfo, s: &[u8], at: usize, f: &mut Function) -> Next
+// Reads a function over an accepted target; `kept` is its number of kept evictions.
+pub fn read_function(t: &RegInfo, s: &[u8], at: usize, f: &mut Function, kept: u16) -> Next
     requires { ⌜ Accepted (regInfoOf (now t)) ⌝ }
-    ensures { λ r. ⌜ FunctionRead (now (t .entry)) (now (s .entry)) at (now (f .exit)) r ⌝ }
+    ensures { λ r. ⌜ FunctionRead (now (t .entry)) kept (now (s .entry)) at (now (f .exit)) r ⌝ }
 {
     match between(s, at, 0, 4096) {
         Number::Refused(k) => Next::Refused(k),
@@ -137,6 +139,7 @@ pub fn read_function(t: &RegInfo, s: &[u8], at: usize, f: &mut Function) -> Next
                     n as u16,
                     slots as u16,
                     limit as u16,
+                    kept,
                 ),
             },
         },

@@ -19,6 +19,7 @@ ghost use mathlib.Core.Bool.{false};
 ghost use Prim.Native.Nat.{_+_, _<_, _≤_};
 ghost use lib.ListN.{length, take, drop};
 ghost use Rattle.entity.specs.Logic.{Anything};
+ghost use Rattle.function.specs.Table.{functionOf};
 ghost use Rattle.print.specs.Put.{Put};
 ghost use Rattle.print.specs.Words.{wordsText};
 ghost use Rattle.answer_text.specs.Lines.{refusalText};
@@ -138,8 +139,8 @@ pub fn next(
     c: &mut Carried,
     out: &mut [u8],
 ) -> Progress
-    requires { ⌜ Stands (now t) (now f) (now s) (now cache) (now out) p × (p .ended ≡ false) × (p .held + 20480 ≤ length (now out)) ⌝ }
-    ensures { λ r. ⌜ Stands (now (t .entry)) (now (f .entry)) (now (s .entry)) (now (cache .exit)) (now (out .exit)) r × (r .written ≡ p .written) × (toGo r < toGo p) ⌝ }
+    requires { ⌜ Stands (functionOf (now f) .kept) (now t) (now f) (now s) (now cache) (now out) p × (p .ended ≡ false) × (p .held + 20480 ≤ length (now out)) ⌝ }
+    ensures { λ r. ⌜ Stands (functionOf (now (f .entry)) .kept) (now (t .entry)) (now (f .entry)) (now (s .entry)) (now (cache .exit)) (now (out .exit)) r × (r .written ≡ p .written) × (toGo r < toGo p) ⌝ }
     ensures { λ _. ⌜ Anything (now (list .exit)) × Anything (now (free .exit)) × Anything (now (e .exit)) × Anything (now (w .exit)) × Anything (now (available .exit)) × Anything (now (sources .exit)) × Anything (now (edits .exit)) × Anything (now (slots .exit)) × Anything (now (d .exit)) × Anything (now (marks .exit)) × Anything (now (c .exit)) ⌝ }
 {
     let at = p.at;
@@ -184,8 +185,10 @@ pub fn next(
     }
 }
 
-// The opening of a job: read, and its refusal put if there is one. `t`, `f` and `cache` are working tables too.
+// The opening of a job of a function with so many kept evictions: read, and its refusal put if there is one, 22 first, for a setting other than 1
+// or 2. `t`, `f` and `cache` are working tables too.
 pub fn start(
+    kept_evictions: u32,
     s: &[u8],
     t: &mut RegInfo,
     f: &mut Function,
@@ -193,9 +196,9 @@ pub fn start(
     out: &mut [u8],
 ) -> Progress
     requires { ⌜ 20480 ≤ length (now out) ⌝ }
-    ensures { λ r. ⌜ Stands (now (t .exit)) (now (f .exit)) (now (s .entry)) (now (cache .exit)) (now (out .exit)) r × (r .written ≡ 0) ⌝ }
+    ensures { λ r. ⌜ Stands kept_evictions (now (t .exit)) (now (f .exit)) (now (s .entry)) (now (cache .exit)) (now (out .exit)) r × (r .written ≡ 0) ⌝ }
 {
-    match job::read_opening(s, t, f) {
+    match job::read_opening(kept_evictions, s, t, f) {
         Number::Refused(number) => refuse(begun(0, 0), out, number),
         Number::Is(count, at) => {
             slots::clear(cache);

@@ -1,5 +1,5 @@
-// Records of a job and the text that its answer should have: read one by one from standard input, and answered. A record is the job's length
-// and the text's, four bytes each, the job, and the text.
+// Records of a job and the text that its answer should have: read one by one from standard input, and answered. A record is the function's number
+// of kept evictions, which may be any, the job's length and the text's, four bytes each, the lowest first, the job, and the text.
 use answer::Whole;
 ghost use mathlib.Core.Path.{_≡_};
 ghost use Prim.Native.Nat.{_+_, _<_, _≤_};
@@ -9,10 +9,10 @@ ghost use Rattle.answer_text.specs.Lines.{Printed};
 ghost use Rattle.records.specs.Bytes.{lengthAt, sameList};
 ghost use Rattle.records.specs.Told.{Within, textOf};
 
-// The lengths of a record's job and text; or that the stream ends before the record, or in the middle of it. A length past the lent bytes is
+// A record's number of kept evictions and the lengths of its job and text; or that the stream ends before the record, or in the middle of it. A length past the lent bytes is
 // counted as the latter.
 pub enum Record {
-    Is(usize, usize),
+    Is(u32, usize, usize),
     End,
     Cut,
 }
@@ -62,33 +62,34 @@ fn read_part(buf: &mut [u8], n: usize) -> bool
 pub fn read_record(job: &mut [u8], text: &mut [u8]) -> Record
     ensures { λ r. ⌜ Within (now (job .exit)) (now (text .exit)) r ⌝ }
 {
-    let mut head = [0u8; 8];
+    let mut head = [0u8; 12];
     let got = io::read_full(0, &mut head);
     if got == 0 {
         return Record::End;
     }
-    if got < 8 {
+    if got < 12 {
         return Record::Cut;
     }
-    let n = length_at(&head, 0);
-    let m = length_at(&head, 4);
+    let kept_evictions = length_at(&head, 0) as u32;
+    let n = length_at(&head, 4);
+    let m = length_at(&head, 8);
     if !read_part(job, n) {
         return Record::Cut;
     }
     if read_part(text, m) {
-        return Record::Is(n, m);
+        return Record::Is(kept_evictions, n, m);
     }
     Record::Cut
 }
 
-// The text of a job's answer, put at the front of the lent bytes. Answers its length; or 0 where it does not fit, with the lines that do. There are
+// The text of the answer of a job with so many kept evictions, put at the front of the lent bytes. Answers its length; or 0 where it does not fit, with the lines that do. There are
 // words enough for every job.
-pub fn put_text(job: &[u8], out: &mut [u8]) -> usize
-    ensures { λ r. ⌜ Printed (now (out .entry)) (now (out .exit)) (textOf (now (job .entry))) r ⌝ }
+pub fn put_text(kept_evictions: u32, job: &[u8], out: &mut [u8]) -> usize
+    ensures { λ r. ⌜ Printed (now (out .entry)) (now (out .exit)) (textOf kept_evictions (now (job .entry))) r ⌝ }
 {
     let mut words = [0u64; 132096];
     let mut t = [0u16; 107520];
-    let mut f = [0u16; 16387];
+    let mut f = [0u16; 16388];
     let mut cache = [0u16; 65600];
     let mut free = [false; 512];
     let mut e = [0u16; 1541];
@@ -101,6 +102,7 @@ pub fn put_text(job: &[u8], out: &mut [u8]) -> usize
     let mut marks = [0u8; 129];
     let mut c = [0u16; 2049];
     match answer::answer_job(
+        kept_evictions,
         job,
         &mut words,
         &mut t,

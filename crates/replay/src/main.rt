@@ -1,15 +1,15 @@
-// Answers each job of the records on standard input and holds the text of its answer against the recorded one.
+// Answers each job of the records on standard input, with its setting, and holds the text of its answer against the recorded one.
 use records::Record;
 ghost use Prim.Native.Nat.{_<_};
 ghost use mathlib.Core.Path.{_≡_};
 ghost use Rattle.replay.specs.Replayed.{isReplayed};
 
 // Whether the text of the job's answer is the recorded one, and has room.
-fn replayed(job: &[u8], text: &[u8]) -> bool
-    ensures { λ r. ⌜ r ≡ isReplayed (now (job .entry)) (now (text .entry)) ⌝ }
+fn replayed(kept_evictions: u32, job: &[u8], text: &[u8]) -> bool
+    ensures { λ r. ⌜ r ≡ isReplayed kept_evictions (now (job .entry)) (now (text .entry)) ⌝ }
 {
     let mut out = [0u8; 65536];
-    let n = records::put_text(job, &mut out);
+    let n = records::put_text(kept_evictions, job, &mut out);
     if n == 0 {
         return false;
     }
@@ -25,8 +25,8 @@ fn replay_next(k: u64) -> bool
     match records::read_record(&mut job, &mut text) {
         Record::End => records::say(b"", k, b" answers, all the same\n"),
         Record::Cut => records::say(b"record ", k + 1, b" is cut off or too long\n"),
-        Record::Is(n, m) => {
-            if replayed(&job[..n], &text[..m]) {
+        Record::Is(kept_evictions, n, m) => {
+            if replayed(kept_evictions, &job[..n], &text[..m]) {
                 return true;
             }
             records::say(b"answer ", k + 1, b" differs\n");

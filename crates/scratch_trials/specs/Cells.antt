@@ -20,9 +20,9 @@ threeRegisters =
     ∷ (8202, 3) ∷ (8203, 3) ∷ (8704, 3) ∷ (8706, 1) ∷ (8736, 3) ∷ (8737, 1) ∷ (8738, 3) ∷ (8739, 2)
     ∷ (9217, 1) ∷ (9218, 2) ∷ (9729, 1) ∷ (9730, 2) ∷ (41985, 1) ∷ (41986, 2) ∷ (42497, 1) ∷ (42498, 2) ∷ []
 
--- two values that are not rebuilt; N and L are 2
+-- two values that are not rebuilt; N and L are 2, and one eviction is kept
 abbrev pub movedValues : List (ℕ × ℕ)
-movedValues = (16384, 2) ∷ (16385, 2) ∷ (16386, 2) ∷ []
+movedValues = (16384, 2) ∷ (16385, 2) ∷ (16386, 2) ∷ (16387, 1) ∷ []
 
 -- two values, of which class 1 rebuilds the first; N is 1
 abbrev pub rebuiltValue : List (ℕ × ℕ)

@@ -333,7 +333,7 @@ fn ready(t: &RegInfo, f: &Function) -> bool
     true
 }
 
-// The trials with values that are not rebuilt; N and L are 2.
+// The trials with values that are not rebuilt; N and L are 2, and one eviction is kept.
 fn move_trials(t: &RegInfo, f: &mut Function)
     requires { ⌜ reginfo.Accepted (regInfoOf (now t)) × Indexed (now t) ⌝ }
     ensures { λ _. ⌜ now (f .exit) ≡ withCells movedValues (now (f .entry)) ⌝ }
@@ -341,6 +341,7 @@ fn move_trials(t: &RegInfo, f: &mut Function)
     f[16384] = 2;
     f[16385] = 2;
     f[16386] = 2;
+    f[16387] = 1;
     if ready(t, f) {
         report_slot_to_slot(t, f);
         report_slots_swapped(t, f);
@@ -374,7 +375,7 @@ fn trials(t: &mut RegInfo, f: &mut Function)
 
 fn main() {
     let mut t = [0u16; 107520];
-    let mut f = [0u16; 16387];
+    let mut f = [0u16; 16388];
     three(&mut t);
     trials(&mut t, &mut f);
 }

@@ -1,11 +1,11 @@
-// Answers each job of the records on standard input and prints the text of its answer after a line with the trial's number.
+// Answers each job of the records on standard input, with its setting, and prints the text of its answer after a line with the trial's number.
 use records::Record;
 ghost use Prim.Native.Nat.{_<_};
 
 // The text of the job's answer.
-fn show(job: &[u8]) {
+fn show(kept_evictions: u32, job: &[u8]) {
     let mut out = [0u8; 65536];
-    let n = records::put_text(job, &mut out);
+    let n = records::put_text(kept_evictions, job, &mut out);
     if n == 0 {
         io::write_all(1, b"too long\n");
         return;
@@ -22,9 +22,9 @@ fn show_next(k: u64) -> bool
     match records::read_record(&mut job, &mut text) {
         Record::End => {}
         Record::Cut => records::say(b"record ", k + 1, b" is cut off or too long\n"),
-        Record::Is(n, _) => {
+        Record::Is(kept_evictions, n, _) => {
             records::say(b"-- trial ", k + 1, b"\n");
-            show(&job[..n]);
+            show(kept_evictions, &job[..n]);
             return true;
         }
     }

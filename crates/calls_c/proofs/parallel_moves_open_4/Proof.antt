@@ -1,10 +1,10 @@
 use Rattle.calls.specs.Opening as calls
 use Rattle.calls_c.proofs.Calling.{opened, not-opened}
 use borrow.Author.Needs.{needs}
-use Rattle.calls_c.proofs.parallel_moves_open_3.Statement.{statement}
-use Rattle.calls_c.proofs.parallel_moves_open_3.Tie as tie
-use Rattle.calls_c.proofs.parallel_moves_open_3.Reads as reads
-use Rattle.calls_c.proofs.parallel_moves_open_3.Lts as lts
+use Rattle.calls_c.proofs.parallel_moves_open_4.Statement.{statement}
+use Rattle.calls_c.proofs.parallel_moves_open_4.Tie as tie
+use Rattle.calls_c.proofs.parallel_moves_open_4.Reads as reads
+use Rattle.calls_c.proofs.parallel_moves_open_4.Lts as lts
 use Rattle.calls.proofs.open.Reads as open-reads
 
 open-requires : tie.Need-open-requires

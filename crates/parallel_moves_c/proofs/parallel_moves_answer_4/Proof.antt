@@ -2,10 +2,10 @@ use lib.ListN.{length}
 use Rattle.answer.specs.Room.{jobIn}
 use Rattle.parallel_moves_c.proofs.Answering.{answered, refused}
 use borrow.Author.Needs.{needs}
-use Rattle.parallel_moves_c.proofs.parallel_moves_answer_3.Statement.{statement}
-use Rattle.parallel_moves_c.proofs.parallel_moves_answer_3.Tie as tie
-use Rattle.parallel_moves_c.proofs.parallel_moves_answer_3.Reads as reads
-use Rattle.parallel_moves_c.proofs.parallel_moves_answer_3.Lts as lts
+use Rattle.parallel_moves_c.proofs.parallel_moves_answer_4.Statement.{statement}
+use Rattle.parallel_moves_c.proofs.parallel_moves_answer_4.Tie as tie
+use Rattle.parallel_moves_c.proofs.parallel_moves_answer_4.Reads as reads
+use Rattle.parallel_moves_c.proofs.parallel_moves_answer_4.Lts as lts
 use Rattle.answer.proofs.answer_job.Reads as answer-job-reads
 
 answer-job-requires : tie.Need-answer-job-requires

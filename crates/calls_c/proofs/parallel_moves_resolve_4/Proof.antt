@@ -5,10 +5,10 @@ use Rattle.slots.specs.Stacks.{cacheOf}
 use Rattle.calls.specs.Call.{callOf}
 use Rattle.calls_c.proofs.Calling.{gave-edits, gave-number}
 use borrow.Author.Needs.{needs}
-use Rattle.calls_c.proofs.parallel_moves_resolve_3.Statement.{statement}
-use Rattle.calls_c.proofs.parallel_moves_resolve_3.Tie as tie
-use Rattle.calls_c.proofs.parallel_moves_resolve_3.Reads as reads
-use Rattle.calls_c.proofs.parallel_moves_resolve_3.Lts as lts
+use Rattle.calls_c.proofs.parallel_moves_resolve_4.Statement.{statement}
+use Rattle.calls_c.proofs.parallel_moves_resolve_4.Tie as tie
+use Rattle.calls_c.proofs.parallel_moves_resolve_4.Reads as reads
+use Rattle.calls_c.proofs.parallel_moves_resolve_4.Lts as lts
 use Rattle.calls.proofs.resolve.Reads as resolve-reads
 
 resolve-requires : tie.Need-resolve-requires
