@@ -1,4 +1,4 @@
--- What is read is an accepted function, whatever the target.
+-- What is read with a setting of one or two is an accepted function, whatever the target.
 use Prim.Native.Nat.{ℕ, zero, suc, _+_, _<_, _≤_}
 use mathlib.Core.Path.{_≡_, refl, sym, ap, subst}
 use mathlib.Core.Bool.{Bool, true, false}
@@ -13,7 +13,7 @@ use Rattle.entity.proofs.Laws.{and-true}
 use Rattle.reginfo.specs.RegInfo.{RegInfo, numBanks, numClasses, bankForClass}
 use Rattle.reginfo.specs.Table.{regInfoOf}
 use Rattle.function.specs.Table.{functionOf}
-use Rattle.function.specs.Function.{ValueData, Function, noValue, numValues, valueBank, rematCost, rematClass}
+use Rattle.function.specs.Function.{ValueData, Function, noValue, numValues, valueBank, rematCost, rematClass, isSetting}
 use Rattle.function.specs.Refused.{countsFit, valueFits, foreignClass, valuesRefusal, functionRefusal, Accepted}
 use Rattle.number.specs.Read.{Read, got, refused, then}
 use Rattle.number.specs.Number.{number}
@@ -92,29 +92,29 @@ module _ (t : RegInfo) where
       let w = s i (omega arith) in
       rw (w .fit, w .own) (none-refused f s (i + 1) n (omega arith))
 
-  accepted : (n slots limit : ℕ) (vs : List ValueData) → leb n 4096 ≡ true → leb slots 4096 ≡ true → leb limit 2048 ≡ true → length vs ≡ n → ((i : ℕ) → i < n → Sound t (getD vs i noValue)) → Accepted t (record { values = vs; slots = slots; limit = limit })
+  accepted : (kept n slots limit : ℕ) (vs : List ValueData) → isSetting kept ≡ true → leb n 4096 ≡ true → leb slots 4096 ≡ true → leb limit 2048 ≡ true → length vs ≡ n → ((i : ℕ) → i < n → Sound t (getD vs i noValue)) → Accepted t (record { values = vs; slots = slots; limit = limit; kept = kept })
   unfolding functionRefusal countsFit
-  accepted n slots limit vs a b c e s = rw (e, a, b, c) (none-refused (record { values = vs; slots = slots; limit = limit }) (λ v h. s v (omega arith)) 0 n (omega arith))
+  accepted kept n slots limit vs k a b c e s = rw (k, e, a, b, c) (none-refused (record { values = vs; slots = slots; limit = limit; kept = kept }) (λ v h. s v (omega arith)) 0 n (omega arith))
 
   got-accepted : (g f : Function) (l r : List ℕ) → got g l ≡ got f r → Accepted t g → Accepted t f
   got-accepted g f l r e a = let is : g ≡ f = cc in subst (λ (x : Function). Accepted t x) is a
 
 pub read-accepted : ReadAccepted
 unfolding function valued
-read-accepted t l f r e =
-    let p = then-got (between 0 4096 l) (λ n r. then (between 0 4096 r) (λ slots q. then (between 0 2048 q) (λ limit p. valued t n slots limit p))) f r e in
-    let q = then-got (between 0 4096 (p .1)) (λ slots q. then (between 0 2048 q) (λ limit o. valued t (p .0) slots limit o)) f r (p .3) in
-    let o = then-got (between 0 2048 (q .1)) (λ limit o. valued t (p .0) (q .0) limit o) f r (q .3) in
-    let w = then-got (times (p .0) (value t) (o .1)) (λ vs r. got (record { values = vs; slots = q .0; limit = o .0 }) r) f r (o .3) in
+read-accepted t kept k l f r e =
+    let p = then-got (between 0 4096 l) (λ n r. then (between 0 4096 r) (λ slots q. then (between 0 2048 q) (λ limit p. valued t kept n slots limit p))) f r e in
+    let q = then-got (between 0 4096 (p .1)) (λ slots q. then (between 0 2048 q) (λ limit o. valued t kept (p .0) slots limit o)) f r (p .3) in
+    let o = then-got (between 0 2048 (q .1)) (λ limit o. valued t kept (p .0) (q .0) limit o) f r (q .3) in
+    let w = then-got (times (p .0) (value t) (o .1)) (λ vs r. got (record { values = vs; slots = q .0; limit = o .0; kept = kept }) r) f r (o .3) in
     let v = times-got (value t) (Sound t) noValue (value-sound t) (p .0) (o .1) (w .0) (w .1) (w .2) in
-    got-accepted t (record { values = w .0; slots = q .0; limit = o .0 }) f (w .1) r (w .3)
-    (accepted t (p .0) (q .0) (o .0) (w .0) (high 4096 l (p .0) (p .1) (p .2)) (high 4096 (p .1) (q .0) (q .1) (q .2)) (high 2048 (q .1) (o .0) (o .1) (o .2)) (v .0) (v .1))
+    got-accepted t (record { values = w .0; slots = q .0; limit = o .0; kept = kept }) f (w .1) r (w .3)
+    (accepted t kept (p .0) (q .0) (o .0) (w .0) k (high 4096 l (p .0) (p .1) (p .2)) (high 4096 (p .1) (q .0) (q .1) (q .2)) (high 2048 (q .1) (o .0) (o .1) (o .2)) (v .0) (v .1))
   where
     high : (m : ℕ) (l : List ℕ) (n : ℕ) (r : List ℕ) → between 0 m l ≡ got n r → leb n m ≡ true
     high m l n r e = and-true (leb 0 n) (leb n m) (tested-got (λ x. and (leb 0 x) (leb x m)) l n r e) .1
 
 -- what `read_function` leaves in the table, for whoever reads on
-pub function-next : (t s : List ℕ) (at : ℕ) (f : List ℕ) (r : Next) → FunctionRead t s at f r → NextAt (function (regInfoOf t)) s at (functionOf f) (Accepted (regInfoOf t) (functionOf f)) r
-function-next t s at f (X.the-variants.At next) h =
-    record { reads = h .reads; past = (omega (arith, h .onward .0), (λ _. h .onward .1), read-accepted (regInfoOf t) (drop at s) (functionOf f) (drop next s) (sym (h .reads))) }
-function-next t s at f (X.the-variants.Refused k) h = record { reads = h .reads; past = tt }
+pub function-next : (t : List ℕ) (kept : ℕ) → isSetting kept ≡ true → (s : List ℕ) (at : ℕ) (f : List ℕ) (r : Next) → FunctionRead t kept s at f r → NextAt (function (regInfoOf t) kept) s at (functionOf f) (Accepted (regInfoOf t) (functionOf f)) r
+function-next t kept k s at f (X.the-variants.At next) h =
+    record { reads = h .reads; past = (omega (arith, h .onward .0), (λ _. h .onward .1), read-accepted (regInfoOf t) kept k (drop at s) (functionOf f) (drop next s) (sym (h .reads))) }
+function-next t kept k s at f (X.the-variants.Refused m) h = record { reads = h .reads; past = tt }

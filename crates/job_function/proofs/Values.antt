@@ -93,11 +93,11 @@ module _ (t : RegInfo) (s : List ℕ) (at m : ℕ) (is : m ≡ numBanks t) where
       can-rebuild n r w = bank-then r (row-then (below 3) (costed b) s a cost q r g (rw (ne-eqb cost 0 n) (w .reads)) (w .onward))
 
 -- ---- a row of the table
-module _ (f : List ℕ) (long : length f ≡ 16387) (v : ℕ) (low : v < 4096) (b cost c : ℕ) where
+module _ (f : List ℕ) (long : length f ≡ 16388) (v : ℕ) (low : v < 4096) (b cost c : ℕ) where
   abbrev pub filled : List ℕ
   filled = set (set (set f (v * 4) b) (1 + v * 4) cost) (2 + v * 4) c
 
-  filled-long : length filled ≡ 16387
+  filled-long : length filled ≡ 16388
   filled-long = simp length-set long
 
   filled-here : valueAt filled v ≡ record { bank = b; cost = cost; class = c }
@@ -105,8 +105,8 @@ module _ (f : List ℕ) (long : length f ≡ 16387) (v : ℕ) (low : v < 4096) (
   filled-here =
       let f₁ = set f (v * 4) b in
       let f₂ = set f₁ (1 + v * 4) cost in
-      let l₁ : length f₁ ≡ 16387 = length-set f (v * 4) b ∙ long in
-      let l₂ : length f₂ ≡ 16387 = length-set f₁ (1 + v * 4) cost ∙ l₁ in
+      let l₁ : length f₁ ≡ 16388 = length-set f (v * 4) b ∙ long in
+      let l₂ : length f₂ ≡ 16388 = length-set f₁ (1 + v * 4) cost ∙ l₁ in
       rw (getD-set-other f₂ (2 + v * 4) (v * 4) c 0 (λ e. omega arith), getD-set-other f₁ (1 + v * 4) (v * 4) cost 0 (λ e. omega arith), getD-set-same f (v * 4) b 0 (omega arith), getD-set-other f₂ (2 + v * 4) (1 + v * 4) c 0 (λ e. omega arith), getD-set-same f₁ (1 + v * 4) cost 0 (omega arith), getD-set-same f₂ (2 + v * 4) c 0 (omega arith))
 
   filled-others : (k : ℕ) → k < v → valueAt filled k ≡ valueAt f k
@@ -127,10 +127,10 @@ module _ (f : List ℕ) (long : length f ≡ 16387) (v : ℕ) (low : v < 4096) (
 module _ (t : RegInfo) (s : List ℕ) (from n : ℕ) where
   pub record Filling (f : List ℕ) (at v : ℕ) : Type 0 where
     pub timing : Timing (value t) s from n (firstValues f v) at (n - v)
-    pub long : length f ≡ 16387
+    pub long : length f ≡ 16388
     pub within : v ≤ n
 
-  pub filling-start : (f : List ℕ) → length f ≡ 16387 → Filling f from 0
+  pub filling-start : (f : List ℕ) → length f ≡ 16388 → Filling f from 0
   unfolding indices
   filling-start f l = let e : n - 0 ≡ n = omega arith in record { timing = rw e (timing-start (value t) s from n); long = l; within = omega arith }
 

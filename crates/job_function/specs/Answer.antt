@@ -20,9 +20,9 @@ abbrev pub Onward : List ℕ → ℕ → Next → Type 0
 Onward s at (At next) = (at < next) × (next ≤ length s)
 Onward s at (Refused k) = Unit
 
--- the function is the one that stands in the table f afterwards; where it is refused, f may hold anything
-pub record FunctionRead (t s : List ℕ) (at : ℕ) (f : List ℕ) (r : Next) : Type 0 where
-  pub reads : nextOf s (functionOf f) r ≡ function (regInfoOf t) (drop at s)
+-- the function, of `kept` kept evictions, is the one that stands in the table f afterwards; where it is refused, f may hold anything
+pub record FunctionRead (t : List ℕ) (kept : ℕ) (s : List ℕ) (at : ℕ) (f : List ℕ) (r : Next) : Type 0 where
+  pub reads : nextOf s (functionOf f) r ≡ function (regInfoOf t) kept (drop at s)
   pub onward : Onward s at r
 
 -- the first n values of a table

@@ -1,11 +1,12 @@
--- 01, The job: how a function is read, over the target that was read before it.
+-- 01, The job: how a function is read, over the target that was read before it; 02 i: its setting is "given beside the job".
 use Prim.Native.Nat.{ℕ}
 use mathlib.Core.Path.{_≡_}
+use mathlib.Core.Bool.{true}
 use mathlib.Core.List.{List}
 use lib.Dec.{eqb}
 use Rattle.entity.specs.Logic.{pick}
 use Rattle.reginfo.specs.RegInfo.{RegInfo, numBanks, numClasses, bankForClass}
-use Rattle.function.specs.Function.{ValueData, Function}
+use Rattle.function.specs.Function.{ValueData, Function, isSetting}
 use Rattle.function.specs.Refused.{Accepted}
 use Rattle.number.specs.Read.{Read, got, refused, then}
 use Rattle.reading.specs.Reading.{below, between, times}
@@ -20,13 +21,13 @@ value t l =
     then (below (numBanks t) l) (λ b r. then (below 3 r) (λ cost q. pick (eqb cost 0) (got (record { bank = b; cost = 0; class = 0 }) q) (rebuilt t b cost q)))
 
 -- the values, once their number, N and L are read
-unfoldable pub valued : RegInfo → ℕ → ℕ → ℕ → List ℕ → Read Function
-valued t n slots limit l = then (times n (value t) l) (λ vs r. got (record { values = vs; slots = slots; limit = limit }) r)
+unfoldable pub valued : RegInfo → (kept n slots limit : ℕ) → List ℕ → Read Function
+valued t kept n slots limit l = then (times n (value t) l) (λ vs r. got (record { values = vs; slots = slots; limit = limit; kept = kept }) r)
 
--- "function: values, N, L"
-unfoldable pub function : RegInfo → List ℕ → Read Function
-function t l = then (between 0 4096 l) (λ n r. then (between 0 4096 r) (λ slots q. then (between 0 2048 q) (λ limit p. valued t n slots limit p)))
+-- "function: values, N, L", of `kept` kept evictions
+unfoldable pub function : RegInfo → (kept : ℕ) → List ℕ → Read Function
+function t kept l = then (between 0 4096 l) (λ n r. then (between 0 4096 r) (λ slots q. then (between 0 2048 q) (λ limit p. valued t kept n slots limit p)))
 
--- what is read is an accepted function, whatever the target
+-- what is read with a setting of one or two is an accepted function, whatever the target
 abbrev pub ReadAccepted : Type 0
-ReadAccepted = (t : RegInfo) (l : List ℕ) (f : Function) (r : List ℕ) → function t l ≡ got f r → Accepted t f
+ReadAccepted = (t : RegInfo) (kept : ℕ) → isSetting kept ≡ true → (l : List ℕ) (f : Function) (r : List ℕ) → function t kept l ≡ got f r → Accepted t f

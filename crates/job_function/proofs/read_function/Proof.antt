@@ -46,16 +46,16 @@ read-valued-requires : tie.Need-read-valued-requires
 read-valued-requires c κs = (c .before .before .before .before .before .before .before .before .before .before .before .before .before .before .pre, at-most 0 4096 _ _ _ _ (rw (c .before .before .before .before .before .before .before .before .before .before .n .given .1) at (c .before .before .before .before .before .before .before .before .before .before .before .before .between .ensures)))
 
 returns : tie.Need-returns
-returns c = no-count _ _ _ _ _ (rw (c .before .k .given .1) at (c .before .before .before .between .ensures))
+returns c = no-count _ _ _ _ _ _ (rw (c .before .k .given .1) at (c .before .before .before .between .ensures))
 
 returns-2 : tie.Need-returns-2
-returns-2 c = no-slots _ _ _ _ _ _ (rw (c .before .before .before .before .before .n .given .1) at (c .before .before .before .before .before .before .before .between .ensures)) _ (rw (c .before .k2 .given .1) at (c .before .before .before .between2 .ensures))
+returns-2 c = no-slots _ _ _ _ _ _ _ (rw (c .before .before .before .before .before .n .given .1) at (c .before .before .before .before .before .before .before .between .ensures)) _ (rw (c .before .k2 .given .1) at (c .before .before .before .between2 .ensures))
 
 returns-3 : tie.Need-returns-3
-returns-3 c = no-limit _ _ _ _ _ _ (rw (c .before .before .before .before .before .before .before .before .before .n .given .1) at (c .before .before .before .before .before .before .before .before .before .before .before .between .ensures)) _ _ (rw (c .before .before .before .before .before .slots .given .1) at (c .before .before .before .before .before .before .before .between2 .ensures)) _ (rw (c .before .k3 .given .1) at (c .before .before .before .between3 .ensures))
+returns-3 c = no-limit _ _ _ _ _ _ _ (rw (c .before .before .before .before .before .before .before .before .before .n .given .1) at (c .before .before .before .before .before .before .before .before .before .before .before .between .ensures)) _ _ (rw (c .before .before .before .before .before .slots .given .1) at (c .before .before .before .before .before .before .before .between2 .ensures)) _ (rw (c .before .k3 .given .1) at (c .before .before .before .between3 .ensures))
 
 returns-4 : tie.Need-returns-4
-returns-4 c = then-values _ _ _ _ _ _ (rw (c .before .before .before .before .before .before .before .before .before .before .before .n .given .1) at (c .before .before .before .before .before .before .before .before .before .before .before .before .before .between .ensures)) _ _ (rw (c .before .before .before .before .before .before .before .slots .given .1) at (c .before .before .before .before .before .before .before .before .before .between2 .ensures)) _ _ (rw (c .before .before .before .limit .given .1) at (c .before .before .before .before .before .between3 .ensures)) _ (c .read-valued .ensures)
+returns-4 c = then-values _ _ _ _ _ _ _ (rw (c .before .before .before .before .before .before .before .before .before .before .before .n .given .1) at (c .before .before .before .before .before .before .before .before .before .before .before .before .before .between .ensures)) _ _ (rw (c .before .before .before .before .before .before .before .slots .given .1) at (c .before .before .before .before .before .before .before .before .before .between2 .ensures)) _ _ (rw (c .before .before .before .limit .given .1) at (c .before .before .before .before .before .between3 .ensures)) _ (c .read-valued .ensures)
 
 pub read-function-spec : {M : Type 1} → statement M
 read-function-spec =

@@ -1,4 +1,4 @@
--- The values, then the counts, which stand apart from them in the table.
+-- The values, then the counts and the setting, which stand apart from them in the table.
 use borrow.Author.Needs.{needs}
 use Rattle.job_function.proofs.Counts.{no-values, values-done}
 use Rattle.job_function.proofs.read_valued.Statement.{statement}
@@ -28,11 +28,14 @@ element-write-f-2 c = search needs
 element-write-f-3 : tie.Need-element-write-f-3
 element-write-f-3 c = search needs
 
+element-write-f-4 : tie.Need-element-write-f-4
+element-write-f-4 c = search needs
+
 returns : tie.Need-returns
-returns c = no-values _ _ _ _ _ _ _ _ (c .before .before .before .before .wide .ensures .0) _ _ (rw (c .before .k .given .1) at (c .before .before .before .read-values .ensures))
+returns c = no-values _ _ _ _ _ _ _ _ _ (c .before .before .before .before .wide .ensures .0) _ _ (rw (c .before .k .given .1) at (c .before .before .before .read-values .ensures))
 
 returns-2 : tie.Need-returns-2
-returns-2 c = values-done _ _ _ _ _ _ _ _ (c .before .before .before .before .before .before .wide .ensures .0) (c .told .ensures) (c .before .before .before .before .before .before .before .before .before .pre .1) _ (rw (c .before .before .before .next .given .1) at (c .before .before .before .before .before .read-values .ensures))
+returns-2 c = values-done _ _ _ _ _ _ _ _ _ (c .before .before .before .before .before .before .wide .ensures .0) (c .told .ensures) (c .before .before .before .before .before .before .before .before .before .pre .1) _ (rw (c .before .before .before .next .given .1) at (c .before .before .before .before .before .read-values .ensures))
 
 pub read-valued-spec : {M : Type 1} → statement M
 read-valued-spec =
@@ -46,5 +49,6 @@ read-valued-spec =
     element-write-f
     element-write-f-2
     element-write-f-3
+    element-write-f-4
     returns
     returns-2)
