@@ -199,7 +199,7 @@ pub fn answer_job(
     marks: &mut Marks,
     c: &mut Carried,
 ) -> Whole
-    ensures { λ r. ⌜ Wholly (now (words .entry)) (jobIn (length (now (words .entry))) kept_evictions (now (s .entry))) r (now (words .exit)) ⌝ }
+    ensures { λ r. ⌜ Wholly (now (words .entry)) (jobIn (length (now (words .entry))) «kept_evictions» (now (s .entry))) r (now (words .exit)) ⌝ }
     ensures { λ _. ⌜ Anything (now (t .exit)) × Anything (now (f .exit)) × Anything (now (cache .exit)) × Anything (now (free .exit)) × Anything (now (e .exit)) × Anything (now (w .exit)) × Anything (now (available .exit)) × Anything (now (sources .exit)) × Anything (now (edits .exit)) × Anything (now (slots .exit)) × Anything (now (d .exit)) × Anything (now (marks .exit)) × Anything (now (c .exit)) ⌝ }
 {
     match job::read_opening(kept_evictions, s, t, f) {

@@ -43,7 +43,7 @@ pub fn open(
     f: &mut Function,
     cache: &mut SlotCache,
 ) -> Opened
-    ensures { λ r. ⌜ OpenedAs (opened kept_evictions (now (s .entry))) r (now (t .exit)) (now (f .exit)) (now (cache .entry)) (now (cache .exit)) ⌝ }
+    ensures { λ r. ⌜ OpenedAs (opened «kept_evictions» (now (s .entry))) r (now (t .exit)) (now (f .exit)) (now (cache .entry)) (now (cache .exit)) ⌝ }
 {
     match job::read_beginning(kept_evictions, s, t, f) {
         Next::Refused(k) => Opened::Refused(k),

@@ -35,7 +35,7 @@ pub extern "C" fn parallel_moves_open_4(
     function: &mut Function,
     cache: &mut SlotCache,
 ) -> u8
-    ensures { λ r. ⌜ OpenedBy (opened kept_evictions (now (bytes .entry))) r (now (target .exit)) (now (function .exit)) (now (cache .entry)) (now (cache .exit)) ⌝ }
+    ensures { λ r. ⌜ OpenedBy (opened «kept_evictions» (now (bytes .entry))) r (now (target .exit)) (now (function .exit)) (now (cache .entry)) (now (cache .exit)) ⌝ }
 {
     match calls::open(kept_evictions, bytes, target, function, cache) {
         Opened::Yes => 0,

@@ -7,10 +7,10 @@ use mathlib.Core.Option.{Option, none, some}
 use native.Mathlib.Omega.{arith}
 use lib.Dec.{ltb}
 use lib.ListN.{length}
-use Rattle.entity.specs.Logic.{pick}
+use Rattle.entity.specs.Logic.{pick, no}
 use Rattle.reginfo.specs.RegInfo.{RegInfo}
 use Rattle.reginfo.specs.Refused.{targetRefusal}
-use Rattle.function.specs.Function.{Function}
+use Rattle.function.specs.Function.{Function, isSetting}
 use Rattle.rules.specs.Scratch.{Cache, emptyCache}
 use Rattle.rules.specs.Patch.{Patch, Answer, Call, resolve, cacheAfter}
 use Rattle.rules.specs.Patch as rules
@@ -79,29 +79,32 @@ counted : (t : RegInfo) (f : Function) → ((calls : List Call) → Claim t f ca
 counted t f all (refused k) = (refl, refl)
 counted t f all (got n p) = right t f n emptyCache all p
 
-functions : (t : RegInfo) → targetRefusal t ≡ none → (l : List ℕ) → RightFrom (afterTarget t l)
-unfolding afterTarget
-functions t ok l = go (function t l) refl
-  where
-    go : (x : Read Function) → function t l ≡ x → RightFrom (then x (λ f q. then (between 1 1024 q) (λ n p. got (record { target = t; function = f; patches = n }) p)))
-    go (refused k) e = (refl, refl)
-    go (got f q) e = counted t f (demand-3 t f ok (read-accepted t l f q e)) (between 1 1024 q)
+-- with a setting of one or two
+module _ (kept : ℕ) (set : isSetting kept ≡ true) where
+  functions : (t : RegInfo) → targetRefusal t ≡ none → (l : List ℕ) → RightFrom (afterTarget t kept l)
+  unfolding afterTarget
+  functions t ok l = go (function t kept l) refl
+    where
+      go : (x : Read Function) → function t kept l ≡ x → RightFrom (then x (λ f q. then (between 1 1024 q) (λ n p. got (record { target = t; function = f; patches = n }) p)))
+      go (refused k) e = (refl, refl)
+      go (got f q) e = counted t f (demand-3 t f ok (read-accepted t kept set l f q e)) (between 1 1024 q)
 
-targets : (x : Read RegInfo) → RightFrom (then x (λ t r. unlessGiven (targetRefusal t) (afterTarget t r)))
-targets (refused k) = (refl, refl)
-targets (got t r) = go (targetRefusal t) refl
-  where
-    go : (o : Option ℕ) → targetRefusal t ≡ o → RightFrom (unlessGiven o (afterTarget t r))
-    go (some k) e = (refl, refl)
-    go none e = functions t e r
+  targets : (x : Read RegInfo) → RightFrom (then x (λ t r. unlessGiven (targetRefusal t) (afterTarget t kept r)))
+  targets (refused k) = (refl, refl)
+  targets (got t r) = go (targetRefusal t) refl
+    where
+      go : (o : Option ℕ) → targetRefusal t ≡ o → RightFrom (unlessGiven o (afterTarget t kept r))
+      go (some k) e = (refl, refl)
+      go none e = functions t e r
 
 pub every-job : EveryJob
 unfolding opening header job
-every-job l = go (ltb 65536 (length l))
+every-job kept l = go (isSetting kept) refl (ltb 65536 (length l))
   where
-    go : (b : Bool) → RightFrom (pick b (refused 2) (then (target l) (λ t r. unlessGiven (targetRefusal t) (afterTarget t r))))
-    go true = (refl, refl)
-    go false = targets (target l)
+    go : (a : Bool) → isSetting kept ≡ a → (b : Bool) → RightFrom (pick (no a) (refused 22) (pick b (refused 2) (then (target l) (λ t r. unlessGiven (targetRefusal t) (afterTarget t kept r)))))
+    go false set b = (refl, refl)
+    go true set true = (refl, refl)
+    go true set false = targets kept set (target l)
 
 pub no-patch-left : AllDone
-no-patch-left l h r e k = all-of (h .target) (h .function) (job l .done) (h .patches) emptyCache r (rw (e, k) at (every-job l))
+no-patch-left kept l h r e k = all-of (h .target) (h .function) (job kept l .done) (h .patches) emptyCache r (rw (e, k) at (every-job kept l))

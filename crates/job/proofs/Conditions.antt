@@ -9,12 +9,12 @@ use native.Mathlib.Omega.{arith}
 use lib.Dec.{eqb, ltb, leb}
 use lib.ListN.{length, drop}
 use borrow.Author.Tests.{lt-ltb}
-use Rattle.entity.specs.Logic.{and}
+use Rattle.entity.specs.Logic.{and, no}
 use Rattle.entity.specs.Place.{Place, placeAt}
 use Rattle.reginfo.specs.RegInfo.{RegInfo, bankForClass}
 use Rattle.reginfo.specs.Refused.{Condition, cond, outsideLimits, listedTwice, firstOf, targetRefusal}
 use Rattle.reginfo.proofs.First.{first-none, none-first, given-first, first-given}
-use Rattle.function.specs.Function.{Function, numValues}
+use Rattle.function.specs.Function.{Function, numValues, isSetting}
 use Rattle.rules.specs.Scratch.{Cache, ScratchAllocator, emptyCache}
 use Rattle.rules.specs.Patch.{Entry, Patch, Sorted, nothingSorted, answerOf, unlessRefused, namesPlace, entryConditions, add, sorted, patchConditions, run, resolveSorted, resolve}
 use Rattle.rules.specs.Refusals.{ranOut}
@@ -92,9 +92,9 @@ value-exactly t l =
     (λ cost q. either (eqb cost 0) _ (rebuilt t b cost q) [] (inRebuilt t b q) nothing
     (tested-then _ q _ _ (λ c p. passing (eqb (bankForClass t c) b) 9 _ p))))
 
-function-exactly : (t : RegInfo) (l : List ℕ) → Exactly (function t l) (inFunction t l)
+function-exactly : (t : RegInfo) (kept : ℕ) (l : List ℕ) → Exactly (function t kept l) (inFunction t l)
 unfolding function valued inFunction
-function-exactly t l =
+function-exactly t kept l =
     tested-then _ l _ _
     (λ n r. tested-then _ r _ _
     (λ slots q. tested-then _ q _ _
@@ -192,35 +192,38 @@ target-settled : (t : RegInfo) → outsideLimits t ≡ false → listedTwice t �
 unfolding targetRefusal ofTarget firstOf
 target-settled t p q = rw (p, q)
 
-rules-exactly : (t : RegInfo) (r : List ℕ) → targetRefusal t ≡ firstOf (ofTarget t)
-    → Exactly (unlessGiven (targetRefusal t) (afterTarget t r))
-    (ofTarget t ++ (inFunction t r ++ afterGot (function t r) (λ f q. inTested (λ x. and (leb 1 x) (leb x 1024)) q)))
+rules-exactly : (t : RegInfo) (kept : ℕ) (r : List ℕ) → targetRefusal t ≡ firstOf (ofTarget t)
+    → Exactly (unlessGiven (targetRefusal t) (afterTarget t kept r))
+    (ofTarget t ++ (inFunction t r ++ afterGot (function t kept r) (λ f q. inTested (λ x. and (leb 1 x) (leb x 1024)) q)))
 unfolding afterTarget
-rules-exactly t r e =
+rules-exactly t kept r e =
     rw e
     (given (ofTarget t) _ _
-    (after (function t r) (inFunction t r) _ _ (function-exactly t r)
+    (after (function t kept r) (inFunction t r) _ _ (function-exactly t kept r)
     (λ f q e. made (between 1 1024 q) (inTested (λ x. and (leb 1 x) (leb x 1024)) q) _ (tested-exactly _ q))))
 
-opening-exactly : (l : List ℕ) → Exactly (opening l) (inOpening l)
+opening-exactly : (kept : ℕ) (l : List ℕ) → Exactly (opening kept l) (inOpening kept l)
 unfolding opening inOpening header
-opening-exactly l =
-    unless (ltb 65536 (length l)) 2 _ _
+opening-exactly kept l =
+    unless (no (isSetting kept)) 22 _ _
+    (λ _. unless (ltb 65536 (length l)) 2 _ _
     (λ _. after (target l) (inTarget l) _ _ (target-exactly l)
-    (λ t r e. let w = target-read l t r e in rules-exactly t r (target-settled t (w .0) (w .1))))
+    (λ t r e. let w = target-read l t r e in rules-exactly t kept r (target-settled t (w .0) (w .1)))))
 
-job-exactly : (l : List ℕ) → firstOf (jobConditions l) ≡ job l .refusal
+job-exactly : (kept : ℕ) (l : List ℕ) → firstOf (jobConditions kept l) ≡ job kept l .refusal
 unfolding job jobConditions
-job-exactly l =
-    answered (opening l) (inOpening l) _ _ (opening-exactly l)
+job-exactly kept l =
+    answered (opening kept l) (inOpening kept l) _ _ (opening-exactly kept l)
     (λ h r e. patches-exactly (h .target) (h .function) (h .patches) emptyCache r)
 
--- for every list of bytes
-pub refusals : (l : List ℕ) → Refusals l
-refusals l = record {
-  given = λ n. (λ e. first-given (jobConditions l) n (job-exactly l ∙ e), λ g. sym (job-exactly l) ∙ given-first (jobConditions l) n g);
-  taken = (λ e. first-none (jobConditions l) (job-exactly l ∙ e), λ h. sym (job-exactly l) ∙ none-first (jobConditions l) h);
-}
+-- for every setting and every list of bytes
+pub refusals : (kept : ℕ) (l : List ℕ) → Refusals kept l
+refusals kept l =
+    let e = job-exactly kept l in
+    record {
+      given = λ n. (λ g. first-given (jobConditions kept l) n (e ∙ g), λ g. sym e ∙ given-first (jobConditions kept l) n g);
+      taken = (λ g. first-none (jobConditions kept l) (e ∙ g), λ h. sym e ∙ none-first (jobConditions kept l) h);
+    }
 
 pub no-number : NoNumber
 no-number l h = go (number l) refl

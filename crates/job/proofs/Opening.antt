@@ -4,17 +4,19 @@ use mathlib.Core.Path.{_≡_, refl, sym, ap, _∙_}
 use mathlib.Core.Bool.{Bool, true, false}
 use mathlib.Core.List.{List}
 use mathlib.Core.Option.{Option, none, some}
+use mathlib.Core.Logic.{⊎-elim}
 use native.Mathlib.Omega.{arith}
 use lib.Dec.{ltb}
 use lib.ListN.{length, drop}
 use borrow.Author.Tests.{lt-ltb, le-ltb}
-use Rattle.entity.specs.Logic.{pick}
+use Rattle.entity.specs.Logic.{pick, no}
 use Rattle.reginfo.specs.RegInfo.{RegInfo}
 use Rattle.reginfo.specs.Refused.{Accepted, targetRefusal}
 use Rattle.reginfo.specs.Table.{regInfoOf, Indexed}
-use Rattle.function.specs.Function.{Function}
+use Rattle.function.specs.Function.{Function, isSetting}
 use Rattle.function.specs.Known.{Checked}
 use Rattle.function.specs.Table.{functionOf}
+use Rattle.function.proofs.Laws.{setting-is}
 use Rattle.number.specs.Read.{Read, got, refused, then}
 use Rattle.number.specs.declared.Number.{Number}
 use Rattle.number.specs.declared.Number.the-variants as N
@@ -31,46 +33,55 @@ use Rattle.job_patch.specs.Patches.{unlessGiven}
 use Rattle.job.specs.Job.{Opened, Header, afterTarget, header, withFunction, beginning, opening}
 use Rattle.job.specs.Steps.{BegunAt, HeaderAt}
 
+-- a setting fits in a cell of the table
+pub setting-small : (n : ℕ) → isSetting n ≡ true → n < 65536
+setting-small n h = ⊎-elim (λ e. omega arith) (λ e. omega arith) (setting-is n h)
+
 -- the function of an accepted target
-function-read : (s t f : List ℕ) (at : ℕ) (r : Next) → Accepted (regInfoOf t) → Indexed t → FunctionRead t s at f r → BegunAt s (withFunction (regInfoOf t) (drop at s)) r t f
+function-read : (kept : ℕ) → isSetting kept ≡ true → (s t f : List ℕ) (at : ℕ) (r : Next) → Accepted (regInfoOf t) → Indexed t → FunctionRead t kept s at f r → BegunAt s (withFunction (regInfoOf t) kept (drop at s)) r t f
 unfolding withFunction
-function-read s t f at (X.Refused k) ok index h = rw (← h .reads) (refl, tt, tt)
-function-read s t f at (X.At next) ok index h =
-    let known : Checked t f = record { target = ok; indexed = index; function = read-accepted (regInfoOf t) (drop at s) (functionOf f) (drop next s) (sym (h .reads)) } in
+function-read kept set s t f at (X.Refused k) ok index h = rw (← h .reads) (refl, tt, tt)
+function-read kept set s t f at (X.At next) ok index h =
+    let known : Checked t f = record { target = ok; indexed = index; function = read-accepted (regInfoOf t) kept set (drop at s) (functionOf f) (drop next s) (sym (h .reads)) } in
     rw (← h .reads) (next, refl, refl, h .onward .1, refl, refl, known)
 
 -- a target that is refused, and one that is not
-module _ (s t t′ f : List ℕ) (at : ℕ) where
-  pub target-refused : (k : ℕ) → some k ≡ targetRefusal (regInfoOf t) → BegunAt s (unlessGiven (targetRefusal (regInfoOf t)) (withFunction (regInfoOf t) (drop at s))) (X.Refused k) t′ f
+module _ (kept : ℕ) (s t t′ f : List ℕ) (at : ℕ) where
+  pub target-refused : (k : ℕ) → some k ≡ targetRefusal (regInfoOf t) → BegunAt s (unlessGiven (targetRefusal (regInfoOf t)) (withFunction (regInfoOf t) kept (drop at s))) (X.Refused k) t′ f
   target-refused k h = rw (← h) (refl, tt, tt)
 
-  pub target-taken : (r : Next) → none ≡ targetRefusal (regInfoOf t) → regInfoOf t′ ≡ regInfoOf t → Indexed t′ → FunctionRead t′ s at f r
-      → BegunAt s (unlessGiven (targetRefusal (regInfoOf t)) (withFunction (regInfoOf t) (drop at s))) r t′ f
-  target-taken r h e index g =
+  pub target-taken : isSetting kept ≡ true → (r : Next) → none ≡ targetRefusal (regInfoOf t) → regInfoOf t′ ≡ regInfoOf t → Indexed t′ → FunctionRead t′ kept s at f r
+      → BegunAt s (unlessGiven (targetRefusal (regInfoOf t)) (withFunction (regInfoOf t) kept (drop at s))) r t′ f
+  target-taken set r h e index g =
       let ok : Accepted (regInfoOf t′) = rw e (sym h) in
-      let h′ = rw e at (function-read s t′ f at r ok index g) in
+      let h′ = rw e at (function-read kept set s t′ f at r ok index g) in
       rw (← h) h′
 
-module _ (s t f : List ℕ) where
-  pub too-long : 65536 < length s → BegunAt s (beginning s) (X.Refused 2) t f
+module _ (kept : ℕ) (s t f : List ℕ) where
+  pub other-setting : no (isSetting kept) ≡ true → BegunAt s (beginning kept s) (X.Refused 22) t f
   unfolding beginning
-  too-long h = rw (lt-ltb 65536 (length s) h) (refl, tt, tt)
+  other-setting set = rw set (refl, tt, tt)
 
-  pub beginning-refused : (k : ℕ) → length s ≤ 65536 → TargetAt s 0 t (X.Refused k) → BegunAt s (beginning s) (X.Refused k) t f
-  unfolding beginning
-  beginning-refused k l h = rw (le-ltb 65536 (length s) l, ← h .reads) (refl, tt, tt)
+  module _ (set : isSetting kept ≡ true) where
+    pub too-long : 65536 < length s → BegunAt s (beginning kept s) (X.Refused 2) t f
+    unfolding beginning
+    too-long h = rw (set, lt-ltb 65536 (length s) h) (refl, tt, tt)
 
-  pub beginning-read : (t′ : List ℕ) (next : ℕ) (r : Next) → length s ≤ 65536 → TargetAt s 0 t (X.At next) → BegunAt s (unlessGiven (targetRefusal (regInfoOf t)) (withFunction (regInfoOf t) (drop next s))) r t′ f → BegunAt s (beginning s) r t′ f
-  unfolding beginning
-  beginning-read t′ next r l h g = rw (le-ltb 65536 (length s) l, ← h .reads) g
+    pub beginning-refused : (k : ℕ) → length s ≤ 65536 → TargetAt s 0 t (X.Refused k) → BegunAt s (beginning kept s) (X.Refused k) t f
+    unfolding beginning
+    beginning-refused k l h = rw (set, le-ltb 65536 (length s) l, ← h .reads) (refl, tt, tt)
+
+    pub beginning-read : (t′ : List ℕ) (next : ℕ) (r : Next) → length s ≤ 65536 → TargetAt s 0 t (X.At next) → BegunAt s (unlessGiven (targetRefusal (regInfoOf t)) (withFunction (regInfoOf t) kept (drop next s))) r t′ f → BegunAt s (beginning kept s) r t′ f
+    unfolding beginning
+    beginning-read t′ next r l h g = rw (set, le-ltb 65536 (length s) l, ← h .reads) g
 
 -- the patch count behind them
 abbrev counted : Opened → List ℕ → Read Header
 counted x q = then (between 1 1024 q) (λ n p. got (record { target = x .target; function = x .function; patches = n }) p)
 
-opening-is : (l : List ℕ) → opening l ≡ then (beginning l) (λ x q. counted x q)
+opening-is : (kept : ℕ) (l : List ℕ) → opening kept l ≡ then (beginning kept l) (λ x q. counted x q)
 unfolding opening header afterTarget beginning withFunction
-opening-is l = go (ltb 65536 (length l)) (target l)
+opening-is kept l = go (no (isSetting kept)) (ltb 65536 (length l)) (target l)
   where
     of-function : (t : RegInfo) (o : Option ℕ) (y : Read Function)
         → unlessGiven o (then y (λ f q. counted (record { target = t; function = f }) q)) ≡ then (unlessGiven o (then y (λ f q. got (record { target = t; function = f }) q))) (λ x q. counted x q)
@@ -78,23 +89,24 @@ opening-is l = go (ltb 65536 (length l)) (target l)
     of-function t none (refused k) = refl
     of-function t none (got f q) = refl
 
-    go : (b : Bool) (x : Read RegInfo)
-        → pick b (refused 2) (then x (λ t r. unlessGiven (targetRefusal t) (then (function t r) (λ f q. counted (record { target = t; function = f }) q))))
-        ≡ then (pick b (refused 2) (then x (λ t r. unlessGiven (targetRefusal t) (then (function t r) (λ f q. got (record { target = t; function = f }) q))))) (λ x q. counted x q)
-    go true x = refl
-    go false (refused k) = refl
-    go false (got t r) = of-function t (targetRefusal t) (function t r)
+    go : (a b : Bool) (x : Read RegInfo)
+        → pick a (refused 22) (pick b (refused 2) (then x (λ t r. unlessGiven (targetRefusal t) (then (function t kept r) (λ f q. counted (record { target = t; function = f }) q)))))
+        ≡ then (pick a (refused 22) (pick b (refused 2) (then x (λ t r. unlessGiven (targetRefusal t) (then (function t kept r) (λ f q. got (record { target = t; function = f }) q)))))) (λ x q. counted x q)
+    go true b x = refl
+    go false true x = refl
+    go false false (refused k) = refl
+    go false false (got t r) = of-function t (targetRefusal t) (function t kept r)
 
-module _ (s t f : List ℕ) where
-  pub opening-refused : (k : ℕ) → BegunAt s (beginning s) (X.Refused k) t f → HeaderAt s (opening s) (N.Refused k) t f
-  opening-refused k h = rw (opening-is s) (go (beginning s) h)
+module _ (kept : ℕ) (s t f : List ℕ) where
+  pub opening-refused : (k : ℕ) → BegunAt s (beginning kept s) (X.Refused k) t f → HeaderAt s (opening kept s) (N.Refused k) t f
+  opening-refused k h = rw (opening-is kept s) (go (beginning kept s) h)
     where
       go : (x : Read Opened) → BegunAt s x (X.Refused k) t f → HeaderAt s (then x (λ x q. counted x q)) (N.Refused k) t f
       go (refused j) h = let z : k ≡ j = cc in (ap N.Refused z, tt, tt)
       go (got x rest) h = absurd (let z : _≡_ {A = ℕ} 0 1 = cc in omega arith)
 
-  pub opening-read : (next : ℕ) (r : Number) → BegunAt s (beginning s) (X.At next) t f → ReadAt (between 1 1024) s next r → HeaderAt s (opening s) r t f
-  opening-read next r h g = rw (opening-is s) (go (beginning s) r h g)
+  pub opening-read : (next : ℕ) (r : Number) → BegunAt s (beginning kept s) (X.At next) t f → ReadAt (between 1 1024) s next r → HeaderAt s (opening kept s) r t f
+  opening-read next r h g = rw (opening-is kept s) (go (beginning kept s) r h g)
     where
       go : (x : Read Opened) (r : Number) → BegunAt s x (X.At next) t f → ReadAt (between 1 1024) s next r → HeaderAt s (then x (λ x q. counted x q)) r t f
       go (refused j) r h g = absurd (let z : _≡_ {A = ℕ} 0 1 = cc in omega arith)

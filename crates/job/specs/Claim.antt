@@ -45,10 +45,10 @@ abbrev pub Opened : Read Header → Answers → Type 0
 Opened (refused k) a = (a .done ≡ []) × (a .refusal ≡ some k)
 Opened (got h r) a = OneByOne (h .target) (h .function) (a .done) (a .refusal) (h .patches) emptyCache r
 
--- whatever the bytes
+-- whatever the setting and the bytes
 abbrev pub EveryJob : Type 0
-EveryJob = (l : List ℕ) → Opened (opening l) (job l)
+EveryJob = (kept : ℕ) (l : List ℕ) → Opened (opening kept l) (job kept l)
 
 -- a job that is not refused has as many patches done as it says
 abbrev pub AllDone : Type 0
-AllDone = (l : List ℕ) (h : Header) (r : List ℕ) → opening l ≡ got h r → job l .refusal ≡ none → length (job l .done) ≡ h .patches
+AllDone = (kept : ℕ) (l : List ℕ) (h : Header) (r : List ℕ) → opening kept l ≡ got h r → job kept l .refusal ≡ none → length (job kept l .done) ≡ h .patches

@@ -1,6 +1,6 @@
 -- 01, Refused jobs, of a job's bytes: "1, 2, 3 as read, the total of order entries with the count that raises it; 4 to 7 rising after the
 -- target; each entry 15, 2, 9, 10, 11, 12 (9 for a rebuild class when the function is read); then 13, 14, 16, 17; 8 last." 02 h: 21 "tested
--- straight after 12".
+-- straight after 12"; 02 i: 22 "tested before the job".
 -- For each part of a job, the conditions of reading it, in their order. What stands behind a part has conditions where the part was read.
 use Prim.Native.Nat.{ℕ, zero, suc, _+_, _<_, _≤_}
 use mathlib.Core.Path.{_≡_}
@@ -15,7 +15,7 @@ use Rattle.entity.specs.Place.{placeAt}
 use Rattle.reginfo.specs.RegInfo.{RegInfo, numBanks, numClasses, bankForClass}
 use Rattle.reginfo.specs.Refused.{Condition, cond, outsideLimits, listedTwice, unequalWidths, foreignMember, sharedMemory, unfitClass}
 use Rattle.reginfo.specs.Given.{Given, NoneHolds}
-use Rattle.function.specs.Function.{Function, numValues}
+use Rattle.function.specs.Function.{Function, numValues, isSetting}
 use Rattle.rules.specs.Scratch.{Cache, emptyCache}
 use Rattle.rules.specs.Patch.{Patch, Sorted, nothingSorted, Answer, namesPlace, entryConditions, add, sorted, bound, patchConditions, run, resolve}
 use Rattle.rules.specs.Patch as rules
@@ -165,21 +165,22 @@ module _ (t : RegInfo) (f : Function) where
   inPatches (suc n) c l = inPatch l ++ afterGot (patch t f l) (λ p r. ofCall p c ++ afterResolved (resolve t f p 1024 c) (λ c′. inPatches n c′ r))
 
 -- ---- the job
--- 2: "a job over 65,536 bytes, tested first"
-unfoldable pub inOpening : List ℕ → List Condition
-inOpening l =
-    cond 2 (ltb 65536 (length l))
+-- 22: "a setting other than 1 or 2, tested before the job"; 2: "a job over 65,536 bytes, tested first"
+unfoldable pub inOpening : (kept : ℕ) → List ℕ → List Condition
+inOpening kept l =
+    cond 22 (no (isSetting kept))
+    ∷ cond 2 (ltb 65536 (length l))
     ∷ (inTarget l ++ afterGot (target l)
-    (λ t r. ofTarget t ++ (inFunction t r ++ afterGot (function t r)
+    (λ t r. ofTarget t ++ (inFunction t r ++ afterGot (function t kept r)
     (λ f q. inTested (λ x. and (leb 1 x) (leb x 1024)) q))))
 
-unfoldable pub jobConditions : List ℕ → List Condition
-jobConditions l = inOpening l ++ afterGot (opening l) (λ h r. inPatches (h .target) (h .function) (h .patches) emptyCache r)
+unfoldable pub jobConditions : (kept : ℕ) → List ℕ → List Condition
+jobConditions kept l = inOpening kept l ++ afterGot (opening kept l) (λ h r. inPatches (h .target) (h .function) (h .patches) emptyCache r)
 
 -- "Each is given when its condition holds and none earlier does, else not."
-pub record Refusals (l : List ℕ) : Type 0 where
-  pub given : (n : ℕ) → (job l .refusal ≡ some n) ↔ Given (jobConditions l) n
-  pub taken : (job l .refusal ≡ none) ↔ NoneHolds (jobConditions l)
+pub record Refusals (kept : ℕ) (l : List ℕ) : Type 0 where
+  pub given : (n : ℕ) → (job kept l .refusal ≡ some n) ↔ Given (jobConditions kept l) n
+  pub taken : (job kept l .refusal ≡ none) ↔ NoneHolds (jobConditions kept l)
 
 -- 1, said of the bytes alone: they do not begin with a number in its form
 abbrev pub NoNumber : Type 0

@@ -1,13 +1,13 @@
--- 01, The job: what the bytes of a job are answered with.
+-- 01, The job: what the bytes of a job are answered with; 02 i: for a function of `kept` kept evictions, which is "given beside the job".
 use Prim.Native.Nat.{ℕ, zero, suc}
 use mathlib.Core.List.{List, [], _∷_}
 use mathlib.Core.Option.{Option, none, some}
 use lib.Dec.{ltb}
 use lib.ListN.{length}
-use Rattle.entity.specs.Logic.{pick}
+use Rattle.entity.specs.Logic.{pick, no}
 use Rattle.reginfo.specs.RegInfo.{RegInfo}
 use Rattle.reginfo.specs.Refused.{targetRefusal}
-use Rattle.function.specs.Function.{Function}
+use Rattle.function.specs.Function.{Function, isSetting}
 use Rattle.rules.specs.Edit.{Edit}
 use Rattle.rules.specs.Scratch.{Cache, emptyCache}
 use Rattle.rules.specs.Patch.{Patch, Answer, resolve}
@@ -25,23 +25,27 @@ pub record Header : Type 0 where
   pub patches : ℕ
 
 -- "patch count 1 to 1,024"
-unfoldable pub afterTarget : RegInfo → List ℕ → Read Header
-afterTarget t l = then (function t l) (λ f q. then (between 1 1024 q) (λ n p. got (record { target = t; function = f; patches = n }) p))
+unfoldable pub afterTarget : RegInfo → (kept : ℕ) → List ℕ → Read Header
+afterTarget t kept l = then (function t kept l) (λ f q. then (between 1 1024 q) (λ n p. got (record { target = t; function = f; patches = n }) p))
 
 -- "4 to 7 rising after the target" (2 and 3 were given as it was read)
-unfoldable pub header : List ℕ → Read Header
-header l = then (target l) (λ t r. unlessGiven (targetRefusal t) (afterTarget t r))
+unfoldable pub header : (kept : ℕ) → List ℕ → Read Header
+header kept l = then (target l) (λ t r. unlessGiven (targetRefusal t) (afterTarget t kept r))
 
 -- the same up to the patch count: an accepted target and a function over it
 pub record Opened : Type 0 where
   pub target : RegInfo
   pub function : Function
 
-unfoldable pub withFunction : RegInfo → List ℕ → Read Opened
-withFunction t l = then (function t l) (λ f q. got (record { target = t; function = f }) q)
+unfoldable pub withFunction : RegInfo → (kept : ℕ) → List ℕ → Read Opened
+withFunction t kept l = then (function t kept l) (λ f q. got (record { target = t; function = f }) q)
 
-unfoldable pub beginning : List ℕ → Read Opened
-beginning l = pick (ltb 65536 (length l)) (refused 2) (then (target l) (λ t r. unlessGiven (targetRefusal t) (withFunction t r)))
+-- 22: "a setting other than 1 or 2, tested before the job"; then 2: "a job over 65,536 bytes, tested first"
+abbrev pub unlessEarly : {A : Type 0} → (kept : ℕ) → List ℕ → Read A → Read A
+unlessEarly kept l x = pick (no (isSetting kept)) (refused 22) (pick (ltb 65536 (length l)) (refused 2) x)
+
+unfoldable pub beginning : (kept : ℕ) → List ℕ → Read Opened
+beginning kept l = unlessEarly kept l (then (target l) (λ t r. unlessGiven (targetRefusal t) (withFunction t kept r)))
 
 -- of a patch that was resolved: its edits, how many slots the function then has, and the greatest position that it met
 pub record Done : Type 0 where
@@ -78,9 +82,8 @@ unfoldable pub patches : RegInfo → Function → ℕ → Cache → List ℕ →
 patches t f zero c l = leftOver l
 patches t f (suc n) c l = afterRead (patch t f l) (λ p r. afterCall (resolve t f p 1024 c) (λ c′. patches t f n c′ r))
 
--- "a job over 65,536 bytes, tested first"
-unfoldable pub opening : List ℕ → Read Header
-opening l = pick (ltb 65536 (length l)) (refused 2) (header l)
+unfoldable pub opening : (kept : ℕ) → List ℕ → Read Header
+opening kept l = unlessEarly kept l (header kept l)
 
-unfoldable pub job : List ℕ → Answers
-job l = afterRead (opening l) (λ h r. patches (h .target) (h .function) (h .patches) emptyCache r)
+unfoldable pub job : (kept : ℕ) → List ℕ → Answers
+job kept l = afterRead (opening kept l) (λ h r. patches (h .target) (h .function) (h .patches) emptyCache r)

@@ -1,4 +1,5 @@
--- Jobs of bytes, by computation: 01's job swap-full and what it is answered with, and jobs that are refused.
+-- Jobs of bytes, by computation: 01's job swap-full and what it is answered with, and jobs that are refused; with one kept eviction, unless another
+-- setting is given.
 use Prim.Native.Nat.{ℕ, zero, suc}
 use mathlib.Core.Path.{_≡_}
 use mathlib.Core.Bool.{true, false}
@@ -22,7 +23,7 @@ abbrev pub swapFull : List ℕ
 swapFull = jobWith 1 (0 ∷ swapEntries)
 
 abbrev pub numbers : List ℕ → List ℕ
-numbers l = map (λ (c : Condition). c .number) (jobConditions l)
+numbers l = map (λ (c : Condition). c .number) (jobConditions 1 l)
 
 -- the numbers of the conditions of a register, a class and an entry of swap-full
 abbrev pub aReg : List ℕ
@@ -63,46 +64,50 @@ twoBanks more =
 pub record Trials : Type 0 where
   -- "M s0 r1 1", "M r1 r0 0", "M r0 s0 1"; made 1; nothing of the order of three would do
   pub swap-full :
-      job swapFull
+      job 1 swapFull
       ≡ before (record { edits = Move (slot 0) (reg 1) 1 ∷ Move (reg 1) (reg 0) 0 ∷ Move (reg 0) (slot 0) 1 ∷ []; made = 1; position = 3 }) (endsWith none)
-  -- the length, units, banks, a bank, registers, classes; 4 to 7; values, N, L, two values; the patch count; free units, entries; the call; 8
+  -- the setting, the length, units, banks, a bank, registers, classes; 4 to 7; values, N, L, two values; the patch count; free units, entries; the call; 8
   pub in-order :
       numbers swapFull
-      ≡ 2 ∷ 1 ∷ 2 ∷ 1 ∷ 2 ∷ 1 ∷ 2 ∷ 1 ∷ 1 ∷ 1 ∷ 2 ∷ (aReg ++ (aReg ++ (aReg ++ (1 ∷ 2 ∷ (aClass ++ (aClass ++ (4 ∷ 5 ∷ 6 ∷ 7
+      ≡ 22 ∷ 2 ∷ 1 ∷ 2 ∷ 1 ∷ 2 ∷ 1 ∷ 2 ∷ 1 ∷ 1 ∷ 1 ∷ 2 ∷ (aReg ++ (aReg ++ (aReg ++ (1 ∷ 2 ∷ (aClass ++ (aClass ++ (4 ∷ 5 ∷ 6 ∷ 7
       ∷ 1 ∷ 2 ∷ 1 ∷ 2 ∷ 1 ∷ 2 ∷ 1 ∷ 2 ∷ 1 ∷ 2 ∷ 1 ∷ 2 ∷ 1 ∷ 2 ∷ 1 ∷ 2 ∷ 1 ∷ 1 ∷ (anEntry ++ (anEntry ++ (13 ∷ 14 ∷ 16 ∷ 17 ∷ 8 ∷ []))))))))))
-  pub no-byte : jobConditions [] ≡ cond 2 false ∷ cond 1 true ∷ []
+  pub no-byte : jobConditions 1 [] ≡ cond 22 false ∷ cond 2 false ∷ cond 1 true ∷ []
+  -- 02 i: another setting is refused before the job, whatever its bytes and however many
+  pub none-kept : (l : List ℕ) → job 0 l ≡ endsWith (some 22)
+  pub three-kept : (l : List ℕ) → job 3 l ≡ endsWith (some 22)
+  pub two-kept : job 2 swapFull ≡ job 1 swapFull
   -- the target's rules come before the function's first number, and rise
-  pub target-alone : job (targetWith r0 (allOf 1) (allOf 0)) .refusal ≡ some 1
-  pub unequal : job (targetWith (0 ∷ 0 ∷ 2 ∷ 0 ∷ 1 ∷ []) (allOf 0) (allOf 0)) .refusal ≡ some 4
+  pub target-alone : job 1 (targetWith r0 (allOf 1) (allOf 0)) .refusal ≡ some 1
+  pub unequal : job 1 (targetWith (0 ∷ 0 ∷ 2 ∷ 0 ∷ 1 ∷ []) (allOf 0) (allOf 0)) .refusal ≡ some 4
   -- 02 b: a memory register of one unit is taken, so that the function's first number is missing; one of two units is not
-  pub argument-word : job (besideAPair 3 (1 ∷ 0 ∷ 1 ∷ 2 ∷ [])) .refusal ≡ some 1
-  pub wide-memory : job (besideAPair 4 (1 ∷ 0 ∷ 2 ∷ 2 ∷ 3 ∷ [])) .refusal ≡ some 4
-  pub no-member : job (targetWith r0 (allOf 0) (0 ∷ 0 ∷ 2 ∷ 0 ∷ 1 ∷ 3 ∷ 0 ∷ 1 ∷ 2 ∷ [])) .refusal ≡ some 5
-  pub memory-shared : job (targetWith (1 ∷ 0 ∷ 1 ∷ 1 ∷ []) (allOf 0) (allOf 0)) .refusal ≡ some 6
-  pub top-without-slots : job (targetWith r0 (allOf 0) (allOf 0)) .refusal ≡ some 7
+  pub argument-word : job 1 (besideAPair 3 (1 ∷ 0 ∷ 1 ∷ 2 ∷ [])) .refusal ≡ some 1
+  pub wide-memory : job 1 (besideAPair 4 (1 ∷ 0 ∷ 2 ∷ 2 ∷ 3 ∷ [])) .refusal ≡ some 4
+  pub no-member : job 1 (targetWith r0 (allOf 0) (0 ∷ 0 ∷ 2 ∷ 0 ∷ 1 ∷ 3 ∷ 0 ∷ 1 ∷ 2 ∷ [])) .refusal ≡ some 5
+  pub memory-shared : job 1 (targetWith (1 ∷ 0 ∷ 1 ∷ 1 ∷ []) (allOf 0) (allOf 0)) .refusal ≡ some 6
+  pub top-without-slots : job 1 (targetWith r0 (allOf 0) (allOf 0)) .refusal ≡ some 7
   -- a rebuild class of the other bank comes before the patch count; a place of it, with its entry
-  pub foreign-class : job (twoBanks (0 ∷ 1 ∷ 2 ∷ [])) .refusal ≡ some 9
-  pub foreign-place : job (twoBanks (0 ∷ 0 ∷ 1 ∷ 0 ∷ 1 ∷ 0 ∷ 3 ∷ 3 ∷ 0 ∷ [])) .refusal ≡ some 9
-  pub one-byte-over : job (swapFull ++ (0 ∷ [])) .refusal ≡ some 8
+  pub foreign-class : job 1 (twoBanks (0 ∷ 1 ∷ 2 ∷ [])) .refusal ≡ some 9
+  pub foreign-place : job 1 (twoBanks (0 ∷ 0 ∷ 1 ∷ 0 ∷ 1 ∷ 0 ∷ 3 ∷ 3 ∷ 0 ∷ [])) .refusal ≡ some 9
+  pub one-byte-over : job 1 (swapFull ++ (0 ∷ [])) .refusal ≡ some 8
   -- the patch's number comes before a byte left over
-  pub no-slot : job (jobWith 0 (0 ∷ swapEntries) ++ (0 ∷ [])) .refusal ≡ some 17
-  pub free-destination : job (jobWith 1 (1 ∷ 0 ∷ swapEntries)) .refusal ≡ some 13
+  pub no-slot : job 1 (jobWith 0 (0 ∷ swapEntries) ++ (0 ∷ [])) .refusal ≡ some 17
+  pub free-destination : job 1 (jobWith 1 (1 ∷ 0 ∷ swapEntries)) .refusal ≡ some 13
   -- two registers of one unit; the value is rebuilt by a class of the first alone, into the second
   pub last-overlaps :
-      job (1 ∷ 1 ∷ 3 ∷ 0 ∷ 1 ∷ 2 ∷ 0 ∷ 0 ∷ 1 ∷ 0 ∷ 0 ∷ 0 ∷ 1 ∷ 0 ∷ 2 ∷ 0 ∷ 1 ∷ 2 ∷ 0 ∷ 1 ∷ 2 ∷ 0 ∷ 1 ∷ 0 ∷ 0 ∷ 1 ∷ 0 ∷ 1 ∷ 0
+      job 1 (1 ∷ 1 ∷ 3 ∷ 0 ∷ 1 ∷ 2 ∷ 0 ∷ 0 ∷ 1 ∷ 0 ∷ 0 ∷ 0 ∷ 1 ∷ 0 ∷ 2 ∷ 0 ∷ 1 ∷ 2 ∷ 0 ∷ 1 ∷ 2 ∷ 0 ∷ 1 ∷ 0 ∷ 0 ∷ 1 ∷ 0 ∷ 1 ∷ 0
       ∷ 1 ∷ 0 ∷ 1 ∷ 0 ∷ 2 ∷ 1 ∷ 1 ∷ 0 ∷ 1 ∷ 1 ∷ 3 ∷ 0 ∷ []) .refusal
       ≡ some 14
   -- an entry's number comes before its call's
-  pub self-move : job (jobWith 1 (1 ∷ 1 ∷ 2 ∷ 0 ∷ 1 ∷ 3 ∷ 0 ∷ 0 ∷ 3 ∷ 3 ∷ 0 ∷ [])) .refusal ≡ some 10
-  pub not-rebuildable : job (jobWith 1 (0 ∷ 1 ∷ 1 ∷ 3 ∷ 0 ∷ [])) .refusal ≡ some 11
-  pub same-destination : job (jobWith 1 (0 ∷ 2 ∷ 0 ∷ 1 ∷ 3 ∷ 0 ∷ 0 ∷ 5 ∷ 3 ∷ 1 ∷ [])) .refusal ≡ some 12
+  pub self-move : job 1 (jobWith 1 (1 ∷ 1 ∷ 2 ∷ 0 ∷ 1 ∷ 3 ∷ 0 ∷ 0 ∷ 3 ∷ 3 ∷ 0 ∷ [])) .refusal ≡ some 10
+  pub not-rebuildable : job 1 (jobWith 1 (0 ∷ 1 ∷ 1 ∷ 3 ∷ 0 ∷ [])) .refusal ≡ some 11
+  pub same-destination : job 1 (jobWith 1 (0 ∷ 2 ∷ 0 ∷ 1 ∷ 3 ∷ 0 ∷ 0 ∷ 5 ∷ 3 ∷ 1 ∷ [])) .refusal ≡ some 12
   -- 02 h: units 0 and 1 are r0 and r1, and the pair r3 has both
   pub overlapping-sources :
-      job (4 ∷ 2 ∷ 2 ∷ 0 ∷ 1 ∷ 3 ∷ 2 ∷ 3 ∷ 5 ∷ 0 ∷ 0 ∷ 1 ∷ 0 ∷ 0 ∷ 0 ∷ 1 ∷ 1 ∷ 0 ∷ 0 ∷ 1 ∷ 2 ∷ 0 ∷ 1 ∷ 2 ∷ 0 ∷ 1 ∷ 0 ∷ 1 ∷ 2 ∷ 2 ∷ 3 ∷ 4 ∷ 0 ∷ 1 ∷ 3 ∷ 0 ∷ 1 ∷ 2 ∷ 3 ∷ 0 ∷ 1 ∷ 2 ∷ 0 ∷ 0 ∷ 3
+      job 1 (4 ∷ 2 ∷ 2 ∷ 0 ∷ 1 ∷ 3 ∷ 2 ∷ 3 ∷ 5 ∷ 0 ∷ 0 ∷ 1 ∷ 0 ∷ 0 ∷ 0 ∷ 1 ∷ 1 ∷ 0 ∷ 0 ∷ 1 ∷ 2 ∷ 0 ∷ 1 ∷ 2 ∷ 0 ∷ 1 ∷ 0 ∷ 1 ∷ 2 ∷ 2 ∷ 3 ∷ 4 ∷ 0 ∷ 1 ∷ 3 ∷ 0 ∷ 1 ∷ 2 ∷ 3 ∷ 0 ∷ 1 ∷ 2 ∷ 0 ∷ 0 ∷ 3
       ∷ 0 ∷ 1 ∷ 2 ∷ 3 ∷ 0 ∷ 1 ∷ 2 ∷ 1 ∷ 1 ∷ 2 ∷ 3 ∷ 4 ∷ 2 ∷ 3 ∷ 4 ∷ 1 ∷ 0 ∷ 2 ∷ 3 ∷ 4 ∷ 2 ∷ 3 ∷ 4 ∷ 2 ∷ 0 ∷ 1 ∷ 0 ∷ 0 ∷ 1 ∷ 0 ∷ 1 ∷ 0 ∷ 2 ∷ 0 ∷ 7 ∷ 9 ∷ 1 ∷ 0 ∷ 1 ∷ 3 ∷ 0 ∷ []) .refusal
       ≡ some 21
-  pub slot-from-N : job (jobWith 1 (0 ∷ 1 ∷ 0 ∷ 0 ∷ 1 ∷ 0 ∷ [])) .refusal ≡ some 2
-  pub not-rising : job (jobWith 1 (2 ∷ 2 ∷ 2 ∷ swapEntries)) .refusal ≡ some 3
+  pub slot-from-N : job 1 (jobWith 1 (0 ∷ 1 ∷ 0 ∷ 0 ∷ 1 ∷ 0 ∷ [])) .refusal ≡ some 2
+  pub not-rising : job 1 (jobWith 1 (2 ∷ 2 ∷ 2 ∷ swapEntries)) .refusal ≡ some 3
   -- "that same move 128 times taken, a 129th 15": also where its bytes are not there
-  pub entries-128 : job (jobWith 1 (0 ∷ 128 ∷ 1 ∷ sameMoves 128)) .refusal ≡ none
-  pub entries-129 : job (jobWith 1 (0 ∷ 129 ∷ 1 ∷ sameMoves 128)) .refusal ≡ some 15
+  pub entries-128 : job 1 (jobWith 1 (0 ∷ 128 ∷ 1 ∷ sameMoves 128)) .refusal ≡ none
+  pub entries-129 : job 1 (jobWith 1 (0 ∷ 129 ∷ 1 ∷ sameMoves 128)) .refusal ≡ some 15

@@ -69,7 +69,7 @@ pub fn read_beginning(
     t: &mut RegInfo,
     f: &mut Function,
 ) -> Next
-    ensures { λ r. ⌜ BegunAt (now (s .entry)) (beginning kept_evictions (now (s .entry))) r (now (t .exit)) (now (f .exit)) ⌝ }
+    ensures { λ r. ⌜ BegunAt (now (s .entry)) (beginning «kept_evictions» (now (s .entry))) r (now (t .exit)) (now (f .exit)) ⌝ }
 {
     if !function::is_setting(kept_evictions as usize) {
         return Next::Refused(22);
@@ -91,7 +91,7 @@ pub fn read_opening(
     t: &mut RegInfo,
     f: &mut Function,
 ) -> Number
-    ensures { λ r. ⌜ HeaderAt (now (s .entry)) (opening kept_evictions (now (s .entry))) r (now (t .exit)) (now (f .exit)) ⌝ }
+    ensures { λ r. ⌜ HeaderAt (now (s .entry)) (opening «kept_evictions» (now (s .entry))) r (now (t .exit)) (now (f .exit)) ⌝ }
 {
     match read_beginning(kept_evictions, s, t, f) {
         Next::Refused(k) => Number::Refused(k),

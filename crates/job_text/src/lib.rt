@@ -196,7 +196,7 @@ pub fn start(
     out: &mut [u8],
 ) -> Progress
     requires { ⌜ 20480 ≤ length (now out) ⌝ }
-    ensures { λ r. ⌜ Stands kept_evictions (now (t .exit)) (now (f .exit)) (now (s .entry)) (now (cache .exit)) (now (out .exit)) r × (r .written ≡ 0) ⌝ }
+    ensures { λ r. ⌜ Stands «kept_evictions» (now (t .exit)) (now (f .exit)) (now (s .entry)) (now (cache .exit)) (now (out .exit)) r × (r .written ≡ 0) ⌝ }
 {
     match job::read_opening(kept_evictions, s, t, f) {
         Number::Refused(number) => refuse(begun(0, 0), out, number),

@@ -40,7 +40,7 @@ pub extern "C" fn parallel_moves_answer_4(
     marks: &mut Marks,
     carried: &mut Carried,
 ) -> usize
-    ensures { λ r. ⌜ AnsweredAs (now (words .entry)) (jobIn (length (now (words .entry))) kept_evictions (now (bytes .entry))) r (now (refusal .exit)) (now (words .exit)) ⌝ }
+    ensures { λ r. ⌜ AnsweredAs (now (words .entry)) (jobIn (length (now (words .entry))) «kept_evictions» (now (bytes .entry))) r (now (refusal .exit)) (now (words .exit)) ⌝ }
     ensures { λ _. ⌜ Anything (now (target .exit)) × Anything (now (function .exit)) × Anything (now (cache .exit)) × Anything (now (free .exit)) × Anything (now (entries .exit)) × Anything (now (writers .exit)) × Anything (now (available .exit)) × Anything (now (sources .exit)) × Anything (now (edits .exit)) × Anything (now (slots .exit)) × Anything (now (diverted .exit)) × Anything (now (marks .exit)) × Anything (now (carried .exit)) ⌝ }
 {
     match answer::answer_job(

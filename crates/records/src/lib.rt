@@ -85,7 +85,7 @@ pub fn read_record(job: &mut [u8], text: &mut [u8]) -> Record
 // The text of the answer of a job with so many kept evictions, put at the front of the lent bytes. Answers its length; or 0 where it does not fit, with the lines that do. There are
 // words enough for every job.
 pub fn put_text(kept_evictions: u32, job: &[u8], out: &mut [u8]) -> usize
-    ensures { λ r. ⌜ Printed (now (out .entry)) (now (out .exit)) (textOf kept_evictions (now (job .entry))) r ⌝ }
+    ensures { λ r. ⌜ Printed (now (out .entry)) (now (out .exit)) (textOf «kept_evictions» (now (job .entry))) r ⌝ }
 {
     let mut words = [0u64; 132096];
     let mut t = [0u16; 107520];

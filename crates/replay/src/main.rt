@@ -6,7 +6,7 @@ ghost use Rattle.replay.specs.Replayed.{isReplayed};
 
 // Whether the text of the job's answer is the recorded one, and has room.
 fn replayed(kept_evictions: u32, job: &[u8], text: &[u8]) -> bool
-    ensures { λ r. ⌜ r ≡ isReplayed kept_evictions (now (job .entry)) (now (text .entry)) ⌝ }
+    ensures { λ r. ⌜ r ≡ isReplayed «kept_evictions» (now (job .entry)) (now (text .entry)) ⌝ }
 {
     let mut out = [0u8; 65536];
     let n = records::put_text(kept_evictions, job, &mut out);

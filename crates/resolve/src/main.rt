@@ -171,7 +171,7 @@ fn write_all(buf: &[u8]) -> bool {
 
 // Writes what the buffer holds, which is what follows in the text of the job s with this setting.
 fn write_piece(kept_evictions: u32, s: &[u8], out: &[u8], p: Progress) -> Write
-    requires { ⌜ Piece kept_evictions (now s) (now out) p ⌝ }
+    requires { ⌜ Piece «kept_evictions» (now s) (now out) p ⌝ }
     ensures { λ r. ⌜ WroteOn p r ⌝ }
 {
     let n = p.held;
@@ -202,8 +202,8 @@ fn write_text(
     c: &mut Carried,
     out: &mut [u8],
 ) -> Written
-    requires { ⌜ Stands kept_evictions (now t) (now f) (now s) (now cache) (now out) from × (length (now out) ≡ 65536) ⌝ }
-    ensures { λ r. ⌜ AllWritten kept_evictions (now (s .entry)) r ⌝ }
+    requires { ⌜ Stands «kept_evictions» (now t) (now f) (now s) (now cache) (now out) from × (length (now out) ≡ 65536) ⌝ }
+    ensures { λ r. ⌜ AllWritten «kept_evictions» (now (s .entry)) r ⌝ }
     ensures { λ _. ⌜ Anything (now (cache .exit)) × Anything (now (list .exit)) × Anything (now (free .exit)) × Anything (now (e .exit)) × Anything (now (w .exit)) × Anything (now (available .exit)) × Anything (now (sources .exit)) × Anything (now (edits .exit)) × Anything (now (slots .exit)) × Anything (now (d .exit)) × Anything (now (marks .exit)) × Anything (now (c .exit)) × Anything (now (out .exit)) ⌝ }
 {
     let mut p = from;
@@ -262,7 +262,7 @@ fn answer(
     out: &mut [u8],
 ) -> Written
     requires { ⌜ length (now out) ≡ 65536 ⌝ }
-    ensures { λ r. ⌜ AllWritten kept_evictions (now (s .entry)) r ⌝ }
+    ensures { λ r. ⌜ AllWritten «kept_evictions» (now (s .entry)) r ⌝ }
     ensures { λ _. ⌜ Anything (now (t .exit)) × Anything (now (f .exit)) × Anything (now (cache .exit)) × Anything (now (list .exit)) × Anything (now (free .exit)) × Anything (now (e .exit)) × Anything (now (w .exit)) × Anything (now (available .exit)) × Anything (now (sources .exit)) × Anything (now (edits .exit)) × Anything (now (slots .exit)) × Anything (now (d .exit)) × Anything (now (marks .exit)) × Anything (now (c .exit)) × Anything (now (out .exit)) ⌝ }
 {
     let p = job_text::start(kept_evictions, s, t, f, cache, out);

@@ -42,25 +42,25 @@ returns : tie.Need-returns
 returns c =
     let k = c .before .before .before .before .before .check .ensures in
     let a = c .before .before .before .before .before .before .before .before .args in
-    target-taken (a .s .now) (a .t .now) _ _ (a .at) _ (rw (c .before .before .before .enum-told .given .1) at (k .0)) (k .1 .1 .0) (k .1 .1 .1 (c .before .before .before .enum-told .given .1)) (c .read-function .ensures)
+    target-taken _ (a .s .now) (a .t .now) _ _ (a .at) (c .before .before .before .before .before .before .before .before .pre) _ (rw (c .before .before .before .enum-told .given .1) at (k .0)) (k .1 .1 .0) (k .1 .1 .1 (c .before .before .before .enum-told .given .1)) (c .read-function .ensures)
 
 returns-2 : tie.Need-returns-2
-returns-2 c = let a = c .before .before .before .before .before .args in target-refused (a .s .now) (a .t .now) _ _ (a .at) _ (rw (c .enum-told2 .given .1) at (c .before .before .check .ensures .0))
+returns-2 c = let a = c .before .before .before .before .before .args in target-refused _ (a .s .now) (a .t .now) _ _ (a .at) _ (rw (c .enum-told2 .given .1) at (c .before .before .check .ensures .0))
 
 returns-3 : tie.Need-returns-3
-returns-3 c = let a = c .before .before .before .before .before .args in target-refused (a .s .now) (a .t .now) _ _ (a .at) _ (rw (c .enum-told3 .given .1) at (c .before .before .check .ensures .0))
+returns-3 c = let a = c .before .before .before .before .before .args in target-refused _ (a .s .now) (a .t .now) _ _ (a .at) _ (rw (c .enum-told3 .given .1) at (c .before .before .check .ensures .0))
 
 returns-4 : tie.Need-returns-4
-returns-4 c = let a = c .before .before .before .before .before .args in target-refused (a .s .now) (a .t .now) _ _ (a .at) _ (rw (c .enum-told4 .given .1) at (c .before .before .check .ensures .0))
+returns-4 c = let a = c .before .before .before .before .before .args in target-refused _ (a .s .now) (a .t .now) _ _ (a .at) _ (rw (c .enum-told4 .given .1) at (c .before .before .check .ensures .0))
 
 returns-5 : tie.Need-returns-5
-returns-5 c = let a = c .before .before .before .before .before .args in target-refused (a .s .now) (a .t .now) _ _ (a .at) _ (rw (c .enum-told5 .given .1) at (c .before .before .check .ensures .0))
+returns-5 c = let a = c .before .before .before .before .before .args in target-refused _ (a .s .now) (a .t .now) _ _ (a .at) _ (rw (c .enum-told5 .given .1) at (c .before .before .check .ensures .0))
 
 returns-6 : tie.Need-returns-6
-returns-6 c = let a = c .before .before .before .before .before .args in target-refused (a .s .now) (a .t .now) _ _ (a .at) _ (rw (c .enum-told6 .given .1) at (c .before .before .check .ensures .0))
+returns-6 c = let a = c .before .before .before .before .before .args in target-refused _ (a .s .now) (a .t .now) _ _ (a .at) _ (rw (c .enum-told6 .given .1) at (c .before .before .check .ensures .0))
 
 returns-7 : tie.Need-returns-7
-returns-7 c = let a = c .before .before .before .before .before .args in target-refused (a .s .now) (a .t .now) _ _ (a .at) _ (rw (c .enum-told7 .given .1) at (c .before .before .check .ensures .0))
+returns-7 c = let a = c .before .before .before .before .before .args in target-refused _ (a .s .now) (a .t .now) _ _ (a .at) _ (rw (c .enum-told7 .given .1) at (c .before .before .check .ensures .0))
 
 pub read-after-target-spec : {M : Type 1} → statement M
 read-after-target-spec =
