@@ -68,6 +68,6 @@ known (read.refused k) t f cache cache′ h = absurd (let z : _≡_ {A = ℕ} 0 
 known (read.got x rest) t f cache cache′ h = (h .3, h .4, h .5)
 
 pub demand-3-of-the-calls : Demand3
-demand-3-of-the-calls bytes t f cache cache′ h calls made =
-    let k = known (opened bytes) t f cache cache′ h in
+demand-3-of-the-calls kept bytes t f cache cache′ h calls made =
+    let k = known (opened kept bytes) t f cache cache′ h in
     claims t f calls cache′ emptyCache (k .1 .empty) (k .2) made (demand-3 (regInfoOf t) (functionOf f) (k .0 .target) (k .0 .function) (asked t f calls))

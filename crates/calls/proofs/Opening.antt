@@ -14,18 +14,18 @@ use Rattle.job.specs.Steps.{BegunAt}
 use Rattle.calls.specs.declared.Opened.the-variants.{Yes, Refused}
 use Rattle.calls.specs.Opening.{ended, opened, OpenedAs}
 
-module _ (s t f cache : List ℕ) where
-  pub not-opened : (k : ℕ) → BegunAt s (beginning s) (X.Refused k) t f → OpenedAs (opened s) (Refused k) t f cache cache
+module _ (kept : ℕ) (s t f cache : List ℕ) where
+  pub not-opened : (k : ℕ) → BegunAt s (beginning kept s) (X.Refused k) t f → OpenedAs (opened kept s) (Refused k) t f cache cache
   unfolding opened
-  not-opened k h = go (beginning s) h
+  not-opened k h = go (beginning kept s) h
     where
       go : (x : Read job.Opened) → BegunAt s x (X.Refused k) t f → OpenedAs (then x (λ x q. ended x q)) (Refused k) t f cache cache
       go (refused j) h = let z : k ≡ j = cc in (ap Refused z, tt, tt, refl)
       go (got x rest) h = absurd (let z : _≡_ {A = ℕ} 0 1 = cc in omega arith)
 
-  pub left-over : (next : ℕ) → next < length s → BegunAt s (beginning s) (X.At next) t f → OpenedAs (opened s) (Refused 8) t f cache cache
+  pub left-over : (next : ℕ) → next < length s → BegunAt s (beginning kept s) (X.At next) t f → OpenedAs (opened kept s) (Refused 8) t f cache cache
   unfolding opened
-  left-over next l h = go (beginning s) h
+  left-over next l h = go (beginning kept s) h
     where
       some-left : (x : job.Opened) (rest : List ℕ) → 0 < length rest → OpenedAs (ended x rest) (Refused 8) t f cache cache
       some-left x [] z = absurd (omega arith)
@@ -38,9 +38,9 @@ module _ (s t f cache : List ℕ) where
           let is : rest ≡ drop next s = h .2 ∙ rw same in
           some-left x rest (rw is (omega (arith, length-drop next s)))
 
-  pub all-read : (next : ℕ) (cache′ : List ℕ) → length s ≤ next → BegunAt s (beginning s) (X.At next) t f → Cleared cache′ → OpenedAs (opened s) Yes t f cache cache′
+  pub all-read : (next : ℕ) (cache′ : List ℕ) → length s ≤ next → BegunAt s (beginning kept s) (X.At next) t f → Cleared cache′ → OpenedAs (opened kept s) Yes t f cache cache′
   unfolding opened
-  all-read next cache′ l h cleared = go (beginning s) h
+  all-read next cache′ l h cleared = go (beginning kept s) h
     where
       go : (x : Read job.Opened) → BegunAt s x (X.At next) t f → OpenedAs (then x (λ x q. ended x q)) Yes t f cache cache′
       go (refused j) h = absurd (let z : _≡_ {A = ℕ} 0 1 = cc in omega arith)

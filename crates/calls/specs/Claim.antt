@@ -51,6 +51,6 @@ module _ (t f : List ℕ) where
   Claim [] cache c = Unit {0}
   Claim (x ∷ l) cache c = Outcome x cache c × Claim l (x .cache) (cacheAfter c (ruled x c))
 
--- "For every list of one function's `resolve` calls from a fresh slot cache, refused ones included": from `open` on, whatever bytes it took
+-- "For every list of one function's `resolve` calls from a fresh slot cache, refused ones included": from `open` on, whatever setting and bytes it took
 abbrev pub Demand3 : Type 0
-Demand3 = (bytes t f cache cache′ : List ℕ) → OpenedAs (opened bytes) Yes t f cache cache′ → (calls : List Made) → Called t f calls cache′ → Claim t f calls cache′ emptyCache
+Demand3 = (kept : ℕ) (bytes t f cache cache′ : List ℕ) → OpenedAs (opened kept bytes) Yes t f cache cache′ → (calls : List Made) → Called t f calls cache′ → Claim t f calls cache′ emptyCache

@@ -1,4 +1,4 @@
--- A target and a function, opened once for all calls.
+-- A target and a function, opened once for all calls; 02 i: with the function's setting.
 use Prim.Native.Nat.{ℕ}
 use mathlib.Core.Path.{_≡_}
 use mathlib.Core.List.{List, [], _∷_}
@@ -19,9 +19,9 @@ abbrev pub ended : job.Opened → List ℕ → Read job.Opened
 ended x [] = got x []
 ended x (b ∷ l) = refused 8
 
--- a target and a function as a job begins with them, and nothing behind them
-unfoldable pub opened : List ℕ → Read job.Opened
-opened l = then (beginning l) (λ x q. ended x q)
+-- a target and a function of `kept` kept evictions as a job begins with them, and nothing behind them
+unfoldable pub opened : (kept : ℕ) → List ℕ → Read job.Opened
+opened kept l = then (beginning kept l) (λ x q. ended x q)
 
 -- the tables hold them, and the cache is one with no slot made; where they are refused, the tables hold anything and the cache is as it was
 abbrev pub OpenedAs : Read job.Opened → Opened → (t f cache cache′ : List ℕ) → Type 0

@@ -17,16 +17,16 @@ enum-known-next : tie.Need-enum-known-next
 enum-known-next c = search needs
 
 returns : tie.Need-returns
-returns c = left-over _ _ _ _ _ (c .if1 .taken) (rw (c .before .before .next .given .1) at (c .before .before .before .before .read-beginning .ensures))
+returns c = left-over _ _ _ _ _ _ (c .if1 .taken) (rw (c .before .before .next .given .1) at (c .before .before .before .before .read-beginning .ensures))
 
 clear-requires : tie.Need-clear-requires
 clear-requires c κs = search needs
 
 returns-2 : tie.Need-returns-2
-returns-2 c = not-opened _ _ _ _ _ (rw (c .before .k .given .1) at (c .before .before .before .read-beginning .ensures))
+returns-2 c = not-opened _ _ _ _ _ _ (rw (c .before .k .given .1) at (c .before .before .before .read-beginning .ensures))
 
 returns-3 : tie.Need-returns-3
-returns-3 c = all-read _ _ _ _ _ _ (c .before .before .if1 .left) (rw (c .before .before .before .before .next .given .1) at (c .before .before .before .before .before .before .read-beginning .ensures)) (c .clear .ensures)
+returns-3 c = all-read _ _ _ _ _ _ _ (c .before .before .if1 .left) (rw (c .before .before .before .before .next .given .1) at (c .before .before .before .before .before .before .read-beginning .ensures)) (c .clear .ensures)
 
 pub open-spec : {M : Type 1} → statement M
 open-spec =

@@ -17,11 +17,11 @@ enum-known-k : tie.Need-enum-known-k
 enum-known-k c = search needs
 
 returns : tie.Need-returns
-returns c = let a = c .before .before .before .before .before .before .before .args in opened _ _ (a .cache .now) _ (calls.opened (a .bytes .now)) (rw (c .enum-told .given .1) at (c .before .before .open .ensures))
+returns c = let a = c .before .before .before .before .before .before .before .args in opened _ _ (a .cache .now) _ (calls.opened (a .kept-evictions) (a .bytes .now)) (rw (c .enum-told .given .1) at (c .before .before .open .ensures))
 
 returns-2 : tie.Need-returns-2
-returns-2 c = let a = c .before .before .before .before .before .before .before .before .args in not-opened _ _ (a .cache .now) _ (calls.opened (a .bytes .now)) _ (rw (c .before .k .given .1) at (c .before .before .before .open .ensures))
+returns-2 c = let a = c .before .before .before .before .before .before .before .before .args in not-opened _ _ (a .cache .now) _ (calls.opened (a .kept-evictions) (a .bytes .now)) _ (rw (c .before .k .given .1) at (c .before .before .before .open .ensures))
 
-pub parallel-moves-open-3-spec : {M : Type 1} → statement M
-parallel-moves-open-3-spec =
+pub parallel-moves-open-4-spec : {M : Type 1} → statement M
+parallel-moves-open-4-spec =
     tie.close (tie.spec open-requires enum-told enum-known-k returns returns-2)

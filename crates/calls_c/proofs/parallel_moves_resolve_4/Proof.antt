@@ -32,7 +32,7 @@ same-length-2 c = search needs
 returns-2 : tie.Need-returns-2
 returns-2 c = let a = c .before .before .before .before .before .before .before .before .before .before .before .before .before .before .before .before .before .before .before .before .args in (gave-number (a .function .now) (a .position .now) (a .list .now) _ (a .cache .now) _ (callOf (regInfoOf (a .target .now)) (functionOf (a .function .now)) (a .free .now) (a .numbers .now) (length (a .list .now)) (cacheOf (a .cache .now))) _ (rw (c .before .number .given .1) at (c .before .before .before .before .before .resolve .ensures .0)), search needs)
 
-pub parallel-moves-resolve-3-spec : {M : Type 1} → statement M
-parallel-moves-resolve-3-spec =
+pub parallel-moves-resolve-4-spec : {M : Type 1} → statement M
+parallel-moves-resolve-4-spec =
     tie.close
     (tie.spec resolve-requires enum-known-count enum-known-number same-length returns same-length-2 returns-2)
