@@ -139,9 +139,9 @@ value-less t l =
     (λ b r p. tested-then _ r _ _ _
     (λ cost q o. either (eqb cost 0) _ _ _ _ (omega arith) (tested-then _ q _ _ _ (λ c j k. either (eqb (bankForClass t c) b) _ _ _ _ (omega arith) tt))))
 
-pub function-less : (t : RegInfo) (l : List ℕ) → Less l (function t l)
+pub function-less : (t : RegInfo) (kept : ℕ) (l : List ℕ) → Less l (function t kept l)
 unfolding function valued
-function-less t l =
+function-less t kept l =
     tested-then _ l _ _ _
     (λ n r p. tested-then _ r _ _ _
     (λ slots q o. tested-then _ q _ _ _

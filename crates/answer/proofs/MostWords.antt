@@ -28,7 +28,7 @@ use Rattle.job_function.specs.Reads.{function}
 use Rattle.job_function.proofs.Accepted.{then-got, tested-got, read-accepted}
 use Rattle.job_patch.specs.Patches.{patch}
 use Rattle.job.specs.Job.{Header, before, afterRead, afterCall, afterTarget, header, opening, patches, job}
-use Rattle.job.proofs.WasRead.{unless-got, given-got}
+use Rattle.job.proofs.WasRead.{early-got, given-got}
 use Rattle.job.proofs.Room.{room-for-every}
 use Rattle.answer.specs.Room.{wordsTaken, callIn, patchesIn, jobIn, mostWords, MostWords}
 use Rattle.answer.proofs.Bytes.{Leaves, leaves-got, target-less, function-less, tested-less, patch-leaves}
@@ -79,37 +79,37 @@ pub record Opens (l : List ℕ) (h : Header) (r : List ℕ) : Type 0 where
   pub short : length l ≤ 65536
   pub fewer : 2 * length r ≤ 2 * length l
 
-pub opens : (l : List ℕ) (h : Header) (r : List ℕ) → opening l ≡ got h r → Opens l h r
+pub opens : (kept : ℕ) (l : List ℕ) (h : Header) (r : List ℕ) → opening kept l ≡ got h r → Opens l h r
 unfolding opening header afterTarget
-opens l h r e =
-    let a = unless-got (ltb 65536 (length l)) 2 (header l) h r e in
-    let b = then-got (target l) _ h r (a .1) in
-    let c = given-got (targetRefusal (b .0)) (afterTarget (b .0) (b .1)) h r (b .3) in
-    let d = then-got (function (b .0) (b .1)) _ h r (c .1) in
+opens kept l h r e =
+    let a = early-got kept l (header kept l) h r e in
+    let b = then-got (target l) _ h r (a .2) in
+    let c = given-got (targetRefusal (b .0)) (afterTarget (b .0) kept (b .1)) h r (b .3) in
+    let d = then-got (function (b .0) kept (b .1)) _ h r (c .1) in
     let x = then-got (between 1 1024 (d .1)) _ h r (d .3) in
     let is : record { target = b .0; function = d .0; patches = x .0 } ≡ h = cc in
     let on : x .1 ≡ r = cc in
     let p = leaves-got (λ _. 0) (2 * length l) (target l) (b .0) (b .1) (target-less l) (b .2) in
-    let q = leaves-got (λ _. 0) (2 * length (b .1)) (function (b .0) (b .1)) (d .0) (d .1) (function-less (b .0) (b .1)) (d .2) in
+    let q = leaves-got (λ _. 0) (2 * length (b .1)) (function (b .0) kept (b .1)) (d .0) (d .1) (function-less (b .0) kept (b .1)) (d .2) in
     let u = tested-less (λ n. and (leb 1 n) (leb n 1024)) (d .1) (x .0) (x .1) (x .2) in
     let o : Opens l (record { target = b .0; function = d .0; patches = x .0 }) (x .1) =
     record {
       target-taken = c .0;
-      function-taken = read-accepted (b .0) (b .1) (d .0) (d .1) (d .2);
+      function-taken = read-accepted (b .0) kept (a .0) (b .1) (d .0) (d .1) (d .2);
       few = leb-true (x .0) 1024 (and-true (leb 1 (x .0)) (leb (x .0) 1024) (tested-got (λ n. and (leb 1 n) (leb n 1024)) (d .1) (x .0) (x .1) (x .2)) .1);
-      short = ltb-false 65536 (length l) (a .0);
+      short = ltb-false 65536 (length l) (a .1);
       fewer = omega arith;
     } in
     subst (λ (q : List ℕ). Opens l h q) on (subst (λ (y : Header). Opens l y (x .1)) is o)
 
 pub most-words : MostWords
 unfolding jobIn job
-most-words room h l = go (opening l) refl
+most-words room h kept l = go (opening kept l) refl
   where
-    go : (x : Read Header) → opening l ≡ x
+    go : (x : Read Header) → opening kept l ≡ x
         → afterRead x (λ h r. patchesIn (h .target) (h .function) (h .patches) emptyCache room r)
         ≡ afterRead x (λ h r. patches (h .target) (h .function) (h .patches) emptyCache r)
     go (refused k) e = refl
     go (got x r) e =
-        let o = opens l x r e in
+        let o = opens kept l x r e in
         same (x .target) (x .function) (o .target-taken) (o .function-taken) (x .patches) emptyCache room r (omega (arith, o .few, o .short, o .fewer))

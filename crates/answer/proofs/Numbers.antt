@@ -44,12 +44,16 @@ part : {A : Type 0} (a : List Condition) (x : Read A) (next : A → List ℕ →
 part a x next p h = both a (afterGot x next) p (after x next h)
 
 -- the least and the greatest of them
-pub table-bounds : (n : ℕ) → OfTable n → (1 ≤ n) × (n ≤ 21)
+pub table-bounds : (n : ℕ) → OfTable n → (1 ≤ n) × (n ≤ 22)
 table-bounds n h = go (and (leb 1 n) (leb n 17)) refl h
   where
-    go : (b : Bool) → and (leb 1 n) (leb n 17) ≡ b → or b (eqb n 21) ≡ true → (1 ≤ n) × (n ≤ 21)
+    beyond : (b : Bool) → eqb n 21 ≡ b → or b (eqb n 22) ≡ true → (1 ≤ n) × (n ≤ 22)
+    beyond true e q = let z : n ≡ 21 = eqb-true n 21 e in (omega arith, omega arith)
+    beyond false e q = let z : n ≡ 22 = eqb-true n 22 q in (omega arith, omega arith)
+
+    go : (b : Bool) → and (leb 1 n) (leb n 17) ≡ b → or b (or (eqb n 21) (eqb n 22)) ≡ true → (1 ≤ n) × (n ≤ 22)
     go true e q = let w = and-true (leb 1 n) (leb n 17) e in (leb-true 1 n (w .0), omega (arith, leb-true n 17 (w .1)))
-    go false e q = let z : n ≡ 21 = eqb-true n 21 q in (omega arith, omega arith)
+    go false e q = beyond (eqb n 21) refl q
 
 either : (b : Bool) (x y : List Condition) → Numbers x → Numbers y → Numbers (pick b x y)
 either true x y p q = p
@@ -193,18 +197,21 @@ module _ (t : RegInfo) (f : Function) where
       (λ p r. both (ofCall t f p c) _ (of-call p c) (after-resolved (resolve t f p 1024 c) _ (λ c′. in-patches n c′ r)))
 
 -- ---- the job
-in-opening : (l : List ℕ) → Numbers (inOpening l)
+in-opening : (kept : ℕ) (l : List ℕ) → Numbers (inOpening kept l)
 unfolding inOpening
-in-opening l = (
+in-opening kept l = (
   refl,
-  part (inTarget l) (target l) _ (in-target l)
-      (λ t r. both (ofTarget t) _ (of-target t)
-      (part (inFunction t r) (function t r) _ (in-function t r) (λ f q. in-tested _ q))),
+  (
+    refl,
+    part (inTarget l) (target l) _ (in-target l)
+        (λ t r. both (ofTarget t) _ (of-target t)
+        (part (inFunction t r) (function t kept r) _ (in-function t r) (λ f q. in-tested _ q))),
+  ),
 )
 
-in-job : (l : List ℕ) → Numbers (jobConditions l)
+in-job : (kept : ℕ) (l : List ℕ) → Numbers (jobConditions kept l)
 unfolding jobConditions
-in-job l = part (inOpening l) (opening l) _ (in-opening l) (λ h r. in-patches (h .target) (h .function) (h .patches) emptyCache r)
+in-job kept l = part (inOpening kept l) (opening kept l) _ (in-opening kept l) (λ h r. in-patches (h .target) (h .function) (h .patches) emptyCache r)
 
 at : (l : List Condition) (i : ℕ) → Numbers l → i < length l → OfTable (conditionAt l i .number)
 at [] i p h = absurd (omega arith)
@@ -212,6 +219,6 @@ at (c ∷ l) zero p h = p .0
 at (c ∷ l) (suc i) p h = at l i (p .1) (omega arith)
 
 pub numbered : Numbered
-numbered l n e =
-    let g = refusals l .given n .0 e in
-    subst OfTable (g .number) (at (jobConditions l) (g .at) (in-job l) (g .is))
+numbered kept l n e =
+    let g = refusals kept l .given n .0 e in
+    subst OfTable (g .number) (at (jobConditions kept l) (g .at) (in-job kept l) (g .is))

@@ -24,9 +24,9 @@ use Rattle.answer.specs.Whole.{Wholly}
 abbrev readAs : ℕ → Read Header → Answers
 readAs room x = afterRead x (λ h r. patchesIn (h .target) (h .function) (h .patches) emptyCache room r)
 
-opens : (room : ℕ) (s : List ℕ) → jobIn room s ≡ readAs room (opening s)
+opens : (room kept : ℕ) (s : List ℕ) → jobIn room kept s ≡ readAs room (opening kept s)
 unfolding jobIn
-opens room s = refl
+opens room kept s = refl
 
 header-refused : (room : ℕ) (s t f : List ℕ) (k : ℕ) (x : Read Header) → HeaderAt s x (N.Refused k) t f → readAs room x ≡ endsWith (some k)
 header-refused room s t f k (refused j) h = let e : k ≡ j = cc in ap (λ (n : ℕ). endsWith (some n)) (sym e)
@@ -36,10 +36,10 @@ none-told : (words : List ℕ) (k : ℕ) → Wholly words (endsWith (some k)) (R
 unfolding wordsOf
 none-told words k = record { is = refl; fits = omega arith; stands = refl; packed = tt }
 
-pub turned-away : (s t f words : List ℕ) (k : ℕ) → HeaderAt s (opening s) (N.Refused k) t f → Wholly words (jobIn (length words) s) (Refused k 0) words
-turned-away s t f words k h = rw (opens (length words) s, header-refused (length words) s t f k (opening s) h) (none-told words k)
+pub turned-away : (kept : ℕ) (s t f words : List ℕ) (k : ℕ) → HeaderAt s (opening kept s) (N.Refused k) t f → Wholly words (jobIn (length words) kept s) (Refused k 0) words
+turned-away kept s t f words k h = rw (opens (length words) kept s, header-refused (length words) s t f k (opening kept s) h) (none-told words k)
 
-module _ (s t f : List ℕ) (count at : ℕ) where
+module _ (kept : ℕ) (s t f : List ℕ) (count at : ℕ) where
   header-known : (x : Read Header) → HeaderAt s x (N.Is count at) t f → Checked t f
   header-known (refused j) h = absurd (let z : _≡_ {A = ℕ} 0 1 = cc in omega arith)
   header-known (got x r) h = h .6
@@ -51,12 +51,12 @@ module _ (s t f : List ℕ) (count at : ℕ) where
       let a : at ≡ h .0 = cc in
       rw (n, a, h .2, h .4, h .5)
 
-  pub known : HeaderAt s (opening s) (N.Is count at) t f → Checked t f
-  known h = header-known (opening s) h
+  pub known : HeaderAt s (opening kept s) (N.Is count at) t f → Checked t f
+  known h = header-known (opening kept s) h
 
-  pub all-answered : (words cache words′ : List ℕ) (r : Whole) → HeaderAt s (opening s) (N.Is count at) t f → Cleared cache
-      → Wholly words (patchesIn (regInfoOf t) (functionOf f) count (cacheOf cache) (length words) (drop at s)) r words′ → Wholly words (jobIn (length words) s) r words′
+  pub all-answered : (words cache words′ : List ℕ) (r : Whole) → HeaderAt s (opening kept s) (N.Is count at) t f → Cleared cache
+      → Wholly words (patchesIn (regInfoOf t) (functionOf f) count (cacheOf cache) (length words) (drop at s)) r words′ → Wholly words (jobIn (length words) kept s) r words′
   all-answered words cache words′ r h c w =
-      let e : patchesIn (regInfoOf t) (functionOf f) count (cacheOf cache) (length words) (drop at s) ≡ jobIn (length words) s =
-      ap (λ (k : Cache). patchesIn (regInfoOf t) (functionOf f) count k (length words) (drop at s)) (c .empty) ∙ sym (opens (length words) s ∙ header-read (length words) (opening s) h) in
+      let e : patchesIn (regInfoOf t) (functionOf f) count (cacheOf cache) (length words) (drop at s) ≡ jobIn (length words) kept s =
+      ap (λ (k : Cache). patchesIn (regInfoOf t) (functionOf f) count k (length words) (drop at s)) (c .empty) ∙ sym (opens (length words) kept s ∙ header-read (length words) (opening kept s) h) in
       subst (λ (a : Answers). Wholly words a r words′) e w

@@ -5,7 +5,6 @@ use mathlib.Core.List.{List, [], _∷_, _++_}
 use mathlib.Core.Option.{Option, none, some}
 use native.Mathlib.Omega.{arith}
 use borrow.Author.Tests.{leb-true}
-use lib.Dec.{ltb}
 use lib.ListN.{length, length-append}
 use Rattle.entity.proofs.Laws.{and-true}
 use Rattle.reginfo.specs.RegInfo.{RegInfo}
@@ -21,7 +20,7 @@ use Rattle.job_function.specs.Reads.{function}
 use Rattle.job_function.proofs.Accepted.{then-got, tested-got}
 use Rattle.job_patch.specs.Patches.{patch}
 use Rattle.job.specs.Job.{Header, Done, Answers, afterRead, afterCall, afterTarget, header, opening, patches, job}
-use Rattle.job.proofs.WasRead.{unless-got, given-got}
+use Rattle.job.proofs.WasRead.{early-got, given-got}
 use Rattle.answer_text.specs.Lines.{refusalText}
 use Rattle.answer.specs.Words.{numberOf, doneText, OfTable, SomePrinted}
 use Rattle.answer.proofs.Numbers.{table-bounds, numbered}
@@ -44,20 +43,20 @@ some-patch t f zero c l h = absurd (omega arith)
 some-patch t f (suc n) c l h = after-read (patch t f l) _ (λ p r e. after-call (resolve t f p 1024 c) _)
 
 -- "patch count 1 to 1,024"
-counted : (l : List ℕ) (h : Header) (r : List ℕ) → opening l ≡ got h r → 1 ≤ h .patches
+counted : (kept : ℕ) (l : List ℕ) (h : Header) (r : List ℕ) → opening kept l ≡ got h r → 1 ≤ h .patches
 unfolding opening header afterTarget
-counted l h r e =
-    let a = unless-got (ltb 65536 (length l)) 2 (header l) h r e in
-    let b = then-got (target l) _ h r (a .1) in
-    let c = given-got (targetRefusal (b .0)) (afterTarget (b .0) (b .1)) h r (b .3) in
-    let d = then-got (function (b .0) (b .1)) _ h r (c .1) in
+counted kept l h r e =
+    let a = early-got kept l (header kept l) h r e in
+    let b = then-got (target l) _ h r (a .2) in
+    let c = given-got (targetRefusal (b .0)) (afterTarget (b .0) kept (b .1)) h r (b .3) in
+    let d = then-got (function (b .0) kept (b .1)) _ h r (c .1) in
     let x = then-got (between 1 1024 (d .1)) _ h r (d .3) in
     let is : record { target = b .0; function = d .0; patches = x .0 } ≡ h = cc in
     rw (← is) (leb-true 1 (x .0) (and-true _ _ (tested-got _ (d .1) (x .0) (x .1) (x .2)) .0))
 
-job-some : (l : List ℕ) → Some (job l)
+job-some : (kept : ℕ) (l : List ℕ) → Some (job kept l)
 unfolding job
-job-some l = after-read (opening l) _ (λ h r e. some-patch (h .target) (h .function) (h .patches) emptyCache r (counted l h r e))
+job-some kept l = after-read (opening kept l) _ (λ h r e. some-patch (h .target) (h .function) (h .patches) emptyCache r (counted kept l h r e))
 
 done-line : (d : List Done) → 0 < length d → 0 < length (doneText 1 d)
 unfolding doneText
@@ -73,4 +72,4 @@ some-line d none s h = rw (length-append (doneText 1 d) (refusalText 0)) (omega 
 some-line d (some n) s h = rw (length-append (doneText 1 d) (refusalText n)) (omega (arith, refusal-line n (table-bounds n (h n refl) .0)))
 
 pub some-printed : SomePrinted
-some-printed l = some-line (job l .done) (job l .refusal) (job-some l) (numbered l)
+some-printed kept l = some-line (job kept l .done) (job kept l .refusal) (job-some kept l) (numbered kept l)

@@ -54,9 +54,9 @@ module _ (t : RegInfo) (f : Function) where
     pub given : (n : ℕ) → (callIn p left c ≡ refused n) ↔ Given (conditionsIn p left c) n
     pub taken : ((es : List Edit) × (c′ : Cache) × (n : ℕ) × (callIn p left c ≡ resolved es c′ n)) ↔ NoneHolds (conditionsIn p left c)
 
--- a whole job, answered into `room` words
-unfoldable pub jobIn : (room : ℕ) → List ℕ → Answers
-jobIn room l = afterRead (opening l) (λ h r. patchesIn (h .target) (h .function) (h .patches) emptyCache room r)
+-- a whole job of a function with `kept` kept evictions, answered into `room` words
+unfoldable pub jobIn : (room kept : ℕ) → List ℕ → Answers
+jobIn room kept l = afterRead (opening kept l) (λ h r. patchesIn (h .target) (h .function) (h .patches) emptyCache room r)
 
 -- as many words are enough for every job: "a move has at least 4 bytes of the job and at most 8 edits, a rebuild 3 and 5, and there are 1,024
 -- patches" (c/parallel_moves.h), each with its head
@@ -64,4 +64,4 @@ abbrev pub mostWords : ℕ
 mostWords = 2 * 65536 + 1024
 
 abbrev pub MostWords : Type 0
-MostWords = (room : ℕ) → mostWords ≤ room → (l : List ℕ) → jobIn room l ≡ job l
+MostWords = (room : ℕ) → mostWords ≤ room → (kept : ℕ) (l : List ℕ) → jobIn room kept l ≡ job kept l

@@ -47,14 +47,14 @@ AllPacked (d ∷ l) = Packed d × AllPacked l
 abbrev pub JobPrinted : Type 0
 JobPrinted = (a : Answers) → AllPacked (a .done) → answerText (wordsOf (a .done)) (numberOf (a .refusal)) ≡ jobText a
 
--- 01, Refused jobs: the numbers of the table; 02 h: 21
+-- 01, Refused jobs: the numbers of the table; 02 h: 21; 02 i: 22
 abbrev pub OfTable : ℕ → Type 0
-OfTable n = or (and (leb 1 n) (leb n 17)) (eqb n 21) ≡ true
+OfTable n = or (and (leb 1 n) (leb n 17)) (or (eqb n 21) (eqb n 22)) ≡ true
 
--- a job is refused by one of them
+-- a job is refused by one of them, whatever the setting
 abbrev pub Numbered : Type 0
-Numbered = (l : List ℕ) (n : ℕ) → job l .refusal ≡ some n → OfTable n
+Numbered = (kept : ℕ) (l : List ℕ) (n : ℕ) → job kept l .refusal ≡ some n → OfTable n
 
 -- every job has a line: that of a patch, or of its refusal
 abbrev pub SomePrinted : Type 0
-SomePrinted = (l : List ℕ) → 0 < length (jobText (job l))
+SomePrinted = (kept : ℕ) (l : List ℕ) → 0 < length (jobText (job kept l))

@@ -6,12 +6,13 @@ use mathlib.Core.List.{List, [], _∷_}
 use mathlib.Core.Option.{Option, none, some}
 use native.Mathlib.Omega.{arith}
 use lib.Dec.{eqb, ltb, leb}
-use lib.ListN.{drop}
-use Rattle.entity.specs.Logic.{pick}
+use lib.ListN.{length, drop}
+use Rattle.entity.specs.Logic.{pick, no}
 use Rattle.entity.specs.Place.{Place, placeAt}
+use Rattle.entity.proofs.Laws.{no-false}
 use Rattle.reginfo.specs.RegInfo.{RegInfo}
 use Rattle.reginfo.specs.Refused.{firstOf}
-use Rattle.function.specs.Function.{Function, numValues}
+use Rattle.function.specs.Function.{Function, numValues, isSetting}
 use Rattle.rules.specs.Scratch.{Cache}
 use Rattle.rules.specs.Patch.{Entry, move, remat, Patch, Sorted, nothingSorted, namesPlace, entryConditions, add, sorted, resolveSorted, resolve}
 use Rattle.rules.specs.Refusals.{entriesConditions}
@@ -21,6 +22,7 @@ use Rattle.reading.specs.Reading.{below}
 use Rattle.parallel_moves.proofs.First.{first-append, resolve-first}
 use Rattle.job_function.proofs.Accepted.{then-got, pick-got, tested-got}
 use Rattle.job_patch.specs.Patches.{unlessGiven, rising, place, entry, entries, patch}
+use Rattle.job.specs.Job.{unlessEarly}
 
 never : {A B : Type 0} {a : A} {r : List ℕ} {k : ℕ} → refused k ≡ got a r → B
 never e = let z : _≡_ {A = ℕ} 0 1 = cc in absurd (omega arith)
@@ -28,6 +30,13 @@ never e = let z : _≡_ {A = ℕ} 0 1 = cc in absurd (omega arith)
 pub unless-got : {A : Type 0} (b : Bool) (k : ℕ) (d : Read A) (y : A) (q : List ℕ) → pick b (refused k) d ≡ got y q → (b ≡ false) × (d ≡ got y q)
 unless-got true k d y q e = never e
 unless-got false k d y q e = (refl, e)
+
+-- with a setting of one or two, and of no more than 65,536 bytes
+pub early-got : {A : Type 0} (kept : ℕ) (l : List ℕ) (d : Read A) (y : A) (q : List ℕ) → unlessEarly kept l d ≡ got y q → (isSetting kept ≡ true) × (ltb 65536 (length l) ≡ false) × (d ≡ got y q)
+early-got kept l d y q e =
+    let a = unless-got (no (isSetting kept)) 22 _ y q e in
+    let b = unless-got (ltb 65536 (length l)) 2 d y q (a .1) in
+    (no-false (isSetting kept) (a .0), b .0, b .1)
 
 pub given-got : {A : Type 0} (o : Option ℕ) (d : Read A) (y : A) (q : List ℕ) → unlessGiven o d ≡ got y q → (o ≡ none) × (d ≡ got y q)
 given-got none d y q e = (refl, e)

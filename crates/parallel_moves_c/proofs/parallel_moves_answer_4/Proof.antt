@@ -21,16 +21,16 @@ same-length : tie.Need-same-length
 same-length c = search needs
 
 returns : tie.Need-returns
-returns c = let p = c .before .before .before .before .before .answer-job in (answered (c .before .before .before .before .before .before .before .before .before .before .before .before .before .before .before .before .before .before .before .before .before .before .args .words .now) (jobIn (length (c .before .before .before .before .before .before .before .before .before .before .before .before .before .before .before .before .before .before .before .before .before .before .args .words .now)) (c .before .before .before .before .before .before .before .before .before .before .before .before .before .before .before .before .before .before .before .before .before .before .args .bytes .now)) (p .last .1 .0) _ (rw (c .before .n .given .1) at (p .ensures .0)), (tt, tt, tt, tt, tt, tt, tt, tt, tt, tt, tt, tt, tt))
+returns c = let p = c .before .before .before .before .before .answer-job in let a = c .before .before .before .before .before .before .before .before .before .before .before .before .before .before .before .before .before .before .before .before .before .before .args in (answered (a .words .now) (jobIn (length (a .words .now)) (a .kept-evictions) (a .bytes .now)) (p .last .1 .1 .0) _ (rw (c .before .n .given .1) at (p .ensures .0)), (tt, tt, tt, tt, tt, tt, tt, tt, tt, tt, tt, tt, tt))
 
 same-length-2 : tie.Need-same-length-2
 same-length-2 c = search needs
 
 returns-2 : tie.Need-returns-2
-returns-2 c = let p = c .before .before .before .before .before .answer-job in (refused (c .before .before .before .before .before .before .before .before .before .before .before .before .before .before .before .before .before .before .before .before .before .before .args .words .now) (jobIn (length (c .before .before .before .before .before .before .before .before .before .before .before .before .before .before .before .before .before .before .before .before .before .before .args .words .now)) (c .before .before .before .before .before .before .before .before .before .before .before .before .before .before .before .before .before .before .before .before .before .before .args .bytes .now)) (p .last .1 .0) _ _ (rw (c .before .k .given .1) at (p .ensures .0)), (tt, tt, tt, tt, tt, tt, tt, tt, tt, tt, tt, tt, tt))
+returns-2 c = let p = c .before .before .before .before .before .answer-job in let a = c .before .before .before .before .before .before .before .before .before .before .before .before .before .before .before .before .before .before .before .before .before .before .args in (refused (a .words .now) (jobIn (length (a .words .now)) (a .kept-evictions) (a .bytes .now)) (p .last .1 .1 .0) _ _ (rw (c .before .k .given .1) at (p .ensures .0)), (tt, tt, tt, tt, tt, tt, tt, tt, tt, tt, tt, tt, tt))
 
-pub parallel-moves-answer-3-spec : {M : Type 1} → statement M
-parallel-moves-answer-3-spec =
+pub parallel-moves-answer-4-spec : {M : Type 1} → statement M
+parallel-moves-answer-4-spec =
     tie.close
     (tie.spec
     answer-job-requires
