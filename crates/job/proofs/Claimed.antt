@@ -87,7 +87,7 @@ module _ (kept : ℕ) (set : isSetting kept ≡ true) where
     where
       go : (x : Read Function) → function t kept l ≡ x → RightFrom (then x (λ f q. then (between 1 1024 q) (λ n p. got (record { target = t; function = f; patches = n }) p)))
       go (refused k) e = (refl, refl)
-      go (got f q) e = counted t f (demand-3 t f ok (read-accepted t kept set l f q e)) (between 1 1024 q)
+      go (got f q) e = counted t f (demand-3 t f ok (read-accepted t kept set l f q e .0)) (between 1 1024 q)
 
   targets : (x : Read RegInfo) → RightFrom (then x (λ t r. unlessGiven (targetRefusal t) (afterTarget t kept r)))
   targets (refused k) = (refl, refl)

@@ -42,7 +42,7 @@ function-read : (kept : ℕ) → isSetting kept ≡ true → (s t f : List ℕ) 
 unfolding withFunction
 function-read kept set s t f at (X.Refused k) ok index h = rw (← h .reads) (refl, tt, tt)
 function-read kept set s t f at (X.At next) ok index h =
-    let known : Checked t f = record { target = ok; indexed = index; function = read-accepted (regInfoOf t) kept set (drop at s) (functionOf f) (drop next s) (sym (h .reads)) } in
+    let known : Checked t f = record { target = ok; indexed = index; function = read-accepted (regInfoOf t) kept set (drop at s) (functionOf f) (drop next s) (sym (h .reads)) .0 } in
     rw (← h .reads) (next, refl, refl, h .onward .1, refl, refl, known)
 
 -- a target that is refused, and one that is not

@@ -1,4 +1,4 @@
--- What is read with a setting of one or two is an accepted function, whatever the target.
+-- What is read with a setting of one or two is an accepted function with that setting, whatever the target.
 use Prim.Native.Nat.{ℕ, zero, suc, _+_, _<_, _≤_}
 use mathlib.Core.Path.{_≡_, refl, sym, ap, subst}
 use mathlib.Core.Bool.{Bool, true, false}
@@ -96,8 +96,8 @@ module _ (t : RegInfo) where
   unfolding functionRefusal countsFit
   accepted kept n slots limit vs k a b c e s = rw (k, e, a, b, c) (none-refused (record { values = vs; slots = slots; limit = limit; kept = kept }) (λ v h. s v (omega arith)) 0 n (omega arith))
 
-  got-accepted : (g f : Function) (l r : List ℕ) → got g l ≡ got f r → Accepted t g → Accepted t f
-  got-accepted g f l r e a = let is : g ≡ f = cc in subst (λ (x : Function). Accepted t x) is a
+  got-accepted : (g f : Function) (l r : List ℕ) → got g l ≡ got f r → Accepted t g → Accepted t f × (f .kept ≡ g .kept)
+  got-accepted g f l r e a = let is : g ≡ f = cc in subst (λ (x : Function). Accepted t x × (x .kept ≡ g .kept)) is (a, refl)
 
 pub read-accepted : ReadAccepted
 unfolding function valued
@@ -116,5 +116,5 @@ read-accepted t kept k l f r e =
 -- what `read_function` leaves in the table, for whoever reads on
 pub function-next : (t : List ℕ) (kept : ℕ) → isSetting kept ≡ true → (s : List ℕ) (at : ℕ) (f : List ℕ) (r : Next) → FunctionRead t kept s at f r → NextAt (function (regInfoOf t) kept) s at (functionOf f) (Accepted (regInfoOf t) (functionOf f)) r
 function-next t kept k s at f (X.the-variants.At next) h =
-    record { reads = h .reads; past = (omega (arith, h .onward .0), (λ _. h .onward .1), read-accepted (regInfoOf t) kept k (drop at s) (functionOf f) (drop next s) (sym (h .reads))) }
+    record { reads = h .reads; past = (omega (arith, h .onward .0), (λ _. h .onward .1), read-accepted (regInfoOf t) kept k (drop at s) (functionOf f) (drop next s) (sym (h .reads)) .0) }
 function-next t kept k s at f (X.the-variants.Refused m) h = record { reads = h .reads; past = tt }

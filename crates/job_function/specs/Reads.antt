@@ -28,6 +28,6 @@ valued t kept n slots limit l = then (times n (value t) l) (λ vs r. got (record
 unfoldable pub function : RegInfo → (kept : ℕ) → List ℕ → Read Function
 function t kept l = then (between 0 4096 l) (λ n r. then (between 0 4096 r) (λ slots q. then (between 0 2048 q) (λ limit p. valued t kept n slots limit p)))
 
--- what is read with a setting of one or two is an accepted function, whatever the target
+-- what is read with a setting of one or two is an accepted function with that setting, whatever the target
 abbrev pub ReadAccepted : Type 0
-ReadAccepted = (t : RegInfo) (kept : ℕ) → isSetting kept ≡ true → (l : List ℕ) (f : Function) (r : List ℕ) → function t kept l ≡ got f r → Accepted t f
+ReadAccepted = (t : RegInfo) (kept : ℕ) → isSetting kept ≡ true → (l : List ℕ) (f : Function) (r : List ℕ) → function t kept l ≡ got f r → Accepted t f × (f .kept ≡ kept)

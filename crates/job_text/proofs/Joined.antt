@@ -8,12 +8,12 @@ use Rattle.job.specs.Job.{job}
 use Rattle.answer.specs.Words.{jobText}
 use Rattle.job_text.specs.Joined.{Made, Wrote, joined, WholeText}
 
-from-there : (s : List ℕ) (l : List Made) (written : ℕ) → Wrote s l written (length (jobText (job s))) → joined l ≡ drop written (jobText (job s))
+from-there : (kept : ℕ) (s : List ℕ) (l : List Made) (written : ℕ) → Wrote kept s l written (length (jobText (job kept s))) → joined l ≡ drop written (jobText (job kept s))
 unfolding joined
-from-there s [] written h = rw h (sym (drop-length (jobText (job s))))
-from-there s (x ∷ l) written h =
+from-there kept s [] written h = rw h (sym (drop-length (jobText (job kept s))))
+from-there kept s (x ∷ l) written h =
     let n : ℕ = x .at .held in
-    rw (from-there s l (written + n) (h .2), h .1 .next, h .0, ← drop-drop n written (jobText (job s))) (take-append-drop n (drop written (jobText (job s))))
+    rw (from-there kept s l (written + n) (h .2), h .1 .next, h .0, ← drop-drop n written (jobText (job kept s))) (take-append-drop n (drop written (jobText (job kept s))))
 
 pub whole-text : WholeText
-whole-text s writes h = from-there s writes 0 h
+whole-text kept s writes h = from-there kept s writes 0 h

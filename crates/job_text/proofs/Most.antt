@@ -27,7 +27,7 @@ use Rattle.answer.proofs.MostWords.{opens}
 use Rattle.job_text.specs.Most.{WordsFit, TextFits}
 
 -- ---- lines
-refusal-short : (k : ℕ) → k ≤ 21 → length (refusalText k) ≤ 36
+refusal-short : (k : ℕ) → k ≤ 22 → length (refusalText k) ≤ 36
 refusal-short zero h = omega arith
 refusal-short (suc k) h = omega (arith, refused-short (suc k) (omega arith))
 
@@ -76,32 +76,32 @@ module _ (t : RegInfo) (f : Function) where
       omega (arith, h .0, text-more k d ds, patch-short k d (omega (arith, h .0)) (p .0), few-edits c l d x, short-text ds o (n - 1) (x .after) (x .rest) (k + 1) (omega (arith, h .0)) (p .1) (h .2))
 
 -- ---- the whole job
-refusal-fits : (l : List ℕ) (o : Option ℕ) → job l .refusal ≡ o → length (refusalText (numberOf o)) ≤ 36
-refusal-fits l none e = omega arith
-refusal-fits l (some k) e = refusal-short k (table-bounds k (numbered l k e) .1)
+refusal-fits : (kept : ℕ) (l : List ℕ) (o : Option ℕ) → job kept l .refusal ≡ o → length (refusalText (numberOf o)) ≤ 36
+refusal-fits kept l none e = omega arith
+refusal-fits kept l (some k) e = refusal-short k (table-bounds k (numbered kept l k e) .1)
 
-module _ (l : List ℕ) where
+module _ (kept : ℕ) (l : List ℕ) where
   abbrev done : List Done
-  done = job l .done
+  done = job kept l .done
 
-  all-words : (x : Read Header) → opening l ≡ x → Opened x (job l) → length (wordsOf done) ≤ 2 * 65536 + 1024
+  all-words : (x : Read Header) → opening kept l ≡ x → Opened x (job kept l) → length (wordsOf done) ≤ 2 * 65536 + 1024
   unfolding wordsOf
   all-words (refused k) e h = rw (h .0) (omega arith)
   all-words (got x r) e h =
-      let j = opens l x r e in
-      omega (arith, j .few, j .short, j .fewer, few-words (x .target) (x .function) done (job l .refusal) (x .patches) emptyCache r h)
+      let j = opens kept l x r e in
+      omega (arith, j .few, j .short, j .fewer, few-words (x .target) (x .function) done (job kept l .refusal) (x .patches) emptyCache r h)
 
-  all-text : (x : Read Header) → opening l ≡ x → Opened x (job l) → AllPacked done → length (doneText 1 done) ≤ 19 * (2 * 65536) + 36 * 1024
+  all-text : (x : Read Header) → opening kept l ≡ x → Opened x (job kept l) → AllPacked done → length (doneText 1 done) ≤ 19 * (2 * 65536) + 36 * 1024
   unfolding doneText
   all-text (refused k) e h p = rw (h .0) (omega arith)
   all-text (got x r) e h p =
-      let j = opens l x r e in
-      omega (arith, j .few, j .short, j .fewer, short-text (x .target) (x .function) done (job l .refusal) (x .patches) emptyCache r 1 (omega (arith, j .few)) p h)
+      let j = opens kept l x r e in
+      omega (arith, j .few, j .short, j .fewer, short-text (x .target) (x .function) done (job kept l .refusal) (x .patches) emptyCache r 1 (omega (arith, j .few)) p h)
 
 pub words-fit : WordsFit
-words-fit l = all-words l (opening l) refl (every-job l)
+words-fit kept l = all-words kept l (opening kept l) refl (every-job kept l)
 
 pub text-fits : TextFits
-text-fits l p =
-    rw (length-append (doneText 1 (job l .done)) (refusalText (numberOf (job l .refusal))))
-    (omega (arith, all-text l (opening l) refl (every-job l) p, refusal-fits l (job l .refusal) refl))
+text-fits kept l p =
+    rw (length-append (doneText 1 (job kept l .done)) (refusalText (numberOf (job kept l .refusal))))
+    (omega (arith, all-text kept l (opening kept l) refl (every-job kept l) p, refusal-fits kept l (job kept l .refusal) refl))

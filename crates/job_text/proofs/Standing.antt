@@ -75,8 +75,8 @@ module _ (t f s cache out : List ℕ) (p : Progress) (e : p .ended ≡ false) wh
   ends-here h = going-on ∙ ap (λ (n : ℕ). textFrom (p .k) (rest t f s (p .at) cache n)) h ∙ over (p .k) (drop (p .at) s)
 
   -- nothing is to come once the rest is put
-  module _ (h : Stands t f s cache out p) where
-    pub ended-stands : (t′ f′ cache′ out′ text : List ℕ) (r : Progress) → toCome t f s cache p ≡ text → Ends p r → Put out out′ (p .held) text (r .held) → Stands t′ f′ s cache′ out′ r
+  module _ (kept : ℕ) (h : Stands kept t f s cache out p) where
+    pub ended-stands : (t′ f′ cache′ out′ text : List ℕ) (r : Progress) → toCome t f s cache p ≡ text → Ends p r → Put out out′ (p .held) text (r .held) → Stands kept t′ f′ s cache′ out′ r
     ended-stands t′ f′ cache′ out′ text r q x w =
         let g = h .going e in
         record {
@@ -99,7 +99,7 @@ module _ (t f s cache out : List ℕ) (p : Progress) (e : p .ended ≡ false) wh
       lines made m = let q : made ≡ g .done .made = m ∙ g .made in rw q (text-there (p .k) (take count list′) (g .done .edits) (g .done .made) (record { are = g .listed; in-range = g .ranged }))
 
       pub next-stands : (made held : ℕ) (out′ : List ℕ) → held ≤ p .held + 20480 → made ≡ cacheOf cache′ .made → Put out out′ (p .held) (wordsText (p .k) (take count list′) made) held
-          → Stands t f s cache′ out′ (record { at = next; left = p .left - 1; k = p .k + 1; written = p .written; held = held; ended = false })
+          → Stands kept t f s cache′ out′ (record { at = next; left = p .left - 1; k = p .k + 1; written = p .written; held = held; ended = false })
       next-stands made held out′ b m w =
           let j = h .going e in
           record {
@@ -109,34 +109,34 @@ module _ (t f s cache out : List ℕ) (p : Progress) (e : p .ended ≡ false) wh
             within = h .within;
             room = put-room w;
             short = omega (arith, j .few, j .short);
-            going = λ _. record { checked = j .checked; cached = g .cached; few = omega (arith, j .few); short = omega (arith, j .short) };
+            going = λ _. record { checked = j .checked; setting = j .setting; cached = g .cached; few = omega (arith, j .few); short = omega (arith, j .short) };
           }
 
 -- ---- what the buffer holds
-module _ (t f s cache out : List ℕ) (p : Progress) (h : Stands t f s cache out p) where
+module _ (kept : ℕ) (t f s cache out : List ℕ) (p : Progress) (h : Stands kept t f s cache out p) where
   many : length (take (p .held) out) ≡ p .held
   many = length-take-le (p .held) out (h .room)
 
-  enough : p .written + p .held ≤ length (jobText (job s))
+  enough : p .written + p .held ≤ length (jobText (job kept s))
   enough =
-      let l : length (jobText (job s)) - p .written ≡ p .held + length (toCome t f s cache p) =
-      sym (length-drop (p .written) (jobText (job s))) ∙ rw (h .text, length-append (take (p .held) out) (toCome t f s cache p), many) in
+      let l : length (jobText (job kept s)) - p .written ≡ p .held + length (toCome t f s cache p) =
+      sym (length-drop (p .written) (jobText (job kept s))) ∙ rw (h .text, length-append (take (p .held) out) (toCome t f s cache p), many) in
       omega (arith, h .within)
 
-  pub piece : Piece s out p
+  pub piece : Piece kept s out p
   piece = record { next = rw (h .text) (sym (take-at (take (p .held) out) (toCome t f s cache p) (p .held) many)); room = h .room; within = enough; short = h .short }
 
-  pub written-stands : Stands t f s cache out (writtenOut p)
+  pub written-stands : Stands kept t f s cache out (writtenOut p)
   written-stands =
       record {
-        text = sym (drop-drop (p .held) (p .written) (jobText (job s))) ∙ rw (h .text) (drop-at (take (p .held) out) (toCome t f s cache p) (p .held) many);
+        text = sym (drop-drop (p .held) (p .written) (jobText (job kept s))) ∙ rw (h .text) (drop-at (take (p .held) out) (toCome t f s cache p) (p .held) many);
         within = enough;
         room = omega arith;
         short = omega (arith, h .short);
-        going = λ e. let g = h .going e in record { checked = g .checked; cached = g .cached; few = g .few; short = omega (arith, g .short) };
+        going = λ e. let g = h .going e in record { checked = g .checked; setting = g .setting; cached = g .cached; few = g .few; short = omega (arith, g .short) };
       }
 
-  pub all-written : p .ended ≡ true → p .held ≡ 0 → p .written ≡ length (jobText (job s))
+  pub all-written : p .ended ≡ true → p .held ≡ 0 → p .written ≡ length (jobText (job kept s))
   all-written e z =
-      let l : length (jobText (job s)) - p .written ≡ 0 = sym (length-drop (p .written) (jobText (job s))) ∙ rw (h .text, z, e) in
+      let l : length (jobText (job kept s)) - p .written ≡ 0 = sym (length-drop (p .written) (jobText (job kept s))) ∙ rw (h .text, z, e) in
       omega (arith, h .within)

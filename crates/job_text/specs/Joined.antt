@@ -14,9 +14,9 @@ pub record Made : Type 0 where
   pub at : Progress
 
 -- each wrote what follows on those before it, the last up to `end`
-abbrev pub Wrote : List ℕ → List Made → ℕ → ℕ → Type 0
-Wrote s [] written end = written ≡ end
-Wrote s (x ∷ l) written end = (x .at .written ≡ written) × Piece s (x .out) (x .at) × Wrote s l (written + x .at .held) end
+abbrev pub Wrote : (kept : ℕ) → List ℕ → List Made → ℕ → ℕ → Type 0
+Wrote kept s [] written end = written ≡ end
+Wrote kept s (x ∷ l) written end = (x .at .written ≡ written) × Piece kept s (x .out) (x .at) × Wrote kept s l (written + x .at .held) end
 
 -- their texts, joined
 unfoldable pub joined : List Made → List ℕ
@@ -25,4 +25,4 @@ joined (x ∷ l) = take (x .at .held) (x .out) ++ joined l
 
 -- from nothing written to as many bytes as the job's text has: the texts joined are the job's text
 abbrev pub WholeText : Type 0
-WholeText = (s : List ℕ) (writes : List Made) → Wrote s writes 0 (length (jobText (job s))) → joined writes ≡ jobText (job s)
+WholeText = (kept : ℕ) (s : List ℕ) (writes : List Made) → Wrote kept s writes 0 (length (jobText (job kept s))) → joined writes ≡ jobText (job kept s)

@@ -1,4 +1,4 @@
--- How long a job's answer can be: the two sizes that c/parallel_moves.h names.
+-- How long a job's answer can be, whatever the setting: the two sizes that c/parallel_moves.h names.
 use Prim.Native.Nat.{ℕ, _+_, _*_, _≤_}
 use mathlib.Core.List.{List}
 use lib.ListN.{length}
@@ -11,8 +11,8 @@ abbrev pub mostText : ℕ
 mostText = 19 * (2 * 65536) + 36 * 1025
 
 abbrev pub WordsFit : Type 0
-WordsFit = (l : List ℕ) → length (wordsOf (job l .done)) ≤ mostWords
+WordsFit = (kept : ℕ) (l : List ℕ) → length (wordsOf (job kept l .done)) ≤ mostWords
 
 -- that the patches are packed is promised by `answer_job`
 abbrev pub TextFits : Type 0
-TextFits = (l : List ℕ) → AllPacked (job l .done) → length (jobText (job l)) ≤ mostText
+TextFits = (kept : ℕ) (l : List ℕ) → AllPacked (job kept l .done) → length (jobText (job kept l)) ≤ mostText

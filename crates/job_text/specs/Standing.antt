@@ -1,4 +1,4 @@
--- How far a job's text has come: what was written, what the buffer holds and what is to come are the whole of it.
+-- How far the text of a job with its setting has come: what was written, what the buffer holds and what is to come are the whole of it.
 use Prim.Native.Nat.{ℕ, _+_, _*_, _≤_}
 use mathlib.Core.Path.{_≡_}
 use mathlib.Core.Bool.{true, false}
@@ -6,6 +6,7 @@ use mathlib.Core.List.{List, [], _++_}
 use lib.ListN.{length, take, drop}
 use Rattle.entity.specs.Logic.{pick}
 use Rattle.function.specs.Known.{Checked}
+use Rattle.function.specs.Table.{functionOf}
 use Rattle.parallel_moves.specs.Given.{CacheOk}
 use Rattle.answer_text.specs.Lines.{refusalText}
 use Rattle.job.specs.Job.{Answers, leftOver, job}
@@ -43,29 +44,30 @@ pub record Ends (p r : Progress) : Type 0 where
   pub kept : r .written ≡ p .written
   pub short : r .held ≤ p .held + 20480
 
-module _ (t f s cache : List ℕ) where
-  -- what is to come: the answers from the next patch on
-  abbrev pub toCome : Progress → List ℕ
-  toCome p = pick (p .ended) [] (textFrom (p .k) (rest t f s (p .at) cache (p .left)))
+-- what is to come: the answers from the next patch on
+abbrev pub toCome : (t f s cache : List ℕ) → Progress → List ℕ
+toCome t f s cache p = pick (p .ended) [] (textFrom (p .k) (rest t f s (p .at) cache (p .left)))
 
+module _ (kept : ℕ) (t f s cache : List ℕ) where
   -- what the next patch is answered from
   pub record Going (p : Progress) : Type 0 where
     pub checked : Checked t f
+    pub setting : functionOf f .kept ≡ kept
     pub cached : CacheOk f cache
     pub few : p .k + p .left ≤ 4294967296
     pub short : p .written + p .held ≤ 20480 * p .k
 
   -- what the buffer holds and what is to come are what follows, in the job's text, on what was written
   pub record Stands (out : List ℕ) (p : Progress) : Type 0 where
-    pub text : drop (p .written) (jobText (job s)) ≡ take (p .held) out ++ toCome p
-    pub within : p .written ≤ length (jobText (job s))
+    pub text : drop (p .written) (jobText (job kept s)) ≡ take (p .held) out ++ toCome t f s cache p
+    pub within : p .written ≤ length (jobText (job kept s))
     pub room : p .held ≤ length out
     pub short : p .written + p .held ≤ mostBytes
     pub going : p .ended ≡ false → Going p
 
 -- what the buffer holds is what follows, in the job's text, on what was written
-pub record Piece (s out : List ℕ) (p : Progress) : Type 0 where
-  pub next : take (p .held) out ≡ take (p .held) (drop (p .written) (jobText (job s)))
+pub record Piece (kept : ℕ) (s out : List ℕ) (p : Progress) : Type 0 where
+  pub next : take (p .held) out ≡ take (p .held) (drop (p .written) (jobText (job kept s)))
   pub room : p .held ≤ length out
-  pub within : p .written + p .held ≤ length (jobText (job s))
+  pub within : p .written + p .held ≤ length (jobText (job kept s))
   pub short : p .written + p .held ≤ mostBytes

@@ -33,7 +33,7 @@ returns c =
     let h = s .pre .0 in
     let e = s .pre .1 in
     let end = c .before .before .finish in
-    ((ended-stands T F S C O p e h T F C (end .last .1 .0) _ (end .result) (ends-here T F S C O p e (omega (arith, c .before .before .before .before .if1 .taken))) (end .ensures .0) (end .ensures .1), end .ensures .0 .kept, ended-less T F S C O p e h (end .result) (end .ensures .0)), (tt, tt, tt, tt, tt, tt, tt, tt, tt, tt, tt))
+    ((ended-stands T F S C O p e _ h T F C (end .last .1 .0) _ (end .result) (ends-here T F S C O p e (omega (arith, c .before .before .before .before .if1 .taken))) (end .ensures .0) (end .ensures .1), end .ensures .0 .kept, ended-less T F S C O p e _ h (end .result) (end .ensures .0)), (tt, tt, tt, tt, tt, tt, tt, tt, tt, tt, tt))
 
 told-requires : tie.Need-told-requires
 told-requires c κs = search needs
@@ -98,7 +98,7 @@ returns-2 c =
     let a = c .before .before .before .before .before .before .before .answer-patch in
     let end = c .before .before .refuse in
     let r = next-refused T F S (p .at) (s .args .list .now) (c .before .before .before .before .before .before .before .before .before .before .before .before .before .before .before .before .before .before .before .before .told .ensures) C (a .last .1 .1 .1 .1 .1 .0) (a .last .1 .1 .1 .1 .0) _ (rw (c .before .before .before .before .before .number .given .1) at (a .ensures .0)) in
-    ((ended-stands T F S C O p e h T F (a .last .1 .1 .1 .1 .0) (end .last .1 .0) _ (end .result) (refused-here T F S C O p e _ (omega (arith, c .before .before .before .before .before .before .before .before .before .before .before .before .before .before .before .before .before .before .before .before .before .before .if1 .left)) r) (end .ensures .0) (end .ensures .1), end .ensures .0 .kept, ended-less T F S C O p e h (end .result) (end .ensures .0)), (tt, tt, tt, tt, tt, tt, tt, tt, tt, tt, tt))
+    ((ended-stands T F S C O p e _ h T F (a .last .1 .1 .1 .1 .0) (end .last .1 .0) _ (end .result) (refused-here T F S C O p e _ (omega (arith, c .before .before .before .before .before .before .before .before .before .before .before .before .before .before .before .before .before .before .before .before .before .before .if1 .left)) r) (end .ensures .0) (end .ensures .1), end .ensures .0 .kept, ended-less T F S C O p e _ h (end .result) (end .ensures .0)), (tt, tt, tt, tt, tt, tt, tt, tt, tt, tt, tt))
 
 same-length-3 : tie.Need-same-length-3
 same-length-3 c = search needs
@@ -118,7 +118,7 @@ returns-3 c =
     let put = c .before .before .put-patch in
     let len = c .before .before .before .before .before .before .before .before .before .before .before .before .before .before .before .before .before .before .before .before .before .before .before .before .told .ensures in
     let g = resolved T F S (p .at) (s .args .list .now) len C (a .last .1 .1 .1 .1 .1 .0) (a .last .1 .1 .1 .1 .0) _ _ _ (rw (c .before .before .before .before .before .before .before .before .before .count .given .1) at (a .ensures .0)) in
-    ((next-stands T F S C O p e h (s .args .list .now) len (a .last .1 .1 .1 .1 .1 .0) (a .last .1 .1 .1 .1 .0) _ _ _ (omega (arith, c .before .before .before .before .before .before .before .before .before .before .before .before .before .before .before .before .before .before .before .before .before .before .before .before .before .before .if1 .left)) g _ (put .result) (put .last .0) (put .ensures .1) (c .before .before .before .before .before .wide .ensures .0 ∙ c .before .before .before .before .before .before .made .ensures) (put .ensures .0), refl, rw e (omega (arith, c .before .before .before .before .before .before .before .before .before .before .before .before .before .before .before .before .before .before .before .before .before .before .before .before .before .before .if1 .left))), (tt, tt, tt, tt, tt, tt, tt, tt, tt, tt, tt))
+    ((next-stands T F S C O p e _ h (s .args .list .now) len (a .last .1 .1 .1 .1 .1 .0) (a .last .1 .1 .1 .1 .0) _ _ _ (omega (arith, c .before .before .before .before .before .before .before .before .before .before .before .before .before .before .before .before .before .before .before .before .before .before .before .before .before .before .if1 .left)) g _ (put .result) (put .last .0) (put .ensures .1) (c .before .before .before .before .before .wide .ensures .0 ∙ c .before .before .before .before .before .before .made .ensures) (put .ensures .0), refl, rw e (omega (arith, c .before .before .before .before .before .before .before .before .before .before .before .before .before .before .before .before .before .before .before .before .before .before .before .before .before .before .if1 .left))), (tt, tt, tt, tt, tt, tt, tt, tt, tt, tt, tt))
 
 pub next-spec : {M : Type 1} → statement M
 next-spec =

@@ -45,7 +45,7 @@ returns c =
     let s = c .before .before .before .before .before .before .before .before .before .before .before .before .before in
     let read = c .before .before .before .before .before .before .before .before .read-opening in
     let end = c .before .before .refuse in
-    (turned-away (s .args .s .now) (read .last .1 .0) (read .last .1 .1 .0) (s .args .cache .now) (s .args .out .now) (end .last .1 .0) _ (c .before .before .before .before .begun .result) (end .result) (rw (c .before .before .before .before .before .before .number .given .1) at (read .ensures)) (c .before .before .before .before .begun .ensures) (end .ensures .0) (end .ensures .1), end .ensures .0 .kept ∙ ap (λ (p : Progress). p .written) (c .before .before .before .before .begun .ensures))
+    (turned-away _ (s .args .s .now) (read .last .1 .1 .0) (read .last .1 .1 .1 .0) (s .args .cache .now) (s .args .out .now) (end .last .1 .0) _ (c .before .before .before .before .begun .result) (end .result) (rw (c .before .before .before .before .before .before .number .given .1) at (read .ensures)) (c .before .before .before .before .begun .ensures) (end .ensures .0) (end .ensures .1), end .ensures .0 .kept ∙ ap (λ (p : Progress). p .written) (c .before .before .before .before .begun .ensures))
 
 returns-2 : tie.Need-returns-2
 returns-2 c =
@@ -53,7 +53,7 @@ returns-2 c =
     let read = c .before .before .before .before .before .before .before .read-opening in
     let long = c .before .long in
     let clear = c .before .before .clear in
-    (rw (c .begun2 .ensures, long .ensures .0) (begun-stands (s .args .s .now) (read .last .1 .0) (read .last .1 .1 .0) (clear .last .0) (s .args .out .now) _ _ (rw (c .before .before .before .before .before .count .given .1) at (read .ensures)) (clear .ensures) (omega (arith, long .ensures))), ap (λ (p : Progress). p .written) (c .begun2 .ensures))
+    (rw (c .begun2 .ensures, long .ensures .0) (begun-stands _ (s .args .s .now) (read .last .1 .1 .0) (read .last .1 .1 .1 .0) (clear .last .0) (s .args .out .now) _ _ (rw (c .before .before .before .before .before .count .given .1) at (read .ensures)) (clear .ensures) (omega (arith, long .ensures))), ap (λ (p : Progress). p .written) (c .begun2 .ensures))
 
 pub start-spec : {M : Type 1} → statement M
 start-spec =
