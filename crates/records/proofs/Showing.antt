@@ -24,5 +24,5 @@ shown out out′ text n p there = go (ltb (length out) (length text)) refl
         (omega (arith, few, f .0), rw (f .1, f .0) (take-at text (drop (length text) out) (length text) refl))
 
 -- a record that was read lies within the lent bytes
-pub within : (job text : List ℕ) (r : Record) (n m : ℕ) → Within job text r → r ≡ Is n m → (n ≤ length job) × (m ≤ length text)
-within job text r n m w e = subst (λ (x : Record). Within job text x) e w
+pub within : (job text : List ℕ) (r : Record) (kept n m : ℕ) → Within job text r → r ≡ Is kept n m → (n ≤ length job) × (m ≤ length text)
+within job text r kept n m w e = subst (λ (x : Record). Within job text x) e w

@@ -26,7 +26,7 @@ fn byte(x: u8) -> usize
 // Four bytes as a number, the lowest first.
 fn length_at(s: &[u8], at: usize) -> usize
     requires { ⌜ at + 4 ≤ length (now s) ⌝ }
-    ensures { λ r. ⌜ r ≡ lengthAt (now (s .entry)) at ⌝ }
+    ensures { λ r. ⌜ (r ≡ lengthAt (now (s .entry)) at) × (r < 4294967296) ⌝ }
 {
     byte(s[at]) + byte(s[at + 1]) * 256 + byte(s[at + 2]) * 65536 + byte(s[at + 3]) * 16777216
 }

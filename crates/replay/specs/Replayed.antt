@@ -8,6 +8,6 @@ use Rattle.entity.specs.Logic.{and}
 use Rattle.records.specs.Bytes.{sameList}
 use Rattle.records.specs.Told.{textOf}
 
--- the recorded text is that of the job's answer, which has room
-abbrev pub isReplayed : List ℕ → List ℕ → Bool
-isReplayed s text = and (leb (length (textOf s)) 65536) (sameList text (textOf s))
+-- the recorded text is that of the answer of the job with its setting, which has room
+abbrev pub isReplayed : (kept : ℕ) → List ℕ → List ℕ → Bool
+isReplayed kept s text = and (leb (length (textOf kept s)) 65536) (sameList text (textOf kept s))

@@ -26,11 +26,20 @@ slice-aggregate-length-at c = search needs
 length-at-requires : tie.Need-length-at-requires
 length-at-requires c κs = search needs
 
+cast-kept-evictions : tie.Need-cast-kept-evictions
+cast-kept-evictions c = search needs
+
 slice-aggregate-length-at-2 : tie.Need-slice-aggregate-length-at-2
 slice-aggregate-length-at-2 c = search needs
 
 length-at-requires-2 : tie.Need-length-at-requires-2
 length-at-requires-2 c κs = search needs
+
+slice-aggregate-length-at-3 : tie.Need-slice-aggregate-length-at-3
+slice-aggregate-length-at-3 c = search needs
+
+length-at-requires-3 : tie.Need-length-at-requires-3
+length-at-requires-3 c κs = search needs
 
 read-part-requires : tie.Need-read-part-requires
 read-part-requires c κs = search needs
@@ -72,8 +81,11 @@ read-record-spec =
     returns-2
     slice-aggregate-length-at
     length-at-requires
+    cast-kept-evictions
     slice-aggregate-length-at-2
     length-at-requires-2
+    slice-aggregate-length-at-3
+    length-at-requires-3
     read-part-requires
     same-length
     returns-3

@@ -49,31 +49,31 @@ slice-aggregate-say-4 c = search needs
 say-requires-2 : tie.Need-say-requires-2
 say-requires-2 c κs = search needs
 
-enum-known-n : tie.Need-enum-known-n
-enum-known-n c = search needs
+enum-known-kept-evictions : tie.Need-enum-known-kept-evictions
+enum-known-kept-evictions c = search needs
 
 array-share-prefix-job : tie.Need-array-share-prefix-job
 array-share-prefix-job c =
     let p = c .before .before .before .before .before .read-record in
-    let w = within (p .last .0) (p .last .1 .0) (p .result) _ _ (p .ensures) (c .before .n .given .1) in
+    let w = within (p .last .0) (p .last .1 .0) (p .result) _ _ _ (p .ensures) (c .before .kept-evictions .given .1) in
     omega (arith, w .0, p .kept .0, length-replicate {A = ℕ} 16384 0)
 
 slice-aggregate-replayed : tie.Need-slice-aggregate-replayed
 slice-aggregate-replayed c =
     let p = c .before .before .before .before .before .before .read-record in
-    let w = within (p .last .0) (p .last .1 .0) (p .result) _ _ (p .ensures) (c .before .before .n .given .1) in
+    let w = within (p .last .0) (p .last .1 .0) (p .result) _ _ _ (p .ensures) (c .before .before .kept-evictions .given .1) in
     sym (length-take-le _ (p .last .0) (w .0))
 
 array-share-prefix-text : tie.Need-array-share-prefix-text
 array-share-prefix-text c =
     let p = c .before .before .before .before .before .before .read-record in
-    let w = within (p .last .0) (p .last .1 .0) (p .result) _ _ (p .ensures) (c .before .before .n .given .1) in
+    let w = within (p .last .0) (p .last .1 .0) (p .result) _ _ _ (p .ensures) (c .before .before .kept-evictions .given .1) in
     omega (arith, w .1, p .kept .1 .0, length-replicate {A = ℕ} 65536 0)
 
 slice-aggregate-replayed-2 : tie.Need-slice-aggregate-replayed-2
 slice-aggregate-replayed-2 c =
     let p = c .before .before .before .before .before .before .before .read-record in
-    let w = within (p .last .0) (p .last .1 .0) (p .result) _ _ (p .ensures) (c .before .before .before .n .given .1) in
+    let w = within (p .last .0) (p .last .1 .0) (p .result) _ _ _ (p .ensures) (c .before .before .before .kept-evictions .given .1) in
     sym (length-take-le _ (p .last .1 .0) (w .1))
 
 replayed-requires : tie.Need-replayed-requires
@@ -119,7 +119,7 @@ replay-next-spec =
     add-say
     slice-aggregate-say-4
     say-requires-2
-    enum-known-n
+    enum-known-kept-evictions
     array-share-prefix-job
     slice-aggregate-replayed
     array-share-prefix-text

@@ -24,19 +24,19 @@ returns : tie.Need-returns
 returns c =
     let a = c .before .before .before .before .before .before .args in
     let p = c .before .before .put-text in
-    not-told (a .job .now) (a .text .now) _ (p .last .1 .0) (p .result) (p .ensures) (length-replicate {A = ℕ} 65536 0) (c .if1 .taken)
+    not-told (a .kept-evictions) (a .job .now) (a .text .now) _ (p .last .1 .1 .0) (p .result) (p .ensures) (length-replicate {A = ℕ} 65536 0) (c .if1 .taken)
 
 array-share-prefix-out : tie.Need-array-share-prefix-out
 array-share-prefix-out c =
     let p = c .before .before .put-text in
-    let w = shown _ (p .last .1 .0) (textOf (c .before .before .before .before .before .before .args .job .now)) (p .result) (p .ensures) (c .if1 .left) in
+    let w = shown _ (p .last .1 .1 .0) (textOf (c .before .before .before .before .before .before .args .kept-evictions) (c .before .before .before .before .before .before .args .job .now)) (p .result) (p .ensures) (c .if1 .left) in
     omega (arith, w .0, length-replicate {A = ℕ} 65536 0)
 
 slice-aggregate-same : tie.Need-slice-aggregate-same
 slice-aggregate-same c =
     let p = c .before .before .before .put-text in
-    let w = shown _ (p .last .1 .0) (textOf (c .before .before .before .before .before .before .before .args .job .now)) (p .result) (p .ensures) (c .before .if1 .left) in
-    sym (length-take-le (p .result) (p .last .1 .0) (omega (arith, w .0, p .kept .1 .0)))
+    let w = shown _ (p .last .1 .1 .0) (textOf (c .before .before .before .before .before .before .before .args .kept-evictions) (c .before .before .before .before .before .before .before .args .job .now)) (p .result) (p .ensures) (c .before .if1 .left) in
+    sym (length-take-le (p .result) (p .last .1 .1 .0) (omega (arith, w .0, p .kept .1 .1 .0)))
 
 same-requires : tie.Need-same-requires
 same-requires c κs = search needs
@@ -45,7 +45,7 @@ returns-2 : tie.Need-returns-2
 returns-2 c =
     let a = c .before .before .before .before .before .before .before .before .args in
     let p = c .before .before .before .before .put-text in
-    compared (a .job .now) (a .text .now) _ (p .last .1 .0) (p .result) (p .ensures) (length-replicate {A = ℕ} 65536 0) (c .before .before .if1 .left) (c .same .result) (c .same .ensures)
+    compared (a .kept-evictions) (a .job .now) (a .text .now) _ (p .last .1 .1 .0) (p .result) (p .ensures) (length-replicate {A = ℕ} 65536 0) (c .before .before .if1 .left) (c .same .result) (c .same .ensures)
 
 pub replayed-spec : {M : Type 1} → statement M
 replayed-spec =

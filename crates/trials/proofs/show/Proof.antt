@@ -31,14 +31,14 @@ returns c = search needs
 array-share-prefix-out : tie.Need-array-share-prefix-out
 array-share-prefix-out c =
     let p = c .before .before .put-text in
-    let w = shown _ (p .last .1 .0) (textOf (c .before .before .before .before .before .args .job .now)) (p .result) (p .ensures) (c .if1 .left) in
+    let w = shown _ (p .last .1 .1 .0) (textOf (c .before .before .before .before .before .args .kept-evictions) (c .before .before .before .before .before .args .job .now)) (p .result) (p .ensures) (c .if1 .left) in
     omega (arith, w .0, length-replicate {A = ℕ} 65536 0)
 
 slice-aggregate-write-all-2 : tie.Need-slice-aggregate-write-all-2
 slice-aggregate-write-all-2 c =
     let p = c .before .before .before .put-text in
-    let w = shown _ (p .last .1 .0) (textOf (c .before .before .before .before .before .before .args .job .now)) (p .result) (p .ensures) (c .before .if1 .left) in
-    sym (length-take-le (p .result) (p .last .1 .0) (omega (arith, w .0, p .kept .1 .0)))
+    let w = shown _ (p .last .1 .1 .0) (textOf (c .before .before .before .before .before .before .args .kept-evictions) (c .before .before .before .before .before .before .args .job .now)) (p .result) (p .ensures) (c .before .if1 .left) in
+    sym (length-take-le (p .result) (p .last .1 .1 .0) (omega (arith, w .0, p .kept .1 .1 .0)))
 
 write-all-requires-2 : tie.Need-write-all-requires-2
 write-all-requires-2 c κs = search needs

@@ -40,8 +40,8 @@ slice-aggregate-say-2 c = search needs
 say-requires : tie.Need-say-requires
 say-requires c κs = search needs
 
-enum-known-n : tie.Need-enum-known-n
-enum-known-n c = search needs
+enum-known-kept-evictions : tie.Need-enum-known-kept-evictions
+enum-known-kept-evictions c = search needs
 
 slice-aggregate-say-3 : tie.Need-slice-aggregate-say-3
 slice-aggregate-say-3 c = search needs
@@ -58,13 +58,13 @@ say-requires-2 c κs = search needs
 array-share-prefix-job : tie.Need-array-share-prefix-job
 array-share-prefix-job c =
     let p = c .before .before .before .before .before .before .before .before .read-record in
-    let w = within (p .last .0) (p .last .1 .0) (p .result) _ _ (p .ensures) (c .before .before .before .before .n .given .1) in
+    let w = within (p .last .0) (p .last .1 .0) (p .result) _ _ _ (p .ensures) (c .before .before .before .before .kept-evictions .given .1) in
     omega (arith, w .0, p .kept .0, length-replicate {A = ℕ} 16384 0)
 
 slice-aggregate-show : tie.Need-slice-aggregate-show
 slice-aggregate-show c =
     let p = c .before .before .before .before .before .before .before .before .before .read-record in
-    let w = within (p .last .0) (p .last .1 .0) (p .result) _ _ (p .ensures) (c .before .before .before .before .before .n .given .1) in
+    let w = within (p .last .0) (p .last .1 .0) (p .result) _ _ _ (p .ensures) (c .before .before .before .before .before .kept-evictions .given .1) in
     sym (length-take-le _ (p .last .0) (w .0))
 
 show-requires : tie.Need-show-requires
@@ -92,7 +92,7 @@ show-next-spec =
     add-say
     slice-aggregate-say-2
     say-requires
-    enum-known-n
+    enum-known-kept-evictions
     slice-aggregate-say-3
     add-say-2
     slice-aggregate-say-4
