@@ -1,6 +1,6 @@
 -- A job's text on its way: each step keeps `Stands`.
 use Prim.Native.Nat.{ℕ, zero, suc, _+_, _-_, _<_, _≤_}
-use mathlib.Core.Path.{_≡_, refl, sym, ap, _∙_}
+use mathlib.Core.Path.{_≡_, refl, sym, ap, subst, _∙_}
 use mathlib.Core.Bool.{true, false}
 use mathlib.Core.List.{List, [], _∷_, _++_, append-assoc, append-nil}
 use mathlib.Core.Option.{some}
@@ -111,6 +111,10 @@ module _ (t f s cache out : List ℕ) (p : Progress) (e : p .ended ≡ false) wh
             short = omega (arith, j .few, j .short);
             going = λ _. record { checked = j .checked; setting = j .setting; cached = g .cached; few = omega (arith, j .few); short = omega (arith, j .short) };
           }
+
+-- ---- while patches are left, the setting is the function's
+pub same-setting : {kept kept′ : ℕ} (t f s cache out : List ℕ) (p : Progress) → kept ≡ kept′ → Stands kept t f s cache out p → Stands kept′ t f s cache out p
+same-setting t f s cache out p e h = subst (λ (n : ℕ). Stands n t f s cache out p) e h
 
 -- ---- what the buffer holds
 module _ (kept : ℕ) (t f s cache out : List ℕ) (p : Progress) (h : Stands kept t f s cache out p) where

@@ -33,7 +33,7 @@ abbrev pub WroteOn : Progress → Write → Type 0
 WroteOn p (W.On q) = q ≡ writtenOut p
 WroteOn p W.Failed = Unit {0}
 
--- as many bytes are written as the job's text has
-abbrev pub AllWritten : List ℕ → Written → Type 0
-AllWritten s (All n) = n ≡ length (jobText (job s))
-AllWritten s Failed = Unit {0}
+-- as many bytes are written as the text of the job with its setting has
+abbrev pub AllWritten : (kept : ℕ) → List ℕ → Written → Type 0
+AllWritten kept s (All n) = n ≡ length (jobText (job kept s))
+AllWritten kept s Failed = Unit {0}

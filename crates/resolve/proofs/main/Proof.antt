@@ -3,9 +3,29 @@ use Rattle.resolve.proofs.main.Statement.{statement}
 use Rattle.resolve.proofs.main.Tie as tie
 use Rattle.resolve.proofs.main.Reads as reads
 use Rattle.resolve.proofs.main.Lts as lts
+use Rattle.os.proofs.arg.Reads as arg-reads
 use Rattle.os.proofs.fail.Reads as fail-reads
 use Rattle.resolve.proofs.answer.Reads as answer-reads
 use Rattle.resolve.proofs.read_all.Reads as read-all-reads
+use Rattle.resolve.proofs.setting_from.Reads as setting-from-reads
+
+slice-aggregate-arg : tie.Need-slice-aggregate-arg
+slice-aggregate-arg c = search needs
+
+arg-requires : tie.Need-arg-requires
+arg-requires c κs = search needs
+
+arg-count-requires : tie.Need-arg-count-requires
+arg-count-requires c κs = search needs
+
+array-share-prefix-arg : tie.Need-array-share-prefix-arg
+array-share-prefix-arg c = search needs
+
+slice-aggregate-setting-from : tie.Need-slice-aggregate-setting-from
+slice-aggregate-setting-from c = search needs
+
+setting-from-requires : tie.Need-setting-from-requires
+setting-from-requires c κs = search needs
 
 slice-aggregate-read-all : tie.Need-slice-aggregate-read-all
 slice-aggregate-read-all c = search needs
@@ -62,6 +82,12 @@ pub main-spec : {M : Type 1} → statement M
 main-spec =
     tie.close
     (tie.spec
+    slice-aggregate-arg
+    arg-requires
+    arg-count-requires
+    array-share-prefix-arg
+    slice-aggregate-setting-from
+    setting-from-requires
     slice-aggregate-read-all
     read-all-requires
     enum-known-n
