@@ -1,5 +1,5 @@
-//! Holds ours, the static library, against the original: the same jobs, in one
-//! process.
+//! Holds ours, the static library, against the judge of each setting: the original,
+//! or the rules written a second time. The same jobs, in one process.
 
 #[path = "beside/calls.rs"]
 mod calls;
@@ -27,24 +27,26 @@ use std::time::Instant;
 
 use compare::{Outcome, Spoiled, Way};
 use judge::generate::calls::Session;
+use judge::plain::Reached;
 use judge::random::Random;
-use judge::{answer, generate};
+use judge::{answer, encode, generate};
 use ours::Ours;
 use tasks::Task;
 
 const HELP: &str = "\
 beside run SEED COUNT [OPTION..]
-    Compares COUNT random jobs over all modes. The same SEED and COUNT give the
-    same jobs.
+    Compares COUNT random jobs over all modes, each at both settings. The same
+    SEED and COUNT give the same jobs.
 beside damaged FOLDER [OPTION..]
-    Compares twenty good jobs, some of them trials of the folder, with each byte
+    Compares twenty-two good jobs, some of them trials of the folder, with each byte
     changed in every way, and cut off everywhere.
 beside calls SEED COUNT [OPTION..]
     Compares COUNT calls that open a function or give it a patch, about a tenth
     of them refused. The same SEED and COUNT give the same calls.
-beside answer
-    Reads a job on standard input and prints ours' answer.
+beside answer [SETTING]
+    Reads a job on standard input and prints ours' answer, at setting 1 unless said.
 Options:
+    --setting S     at this setting only; 1 or 2
     --threads N     how many at a time (as many as there are processors)
     --difference F  the file that a job with different answers is written to
     --spoil text N, --spoil words N
@@ -65,7 +67,7 @@ fn main() -> ExitCode {
         ["run", seed, count, ref options @ ..] => run(seed, count, options),
         ["damaged", folder, ref options @ ..] => damaged(Path::new(folder), options),
         ["calls", seed, count, ref options @ ..] => compare_calls(seed, count, options),
-        ["answer"] => answer_one(),
+        ["answer", ref given @ ..] => answer_one(given),
         _ => {
             eprint!("{HELP}");
             return ExitCode::from(2);
@@ -118,7 +120,7 @@ fn compare_calls(seed: &str, count: &str, options: &[&str]) -> Ended {
             let mut random = Random::new(seed);
             let mut left = CALLS.min(count - part * CALLS);
             while left > 0 {
-                let session = generate::calls::session(&mut random, left);
+                let session = generate::calls::session(&mut random, left, &options.settings);
                 left -= session.count();
                 match calls::compare(&mut ours, &session) {
                     Ok(outcome) => counts.add(&outcome),
@@ -228,11 +230,13 @@ impl CallCounts {
     }
 }
 
-fn answer_one() -> Ended {
+fn answer_one(given: &[&str]) -> Ended {
+    let given = (!given.is_empty()).then(|| encode::lines_of(given));
+    let kept_evictions = encode::setting(given.as_deref()).unwrap_or(0);
     let mut job = Vec::new();
     io::stdin().read_to_end(&mut job)?;
     let mut ours = Ours::new();
-    let (count, refusal) = ours.answer(&job, None);
+    let (count, refusal) = ours.answer(kept_evictions, &job, None);
     let text = ours.text(count, refusal, None).ok_or("no text")?;
     io::stdout().write_all(text)?;
     Ok(ExitCode::SUCCESS)
@@ -240,6 +244,7 @@ fn answer_one() -> Ended {
 
 struct Options {
     threads: usize,
+    settings: Vec<u32>,
     difference: Option<PathBuf>,
     /// Of which job, counted from 0, something is spoiled.
     spoiled: Option<(Spoiled, usize)>,
@@ -249,6 +254,7 @@ impl Options {
     fn read(words: &[&str]) -> Result<Options, String> {
         let mut options = Options {
             threads: thread::available_parallelism().map_or(1, |n| n.get()),
+            settings: answer::SETTINGS.to_vec(),
             difference: None,
             spoiled: None,
         };
@@ -258,6 +264,13 @@ impl Options {
                 [] => return Ok(options),
                 ["--threads", count, ref rest @ ..] => {
                     options.threads = positive(count)?;
+                    rest
+                }
+                ["--setting", word, ref rest @ ..] => {
+                    options.settings.retain(|setting| setting.to_string() == word);
+                    if options.settings.is_empty() {
+                        return Err(format!("{word} is no setting"));
+                    }
                     rest
                 }
                 ["--difference", file, ref rest @ ..] => {
@@ -296,7 +309,7 @@ fn positive(word: &str) -> Result<usize, String> {
     }
 }
 
-/// What was counted.
+/// What was counted of one setting.
 #[derive(Default)]
 struct Counts {
     jobs: u64,
@@ -304,14 +317,30 @@ struct Counts {
     edits: u64,
     /// Jobs by the number that they are refused by, 0 for none.
     by_refusal: BTreeMap<u8, u64>,
+    reached: Reached,
+    /// By mode: jobs, those that differ from the setting before, and those in which
+    /// two are held at once.
+    by_mode: BTreeMap<&'static str, [u64; 3]>,
 }
 
+/// What the rules say when two are held at once.
+const TWO_HELD: (&str, &str) = ("evicted", "beside one that stays held");
+
 impl Counts {
-    fn add(&mut self, outcome: &Outcome) {
+    /// Takes in a job of a mode, which may differ from the setting before.
+    fn add(&mut self, outcome: &Outcome, mode: &'static str, differs: bool) {
         self.jobs += 1;
         self.patches += outcome.patches;
         self.edits += outcome.edits;
         *self.by_refusal.entry(outcome.refusal).or_default() += 1;
+        for (&branch, &count) in &outcome.reached {
+            *self.reached.entry(branch).or_default() += count;
+        }
+        let two_held = outcome.reached.contains_key(&TWO_HELD);
+        let by_mode = self.by_mode.entry(mode).or_default();
+        for (count, holds) in by_mode.iter_mut().zip([true, differs, two_held]) {
+            *count += u64::from(holds);
+        }
     }
 
     fn add_all(&mut self, other: &Counts) {
@@ -320,6 +349,13 @@ impl Counts {
         self.edits += other.edits;
         for (&refusal, &count) in &other.by_refusal {
             *self.by_refusal.entry(refusal).or_default() += count;
+        }
+        for (&branch, &count) in &other.reached {
+            *self.reached.entry(branch).or_default() += count;
+        }
+        for (&mode, counts) in &other.by_mode {
+            let by_mode = self.by_mode.entry(mode).or_default();
+            by_mode.iter_mut().zip(counts).for_each(|(a, b)| *a += b);
         }
     }
 
@@ -333,6 +369,17 @@ impl Counts {
         }
         println!("accepted patches {}", self.patches);
         println!("edits {}", self.edits);
+        if self.reached.is_empty() {
+            return;
+        }
+        println!("branches of the rule for kept evictions");
+        for ((what, which), count) in &self.reached {
+            println!("  {what}, {which}: {count}");
+        }
+        println!("jobs by mode, with other answers than at setting 1, holding two at once");
+        for (mode, [jobs, differ, two_held]) in &self.by_mode {
+            println!("  {mode}: {jobs}, {differ}, {two_held}");
+        }
     }
 }
 
@@ -340,9 +387,13 @@ impl Counts {
 struct Found {
     task: usize,
     index: usize,
+    kept_evictions: u32,
     job: Vec<u8>,
     way: Way,
 }
+
+/// What was counted, by setting.
+type BySetting = BTreeMap<u32, Counts>;
 
 /// What the threads share.
 struct Work<'a> {
@@ -358,9 +409,9 @@ struct Work<'a> {
 
 impl Work<'_> {
     /// Does tasks until there are no more.
-    fn take_part(&self) -> Result<Counts, String> {
+    fn take_part(&self) -> Result<BySetting, String> {
         let mut ours = Ours::new();
-        let mut counts = Counts::default();
+        let mut counts = BySetting::default();
         loop {
             let number = self.next.fetch_add(1, Ordering::SeqCst);
             if number >= self.tasks.len() || number > self.first.load(Ordering::SeqCst) {
@@ -384,23 +435,33 @@ impl Work<'_> {
         }
     }
 
-    fn do_task(&self, number: usize, ours: &mut Ours, counts: &mut Counts) -> Option<Found> {
+    fn do_task(&self, number: usize, ours: &mut Ours, counts: &mut BySetting) -> Option<Found> {
+        let task = &self.tasks[number];
         let mut index = 0;
-        let ended = self.tasks[number].each(|job| {
+        let ended = task.each(|job| {
             let way = self.options.way(self.before[number] + index);
-            match compare::compare(ours, job, way) {
-                Ok(outcome) => {
-                    counts.add(&outcome);
-                    index += 1;
-                    ControlFlow::Continue(())
+            let mut before = None;
+            for &kept_evictions in &self.options.settings {
+                match compare::compare(ours, kept_evictions, job, way) {
+                    Ok(outcome) => {
+                        let differs = before.is_some_and(|text| text != outcome.text);
+                        let counts = counts.entry(kept_evictions).or_default();
+                        counts.add(&outcome, task.mode(), differs);
+                        before = Some(outcome.text);
+                    }
+                    Err(_) => {
+                        return ControlFlow::Break(Found {
+                            task: number,
+                            index,
+                            kept_evictions,
+                            job: job.to_vec(),
+                            way,
+                        });
+                    }
                 }
-                Err(_) => ControlFlow::Break(Found {
-                    task: number,
-                    index,
-                    job: job.to_vec(),
-                    way,
-                }),
             }
+            index += 1;
+            ControlFlow::Continue(())
         });
         ended.break_value()
     }
@@ -424,7 +485,7 @@ fn compare_all(tasks: &[Task], options: &Options) -> Ended {
     };
 
     let start = Instant::now();
-    let mut counts = Counts::default();
+    let mut counts = BySetting::new();
     thread::scope(|scope| -> Result<(), Box<dyn Error>> {
         let mut threads = Vec::new();
         for _ in 0..options.threads {
@@ -432,22 +493,28 @@ fn compare_all(tasks: &[Task], options: &Options) -> Ended {
             threads.push(builder.spawn_scoped(scope, || work.take_part())?);
         }
         for thread in threads {
-            counts.add_all(&thread.join().map_err(|_| "a thread panicked")??);
+            for (setting, part) in thread.join().map_err(|_| "a thread panicked")?? {
+                counts.entry(setting).or_default().add_all(&part);
+            }
         }
         Ok(())
     })?;
     let seconds = start.elapsed().as_secs_f64();
-    let rate = counts.jobs as f64 / seconds;
+    let done: u64 = counts.values().map(|counts| counts.jobs).sum();
+    let rate = done as f64 / seconds;
     eprintln!("{seconds:.0} seconds, {rate:.0} jobs a second");
 
     let found = work.found.into_inner().map_err(|_| "a thread failed")?;
     match found {
-        None if counts.jobs == jobs as u64 => {
-            counts.print();
+        None if done == (options.settings.len() * jobs) as u64 => {
+            for (setting, counts) in &counts {
+                println!("setting {setting}");
+                counts.print();
+            }
             println!("no difference");
             Ok(ExitCode::SUCCESS)
         }
-        None => Err(format!("{} jobs of {jobs}", counts.jobs).into()),
+        None => Err(format!("{done} answers to {jobs} jobs").into()),
         Some(found) => {
             report(&tasks[found.task], found, options)?;
             Ok(ExitCode::FAILURE)
@@ -459,13 +526,15 @@ fn compare_all(tasks: &[Task], options: &Options) -> Ended {
 fn report(task: &Task, found: Found, options: &Options) -> Result<(), Box<dyn Error>> {
     println!("DIFFERENCE");
     println!("at {}", task.job_name(found.index));
+    let kept_evictions = found.kept_evictions;
+    println!("setting {kept_evictions}");
     let length = found.job.len();
     let mut ours = Ours::new();
     let small = thread::scope(|scope| {
         let ours = &mut ours;
         let make_small = move || {
             reduce::reduce(found.job, |job| {
-                compare::compare(ours, job, found.way).is_err()
+                compare::compare(ours, kept_evictions, job, found.way).is_err()
             })
         };
         let builder = thread::Builder::new().stack_size(STACK);
@@ -481,11 +550,11 @@ fn report(task: &Task, found: Found, options: &Options) -> Result<(), Box<dyn Er
         std::fs::write(file, &small)?;
         println!("written to {}", file.display());
     }
-    match compare::compare(&mut ours, &small, found.way) {
+    match compare::compare(&mut ours, kept_evictions, &small, found.way) {
         Ok(_) => println!("the answers to it differ no longer"),
         Err(difference) => {
             println!("what differs: {}", difference.what);
-            print!("original:\n{}", difference.original);
+            print!("judge:\n{}", difference.judged);
             print!("ours, as printed:\n{}", difference.printed);
             print!("ours, from the words:\n{}", difference.decoded);
         }

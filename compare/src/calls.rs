@@ -1,11 +1,11 @@
-//! The original, opened for a function and called patch by patch.
+//! A judge, opened for a function and called patch by patch.
 
 use std::fmt::{self, Write};
 
 use original::internal::parallel_moves::Edit;
 use original::output::{Allocation, AllocationKind};
 
-use crate::answer::{LEFT_OVER, MOST_BYTES, Resolver};
+use crate::answer::{Judge, LEFT_OVER, MOST_BYTES, Resolver};
 use crate::generate;
 use crate::number::{self, NAMES_NOTHING, Reader, Refused};
 use crate::patch::Patch;
@@ -53,15 +53,18 @@ impl Room {
     }
 }
 
-/// A target and a function.
+/// A target and a function, and who resolves its patches.
 pub struct Function {
+    judge: Judge,
     target: Target,
     values: Values,
 }
 
 impl Function {
-    /// Reads a target and a function with nothing behind them.
-    pub fn open(bytes: &[u8]) -> Result<Function, Refused> {
+    /// Reads a target and a function with nothing behind them. A setting without
+    /// a judge is refused first.
+    pub fn open(judge: Result<Judge, Refused>, bytes: &[u8]) -> Result<Function, Refused> {
+        let judge = judge?;
         if bytes.len() > MOST_BYTES {
             return Err(NAMES_NOTHING);
         }
@@ -71,7 +74,15 @@ impl Function {
         if !reader.at_end() {
             return Err(LEFT_OVER);
         }
-        Ok(Function { target, values })
+        Ok(Function {
+            judge,
+            target,
+            values,
+        })
+    }
+
+    fn resolver(&self) -> Resolver<'_> {
+        Resolver::new(self.judge, &self.target, &self.values)
     }
 }
 
@@ -87,7 +98,7 @@ pub struct Expected {
     pub position: usize,
 }
 
-/// The original over a function, call by call. It sees accepted calls only.
+/// A judge over a function, call by call. It sees accepted calls only.
 pub struct Session<'a> {
     function: &'a Function,
     resolver: Resolver<'a>,
@@ -99,7 +110,7 @@ impl<'a> Session<'a> {
     pub fn new(function: &'a Function) -> Self {
         Session {
             function,
-            resolver: Resolver::new(&function.target, &function.values),
+            resolver: function.resolver(),
             accepted: Vec::new(),
         }
     }
@@ -111,11 +122,11 @@ impl<'a> Session<'a> {
             .room
             .length(patch.as_ref().map_or(0, |patch| patch.bound));
         let outcome = patch.and_then(|patch| self.resolve(patch, room));
-        let position = outcome.as_ref().map_or(0, |_| self.resolver.position);
+        let position = outcome.as_ref().map_or(0, |_| self.resolver.position());
         Expected {
             room,
             outcome,
-            made: self.resolver.made,
+            made: self.resolver.made(),
             position,
         }
     }
@@ -136,7 +147,7 @@ impl<'a> Session<'a> {
                 _ => put_all(&mut bytes, &[2]),
             }
         }
-        let Function { target, values } = self.function;
+        let Function { target, values, .. } = self.function;
         Patch::read(&mut Reader::new(&bytes), target, values)
     }
 
@@ -151,8 +162,7 @@ impl<'a> Session<'a> {
             }
             Err(refused) => {
                 // It ran to its end: one that did not takes its place.
-                let Function { target, values } = self.function;
-                self.resolver = Resolver::new(target, values);
+                self.resolver = self.function.resolver();
                 for patch in &self.accepted {
                     self.resolver.resolve(patch)?;
                 }
@@ -166,25 +176,26 @@ impl<'a> Session<'a> {
 pub fn record(session: &generate::calls::Session) -> String {
     let mut text = String::new();
     let mut last = None;
-    for bytes in session.before.iter().chain([&session.bytes]) {
-        let opened = Function::open(bytes);
+    for opening in session.before.iter().chain([&session.opening]) {
+        let kept_evictions = opening.kept_evictions;
+        let opened = Function::open(Judge::of(kept_evictions), &opening.bytes);
         let refusal = opened.as_ref().map_or_else(|refused| refused.0, |_| 0);
-        put(&mut text, format_args!("open {refusal}"));
-        put_list(&mut text, bytes);
+        put(&mut text, format_args!("open {kept_evictions} {refusal}"));
+        put_list(&mut text, &opening.bytes);
         text.push('\n');
         last = opened.ok();
     }
     let Some(function) = last else {
         return text;
     };
-    let mut original = Session::new(&function);
+    let mut judge = Session::new(&function);
     for call in &session.calls {
         let Expected {
             room,
             outcome,
             made,
             position,
-        } = original.call(call);
+        } = judge.call(call);
         let refusal = outcome.as_ref().map_or_else(|refused| refused.0, |_| 0);
         put(
             &mut text,

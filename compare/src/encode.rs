@@ -10,8 +10,9 @@
 //! A file of trials has, apart from comments and empty lines:
 //! * `define NAME WORD..` up to the line's end;
 //! * `trial NAME`, then the job's words over any number of lines, then, if the
-//!   positions matter, a line `met` with that of each patch, then a line
-//!   `prints`, then the lines printed, then a line `end`.
+//!   program is given arguments, a line `given` with them (`""` is an empty one),
+//!   then, if the positions matter, a line `met` with that of each patch, then a
+//!   line `prints`, then the lines printed, then a line `end`.
 
 use std::collections::BTreeMap;
 use std::fmt;
@@ -34,6 +35,8 @@ pub fn job(text: &str) -> Result<Vec<u8>, Mistake> {
 pub struct Trial {
     pub name: String,
     pub job: Vec<u8>,
+    /// The arguments, a line each.
+    pub given: Option<String>,
     /// The position of each patch, a line each.
     pub met: Option<String>,
     pub printed: String,
@@ -57,13 +60,12 @@ pub fn trials(text: &str) -> Result<Vec<Trial>, Mistake> {
             "trial" => {
                 let written = until(&mut lines, "prints")?;
                 let printed = until(&mut lines, "end")?;
-                let (written, met) = match written.split_once("\nmet ") {
-                    Some((written, met)) => (written, Some(met)),
-                    None => (&written[..], None),
-                };
+                let (written, met) = split(&written, "\nmet ");
+                let (written, given) = split(written, "\ngiven ");
                 trials.push(Trial {
                     name: rest.trim().to_owned(),
                     job: words(written, &definitions)?,
+                    given: given.map(|given| lines_of(given.split_whitespace().map(argument))),
                     met: met.map(|met| lines_of(met.split_whitespace())),
                     printed,
                 });
@@ -72,6 +74,28 @@ pub fn trials(text: &str) -> Result<Vec<Trial>, Mistake> {
         }
     }
     Ok(trials)
+}
+
+/// What stands before a word, and after it if it is there.
+fn split<'a>(text: &'a str, at: &str) -> (&'a str, Option<&'a str>) {
+    match text.split_once(at) {
+        Some((before, after)) => (before, Some(after)),
+        None => (text, None),
+    }
+}
+
+fn argument(word: &str) -> &str {
+    if word == "\"\"" { "" } else { word }
+}
+
+/// The setting that the lines of a program's arguments come to: 1 without one, none
+/// if they are not `1` or `2` alone.
+pub fn setting(given: Option<&str>) -> Option<u32> {
+    match given {
+        None | Some("1\n") => Some(1),
+        Some("2\n") => Some(2),
+        Some(_) => None,
+    }
 }
 
 /// Words, a line each.

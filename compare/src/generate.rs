@@ -8,7 +8,7 @@ mod patches;
 mod refused;
 mod targets;
 
-use accepted::{BIG, Flavour, MEMORY, PATCHES, REMAT, SHARED, SMALL};
+use accepted::{BIG, EVICTIONS, Flavour, MEMORY, PATCHES, REMAT, SHARED, SMALL};
 
 use crate::random::Random;
 
@@ -22,13 +22,14 @@ pub enum Mode {
     Memory,
     Remat,
     Patches,
+    Evictions,
     Refused,
     Limits,
     Damaged,
 }
 
 /// The modes by name, with what they are.
-pub const MODES: [(&str, Mode, &str); 10] = [
+pub const MODES: [(&str, Mode, &str); 11] = [
     ("mixed", Mode::Mixed, "all of the others"),
     (
         "small",
@@ -49,6 +50,11 @@ pub const MODES: [(&str, Mode, &str); 10] = [
     ),
     ("patches", Mode::Patches, "many patches in a function"),
     (
+        "evictions",
+        Mode::Evictions,
+        "slots moved between, of one bank and another in turn, hardly a unit free",
+    ),
+    (
         "refused",
         Mode::Refused,
         "each number of the table at each place, at times several at once",
@@ -61,14 +67,15 @@ pub const MODES: [(&str, Mode, &str); 10] = [
     ),
 ];
 
-/// How often `mixed` takes each mode, in a hundred.
-const MIX: [(Mode, usize); 9] = [
+/// How often `mixed` takes each mode, in so many as these come to.
+const MIX: [(Mode, usize); 10] = [
     (Mode::Small, 22),
     (Mode::Big, 3),
     (Mode::Shared, 16),
     (Mode::Memory, 10),
     (Mode::Remat, 12),
     (Mode::Patches, 4),
+    (Mode::Evictions, 8),
     (Mode::Refused, 20),
     (Mode::Limits, 3),
     (Mode::Damaged, 10),
@@ -132,11 +139,12 @@ fn flavour(mode: Mode) -> &'static Flavour {
         Mode::Memory => &MEMORY,
         Mode::Remat => &REMAT,
         Mode::Patches => &PATCHES,
+        Mode::Evictions => &EVICTIONS,
         _ => &SMALL,
     }
 }
 
 fn any_flavour(random: &mut Random) -> &'static Flavour {
-    let flavours = [&SMALL, &SMALL, &SHARED, &MEMORY, &REMAT];
+    let flavours = [&SMALL, &SMALL, &SHARED, &MEMORY, &REMAT, &EVICTIONS];
     random.pick::<&Flavour>(&flavours)
 }

@@ -1,4 +1,5 @@
-//! The original as the judge of jobs, and jobs for it to judge.
+//! The original as the judge of jobs, beside it the rules written a second time, and
+//! jobs for them to judge.
 
 pub mod answer;
 pub mod calls;
@@ -7,6 +8,7 @@ pub mod encode;
 pub mod frame;
 pub mod generate;
 pub mod number;
+pub mod plain;
 pub mod random;
 pub mod replay;
 pub mod tally;

@@ -1,4 +1,5 @@
-//! Answers jobs with the original module, and makes jobs to answer.
+//! Answers jobs with the original module or the rules written a second time, and
+//! makes jobs to answer.
 
 use std::error::Error;
 use std::fs;
@@ -6,22 +7,28 @@ use std::io::{self, BufReader, BufWriter, Read, Write};
 use std::path::Path;
 use std::process::ExitCode;
 
+use judge::answer::{Judge, SETTINGS};
 use judge::generate::calls::session;
 use judge::generate::{Generator, MODES};
+use judge::plain::Slip;
 use judge::random::Random;
 use judge::replay::{self, Record};
 use judge::tally::Tally;
 use judge::{answer, calls, encode, frame};
 
 const HELP: &str = "\
-compare answer
-    Reads a job on standard input and prints what document 01 says.
+compare answer [SETTING]
+    Reads a job on standard input and prints what document 01 says, with 1 kept
+    eviction unless said: by the original. With 2: by the rules written a second
+    time. With other arguments: `refused 22`, as the program `resolve` does.
     A panic of the original is printed as a last line `panic MESSAGE`.
-compare met
+compare second [SETTING]
+    The same, by the rules written a second time at 1 too.
+compare met [SETTING]
     Reads a job on standard input and prints for each resolved patch the greatest
     position that its searches met.
-compare answer-batch [--text]
-    The same for many jobs. In: each job after its length as 4 bytes, lowest
+compare answer-batch SETTING [--text]
+    The answers to many jobs. In: each job after its length as 4 bytes, lowest
     first. Out: each answer in the same form, or with --text each answer and
     then a line `--`.
 compare generate SEED COUNT MODE [--dir FOLDER]
@@ -32,18 +39,20 @@ compare encode
     Reads a job written in words on standard input and writes the job.
     Words: 12 (a number), 0x8f (a byte), ( 0 1 3 0 )*128 (repeated), # comment.
 compare trials FILE FOLDER
-    Writes NAME.job and NAME.out into the folder for each trial in the file, and
-    NAME.met for those that say which positions they meet.
+    Writes NAME.job and NAME.out into the folder for each trial in the file,
+    NAME.met for those that say which positions they meet, and NAME.given, an
+    argument a line, for those that say what the program is given.
 compare replay SEED FOLDER
-    Writes a fixed choice of jobs and answers: each as the job's length and the
-    answer's, as 4 bytes, lowest first, then the job and the answer. The trials
-    of the folder are among them. Says on standard error what was chosen.
+    Writes a fixed choice of jobs and answers: each as the setting, the job's
+    length and the answer's, as 4 bytes, lowest first, then the job and the
+    answer. The trials of the folder are among them. Says on standard error what
+    was chosen.
 compare replay-trials FILE
     Writes the same of the trials in the file.
 compare calls SEED COUNT
     Writes COUNT random calls that open a function or give it a patch, with what
     they should come to, a line each, all numbers in base ten:
-    open REFUSAL COUNT BYTE..
+    open SETTING REFUSAL COUNT BYTE..
     call REFUSAL MADE POSITION ROOM COUNT FREE-UNIT.. COUNT NUMBER.. COUNT WORD..
     ROOM is the length of the lent list; the words are those of the edits.
     POSITION is the greatest that the patch met, and 0 if it is refused.
@@ -58,10 +67,19 @@ fn main() -> ExitCode {
     let arguments: Vec<String> = std::env::args().skip(1).collect();
     let arguments: Vec<&str> = arguments.iter().map(String::as_str).collect();
     let outcome = match arguments[..] {
-        ["answer"] => answer_one(answer::answer),
-        ["met"] => answer_one(|job| encode::lines_of(answer::answer_and_positions(job).1)),
-        ["answer-batch"] => answer_batch(false),
-        ["answer-batch", "--text"] => answer_batch(true),
+        ["answer", ref given @ ..] => {
+            answer_one(|job| answer::answer(Judge::of(setting(given)), job).text)
+        }
+        ["second", ref given @ ..] => {
+            let judge = Judge::plain(setting(given), Slip::None);
+            answer_one(|job| answer::answer(judge, job).text)
+        }
+        ["met", ref given @ ..] => {
+            let judge = Judge::of(setting(given));
+            answer_one(|job| encode::lines_of(answer::answer(judge, job).positions))
+        }
+        ["answer-batch", given] => answer_batch(setting(&[given]), false),
+        ["answer-batch", given, "--text"] => answer_batch(setting(&[given]), true),
         ["generate", seed, count, mode] => generate(seed, count, mode, None),
         ["generate", seed, count, mode, "--dir", folder] => {
             generate(seed, count, mode, Some(Path::new(folder)))
@@ -89,6 +107,12 @@ fn main() -> ExitCode {
     }
 }
 
+/// The setting of a program's arguments; 0, which is none, if they say none.
+fn setting(given: &[&str]) -> u32 {
+    let lines = (!given.is_empty()).then(|| encode::lines_of(given));
+    encode::setting(lines.as_deref()).unwrap_or(0)
+}
+
 fn help() -> String {
     let mut help = format!("{HELP}Modes:\n");
     for (name, _, what) in MODES {
@@ -103,7 +127,7 @@ fn write_calls(seed: &str, count: &str) -> Outcome {
     let mut random = Random::new(seed);
     let mut output = BufWriter::new(io::stdout().lock());
     while left > 0 {
-        let session = session(&mut random, left);
+        let session = session(&mut random, left, &SETTINGS);
         left -= session.count();
         output.write_all(calls::record(&session).as_bytes())?;
     }
@@ -122,12 +146,12 @@ fn answer_one(answered: impl Fn(&[u8]) -> String) -> Outcome {
     Ok(())
 }
 
-fn answer_batch(as_text: bool) -> Outcome {
+fn answer_batch(kept_evictions: u32, as_text: bool) -> Outcome {
     answer::silence_panics();
     let mut input = BufReader::new(io::stdin().lock());
     let mut output = BufWriter::new(io::stdout().lock());
     while let Some(job) = frame::read(&mut input)? {
-        let text = answer::answer(&job);
+        let text = answer::text(kept_evictions, &job);
         if as_text {
             output.write_all(text.as_bytes())?;
             output.write_all(b"--\n")?;
@@ -170,8 +194,10 @@ fn write_trials(file: &str, folder: &Path) -> Outcome {
     for trial in encode::trials(&fs::read_to_string(file)?)? {
         fs::write(folder.join(format!("{}.job", trial.name)), trial.job)?;
         fs::write(folder.join(format!("{}.out", trial.name)), trial.printed)?;
-        if let Some(met) = trial.met {
-            fs::write(folder.join(format!("{}.met", trial.name)), met)?;
+        for (kind, lines) in [("met", trial.met), ("given", trial.given)] {
+            if let Some(lines) = lines {
+                fs::write(folder.join(format!("{}.{kind}", trial.name)), lines)?;
+            }
         }
     }
     Ok(())
@@ -187,7 +213,9 @@ fn write_replay(seed: &str, folder: &Path) -> Outcome {
 fn write_replay_of_trials(file: &str) -> Outcome {
     let mut records = Vec::new();
     for trial in encode::trials(&fs::read_to_string(file)?)? {
-        let record = Record::new("trials", trial.job);
+        let given = encode::setting(trial.given.as_deref());
+        let kept_evictions = given.ok_or("a trial without a setting")?;
+        let record = Record::new("trials", kept_evictions, trial.job);
         if record.text != trial.printed {
             return Err(format!("{} prints something else", trial.name).into());
         }

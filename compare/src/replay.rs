@@ -1,5 +1,5 @@
-//! A fixed choice of jobs with the original's answers, small enough to be kept
-//! and run again by every gate.
+//! A fixed choice of jobs with the judges' answers at both settings, small enough to
+//! be kept and run again by every gate.
 
 use std::collections::{BTreeMap, BTreeSet};
 use std::fmt::Write as _;
@@ -7,7 +7,9 @@ use std::io::{self, Write};
 use std::path::{Path, PathBuf};
 use std::{fs, iter};
 
-use crate::answer;
+use crate::answer::{self, Judge, SETTINGS};
+use crate::encode;
+use crate::generate::calls::NO_SETTINGS;
 use crate::generate::{Generator, MODES, limits};
 use crate::random::Random;
 
@@ -15,8 +17,11 @@ use crate::random::Random;
 const MOST_JOB: usize = 16_000;
 const MOST_TEXT: usize = 60_000;
 
-/// The numbers that a job can be refused by.
-const NUMBERS: [u32; 17] = [1, 2, 3, 4, 5, 6, 7, 8, 9, 10, 11, 12, 13, 14, 15, 17, 21];
+/// The numbers that a job can be refused by, and at last the one for a setting.
+const NUMBERS: [u32; 18] = [
+    1, 2, 3, 4, 5, 6, 7, 8, 9, 10, 11, 12, 13, 14, 15, 17, 21, 22,
+];
+const NO_SUCH_SETTING: u32 = 22;
 
 /// The modes of mostly accepted jobs: how many to take, how many lines the text
 /// has at least, and how long job and text together may be.
@@ -28,6 +33,14 @@ const ACCEPTED: [(&str, usize, usize, usize); 6] = [
     ("remat", 42, 1, 1500),
     ("patches", 8, 1, 4000),
 ];
+
+/// Of mode `evictions`: how many jobs to take at both settings whose answers differ,
+/// and how many of them with another outcome; how long job and text together may
+/// be; out of how many.
+const BOTH_SETTINGS: usize = 40;
+const OTHER_OUTCOME: usize = 8;
+const MOST_BOTH: usize = 900;
+const BOTH_TRIED: usize = 20_000;
 
 /// Of mode `refused`: how many to take for each number, of what length, out of
 /// how many.
@@ -46,10 +59,11 @@ const LIMIT_TRIED: usize = 12;
 const SHORT_LIMIT_RECORD: usize = 1000;
 const SHORT_LIMIT_RECORDS: usize = 3;
 
-/// A job and what the original says of it.
+/// A job and what the judge of a setting says of it.
 pub struct Record {
-    /// The mode of the generator, or `trials`.
+    /// The mode of the generator, or `trials` or `settings`.
     pub mode: &'static str,
+    pub kept_evictions: u32,
     pub job: Vec<u8>,
     pub text: String,
     /// How many of the job's bytes were read.
@@ -57,13 +71,14 @@ pub struct Record {
 }
 
 impl Record {
-    pub fn new(mode: &'static str, job: Vec<u8>) -> Record {
-        let (text, place) = answer::answer_and_place(&job);
+    pub fn new(mode: &'static str, kept_evictions: u32, job: Vec<u8>) -> Record {
+        let answer = answer::answer(Judge::of(kept_evictions), &job);
         Record {
             mode,
+            kept_evictions,
             job,
-            text,
-            place,
+            text: answer.text,
+            place: answer.place,
         }
     }
 
@@ -92,6 +107,7 @@ impl Record {
     }
 
     pub fn write(&self, output: &mut impl Write) -> io::Result<()> {
+        output.write_all(&self.kept_evictions.to_le_bytes())?;
         for part in [self.job.len(), self.text.len()] {
             let length = u32::try_from(part).map_err(io::Error::other)?;
             output.write_all(&length.to_le_bytes())?;
@@ -101,17 +117,25 @@ impl Record {
     }
 }
 
-/// The trials of a folder, by name.
+/// The trials of a folder, by name, but for those whose arguments say no setting.
 pub fn trials(folder: &Path) -> io::Result<Vec<Record>> {
     let mut files: Vec<PathBuf> = fs::read_dir(folder)?
         .map(|file| Ok(file?.path()))
         .collect::<io::Result<_>>()?;
     files.retain(|file| file.extension().is_some_and(|end| end == "job"));
     files.sort();
-    files
-        .iter()
-        .map(|file| Ok(Record::new("trials", fs::read(file)?)))
-        .collect()
+    let mut records = Vec::new();
+    for file in files {
+        let given = file.with_extension("given");
+        let given = match given.exists() {
+            true => Some(fs::read_to_string(given)?),
+            false => None,
+        };
+        if let Some(kept_evictions) = encode::setting(given.as_deref()) {
+            records.push(Record::new("trials", kept_evictions, fs::read(file)?));
+        }
+    }
+    Ok(records)
 }
 
 /// The records that a seed decides, after those of the trials.
@@ -124,21 +148,64 @@ pub fn records(seed: u64, trials: Vec<Record>) -> Result<Vec<Record>, String> {
             .take(wanted);
         records.extend(accepted);
     }
+    records.extend(at_both_settings(seed)?);
     records.extend(at_limits(seed));
     records.extend(refused(seed)?);
     records.extend(damaged(seed));
+    records.extend(at_no_setting(seed));
     match records.iter().find(|record| !record.fits()) {
         Some(record) => Err(format!("a record of {} is too long", record.mode)),
         None => Ok(records),
     }
 }
 
-/// The jobs of a mode, without end.
+/// The jobs of a mode, without end, at one setting and the other in turn.
 fn jobs(seed: u64, mode: &'static str) -> impl Iterator<Item = Record> {
     let known = MODES.iter().find(|(name, _, _)| *name == mode);
     let &(name, mode, _) = known.expect("the mode is one of the table");
     let mut generator = Generator::new(seed, mode);
-    iter::repeat_with(move || Record::new(name, generator.job()))
+    let settings = SETTINGS.into_iter().cycle();
+    settings.map(move |kept_evictions| Record::new(name, kept_evictions, generator.job()))
+}
+
+/// Jobs whose answers at the two settings differ, at both; some of them in that one
+/// is refused.
+fn at_both_settings(seed: u64) -> Result<Vec<Record>, String> {
+    let mut records = Vec::new();
+    let (mut alike, mut other) = (0, 0);
+    for one in jobs(seed, "evictions").take(BOTH_TRIED) {
+        let [one, two] =
+            SETTINGS.map(|setting| Record::new(one.mode, setting, one.job.clone()));
+        if one.text == two.text || one.bytes() > MOST_BOTH {
+            continue;
+        }
+        let (count, wanted) = match one.refusal() == two.refusal() {
+            true => (&mut alike, BOTH_SETTINGS - OTHER_OUTCOME),
+            false => (&mut other, OTHER_OUTCOME),
+        };
+        if *count < wanted {
+            *count += 1;
+            records.extend([one, two]);
+        }
+    }
+    match records.len() == 2 * BOTH_SETTINGS {
+        true => Ok(records),
+        false => Err(format!("{alike} and {other} jobs at both settings")),
+    }
+}
+
+/// Settings that are none, each with an accepted job, a damaged one and none.
+fn at_no_setting(seed: u64) -> Vec<Record> {
+    let short = |record: &Record| record.job.len() <= MOST_DAMAGED_JOB;
+    let mut accepted = jobs(seed, "small").filter(|r| r.refusal() == 0 && short(r));
+    let mut damaged = jobs(seed, "damaged").filter(|r| r.refusal() != 0 && short(r));
+    let mut records = Vec::new();
+    for setting in NO_SETTINGS {
+        let jobs = iter::empty().chain(accepted.next()).chain(damaged.next());
+        let jobs = jobs.map(|record| record.job).chain([Vec::new()]);
+        records.extend(jobs.map(|job| Record::new("settings", setting, job)));
+    }
+    records
 }
 
 /// Jobs refused by each number, at as many places as there are: a job is taken
@@ -163,6 +230,9 @@ fn refused(seed: u64) -> Result<Vec<Record>, String> {
     }
     let mut records = Vec::new();
     for number in NUMBERS {
+        if number == NO_SUCH_SETTING {
+            continue;
+        }
         let (mut apart, others) = by_number.remove(&number).unwrap_or_default();
         apart.extend(others);
         apart.truncate(FOR_EACH_NUMBER);
@@ -192,11 +262,16 @@ fn damaged(seed: u64) -> Vec<Record> {
 /// at the limit an accepted one if there is.
 fn at_limits(seed: u64) -> Vec<Record> {
     let mut random = Random::new(seed);
+    let mut settings = SETTINGS.into_iter().cycle();
+    let mut record = |job| {
+        let setting = settings.next().expect("it has no end");
+        Record::new("limits", setting, job)
+    };
     let mut records = Vec::new();
     for kind in limits::KINDS {
         for past in 0..2 {
             let mut tried: Vec<Record> = (0..LIMIT_TRIED)
-                .map(|_| Record::new("limits", limits::job_of(&mut random, kind, past)))
+                .map(|_| record(limits::job_of(&mut random, kind, past)))
                 .filter(Record::fits)
                 .collect();
             let short = tried.iter().all(|r| r.bytes() <= SHORT_LIMIT_RECORD);
@@ -210,8 +285,7 @@ fn at_limits(seed: u64) -> Vec<Record> {
         }
     }
     for past in 0..2 {
-        let job = limits::order_entries_in_few_bytes(past);
-        records.push(Record::new("limits", job));
+        records.push(record(limits::order_entries_in_few_bytes(past)));
     }
     records
 }
@@ -251,7 +325,7 @@ pub fn table(records: &[Record]) -> String {
         let bytes: usize = records
             .iter()
             .filter(|record| mode == "all" || record.mode == mode)
-            .map(|record| 8 + record.bytes())
+            .map(|record| 12 + record.bytes())
             .sum();
         let _ = writeln!(table, "{all:>5}{bytes:>9}");
     }
@@ -263,9 +337,10 @@ pub fn table(records: &[Record]) -> String {
         .count();
     let longest_job = records.iter().map(|r| r.job.len()).max().unwrap_or(0);
     let longest_text = records.iter().map(|r| r.text.len()).max().unwrap_or(0);
+    let with_two = records.iter().filter(|r| r.kept_evictions == 2).count();
     let _ = writeln!(
         table,
-        "{patches} patches, {edits} edits, \
+        "{with_two} with two kept evictions; {patches} patches, {edits} edits, \
          longest job {longest_job}, longest text {longest_text}"
     );
     table

@@ -1,5 +1,7 @@
 //! Stands in for ours where the static library is to be done without: the same
-//! functions, with the original behind them, and faults that must be found.
+//! functions, with the rules written a second time behind them, and faults that must
+//! be found. Without one it is those rules that are held against the original, at
+//! setting 1.
 //!
 //! The environment's `STUB_FAULT` names the fault, if there is to be one.
 
@@ -7,13 +9,15 @@ use std::collections::HashMap;
 use std::slice;
 use std::sync::{Mutex, OnceLock};
 
+use judge::answer::Judge;
 use judge::calls::{Call, Function, Room, Session};
 use judge::number::{Reader, Refused};
+use judge::plain::Slip;
 use judge::target::{Register, Target};
 use judge::{answer, words};
 
 /// The faults, each in some answers only.
-const FAULTS: [&str; 24] = [
+const FAULTS: [&str; 38] = [
     "order",       // two edits change places in a patch with four or more
     "place",       // a copy into slot 3 goes to slot 1
     "made",        // a slot too many is counted from the second patch on
@@ -27,6 +31,17 @@ const FAULTS: [&str; 24] = [
     "text",        // the text of rebuilds is wrong, their words are right
     "words",       // the words of rebuilds are wrong, their text is right
     "little-room", // no heed is paid to the room that there is
+    "setting",     // settings are looked at by their lowest byte
+    "setting-last", // 22 comes after the tests of the job
+    "one-kept",    // at setting 2 one eviction is kept
+    "newer-first", // and so on: the slips of the rule for kept evictions
+    "oldest-reused",
+    "by-use",
+    "older-too",
+    "newer-for-room",
+    "overlap-unheeded",
+    "one-for-a-place",
+    "slot-first",
     "open",        // a function with bytes left over is opened
     "call-number", // 12 for 13
     "call-order",  // the last two of four edits and more change places
@@ -38,7 +53,32 @@ const FAULTS: [&str; 24] = [
     "call-past",   // a word past the edits is written
     "call-equal",  // 21 is given for equal sources of two values
     "call-last",   // 21 is given only if the entry before is the one overlapped
+    "open-setting", // a function is opened at setting 3, as at 2
+    "open-bytes",  // 22 comes after the tests of the target and the function
+    "call-kept",   // at setting 2 one eviction is kept
 ];
+
+/// The judge that stands behind the library's place.
+fn judge(kept_evictions: u32) -> Result<Judge, Refused> {
+    let slip = match fault() {
+        "newer-first" => Slip::NewerFirst,
+        "oldest-reused" => Slip::OldestReused,
+        "by-use" => Slip::ByUse,
+        "older-too" => Slip::OlderToo,
+        "newer-for-room" => Slip::NewerForRoom,
+        "overlap-unheeded" => Slip::OverlapUnheeded,
+        "one-for-a-place" => Slip::OneForAPlace,
+        "slot-first" => Slip::SlotFirst,
+        _ => Slip::None,
+    };
+    let kept_evictions = match (fault(), kept_evictions) {
+        ("one-kept" | "call-kept", 2) => 1,
+        ("open-setting", 3) => 2,
+        ("setting", _) => kept_evictions % 256,
+        _ => kept_evictions,
+    };
+    Judge::plain(kept_evictions, slip)
+}
 
 fn fault() -> &'static str {
     static FAULT: OnceLock<&str> = OnceLock::new();
@@ -171,8 +211,9 @@ fn whole_patches(words: &[u64], room: usize) -> usize {
 
 /// # Safety
 /// As the library's.
-#[unsafe(export_name = "parallel_moves_answer_3")]
+#[unsafe(export_name = "parallel_moves_answer_4")]
 pub unsafe extern "C" fn parallel_moves_answer(
+    kept_evictions: u32,
     job: *const u8,
     job_len: usize,
     words: *mut u64,
@@ -193,10 +234,17 @@ pub unsafe extern "C" fn parallel_moves_answer(
     _carried: *mut u16,
 ) -> usize {
     let job = unsafe { slice::from_raw_parts(job, job_len) };
-    let (text, positions) = answer::answer_and_positions(job);
-    let (mut found, mut number) = words_of(&text, &positions);
+    let answer = answer::answer(judge(kept_evictions), job);
+    let (mut found, mut number) = words_of(&answer.text, &answer.positions);
+    if number == 22 && fault() == "setting-last" {
+        let late = answer::answer(judge(1), job);
+        let refused = late.positions.is_empty() && late.text.starts_with("refused");
+        number = if refused { words_of(&late.text, &[]).1 } else { 22 };
+    }
     spoil(&mut found, &mut number);
-    misjudge(job, &mut found, &mut number);
+    if number != 22 {
+        misjudge(job, &mut found, &mut number);
+    }
     if fault() != "little-room" {
         let whole = whole_patches(&found, words_len);
         if whole < found.len() {
@@ -213,7 +261,7 @@ pub unsafe extern "C" fn parallel_moves_answer(
 
 /// # Safety
 /// As the library's.
-#[unsafe(export_name = "parallel_moves_text_3")]
+#[unsafe(export_name = "parallel_moves_text_4")]
 pub unsafe extern "C" fn parallel_moves_text(
     words: *const u64,
     words_len: usize,
@@ -249,8 +297,9 @@ fn opened() -> &'static Mutex<HashMap<usize, Session<'static>>> {
 
 /// # Safety
 /// As the library's.
-#[unsafe(export_name = "parallel_moves_open_3")]
+#[unsafe(export_name = "parallel_moves_open_4")]
 pub unsafe extern "C" fn parallel_moves_open(
+    kept_evictions: u32,
     bytes: *const u8,
     bytes_len: usize,
     target: *mut u16,
@@ -258,8 +307,15 @@ pub unsafe extern "C" fn parallel_moves_open(
     cache: *mut u16,
 ) -> u8 {
     let mut bytes = unsafe { slice::from_raw_parts(bytes, bytes_len) };
+    let mut judge = judge(kept_evictions);
+    if fault() == "open-bytes" && judge.is_err() {
+        judge = Judge::plain(1, Slip::None);
+        if Function::open(judge, bytes).is_ok() {
+            return 22;
+        }
+    }
     let function = loop {
-        match Function::open(bytes) {
+        match Function::open(judge, bytes) {
             Ok(function) => break function,
             Err(refused) if refused.0 == 8 && fault() == "open" => {
                 bytes = &bytes[..bytes.len() - 1]
@@ -295,7 +351,7 @@ fn overlaps_the_last(session: &Session<'_>, call: &Call) -> bool {
 
 /// # Safety
 /// As the library's.
-#[unsafe(export_name = "parallel_moves_resolve_3")]
+#[unsafe(export_name = "parallel_moves_resolve_4")]
 pub unsafe extern "C" fn parallel_moves_resolve(
     target: *const u16,
     _function: *const u16,
@@ -373,7 +429,7 @@ pub unsafe extern "C" fn parallel_moves_resolve(
 
 /// # Safety
 /// As the library's.
-#[unsafe(export_name = "parallel_moves_made_3")]
+#[unsafe(export_name = "parallel_moves_made_4")]
 pub unsafe extern "C" fn parallel_moves_made(cache: *const u16) -> u16 {
     let made = unsafe { *cache };
     if fault() == "call-made" && made > 0 {

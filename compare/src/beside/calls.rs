@@ -1,11 +1,12 @@
-//! Functions opened and patches given, call by call, to the original and to
-//! ours.
+//! Functions opened and patches given, call by call, to the judge of a setting and
+//! to ours.
 
 use std::fmt::Write;
 use std::panic::{self, AssertUnwindSafe};
 
+use judge::answer::Judge;
 use judge::calls::{self, Call, Function, Room};
-use judge::generate::calls::Session;
+use judge::generate::calls::{Opening, Session};
 
 use crate::ours::{NO_POSITION, Ours};
 
@@ -27,7 +28,7 @@ pub struct Difference {
 
 /// Makes a session's calls on both sides. After each refused one the list, the
 /// cache and the position must be as before it, byte for byte; after each other
-/// one the edits, the slots made and the position must be the original's, and
+/// one the edits, the slots made and the position must be the judge's, and
 /// the list as before past the edits.
 pub fn compare(ours: &mut Ours, session: &Session) -> Result<Outcome, Difference> {
     let caught = panic::catch_unwind(AssertUnwindSafe(|| both(ours, session)));
@@ -49,10 +50,10 @@ fn both(ours: &mut Ours, session: &Session) -> Result<Outcome, Difference> {
         return Ok(outcome);
     };
     let opened = ours.opened().map(<[u16]>::to_vec);
-    let mut original = calls::Session::new(&function);
+    let mut judge = calls::Session::new(&function);
     for (at, call) in session.calls.iter().enumerate() {
         let (refusal, edits) =
-            one(ours, &mut original, call).map_err(|what| Difference { at, what })?;
+            one(ours, &mut judge, call).map_err(|what| Difference { at, what })?;
         outcome.resolved.push(refusal);
         outcome.edits += edits as u64;
     }
@@ -72,13 +73,17 @@ fn open_all(
     outcome: &mut Outcome,
 ) -> Result<Option<Function>, String> {
     let mut last = None;
-    for bytes in session.before.iter().chain([&session.bytes]) {
+    for opening in session.before.iter().chain([&session.opening]) {
+        let &Opening {
+            kept_evictions,
+            ref bytes,
+        } = opening;
         let before = ours.cache().to_vec();
-        let opened = Function::open(bytes);
+        let opened = Function::open(Judge::of(kept_evictions), bytes);
         let expected = opened.as_ref().map_or_else(|refused| refused.0, |_| 0);
-        let refusal = ours.open(bytes);
+        let refusal = ours.open(kept_evictions, bytes);
         if refusal != expected {
-            return Err(format!("open gives {refusal}, the original {expected}"));
+            return Err(format!("open gives {refusal}, the judge {expected}"));
         }
         if refusal == 0 {
             let made = ours.made();
@@ -97,17 +102,17 @@ fn open_all(
 /// Makes one call: the refusal, and how many edits there are.
 fn one(
     ours: &mut Ours,
-    original: &mut calls::Session<'_>,
+    judge: &mut calls::Session<'_>,
     call: &Call,
 ) -> Result<(u8, usize), String> {
-    let expected = original.call(call);
+    let expected = judge.call(call);
     ours.fill_list();
     let list = ours.list().to_vec();
     let (words, number) = match &expected.outcome {
         Ok(words) => (&words[..], 0),
         Err(refused) => (&[][..], refused.0),
     };
-    // If ours refuses what the original takes, that is the difference.
+    // If ours refuses what the judge takes, that is the difference.
     let cache = if number == 0 {
         Vec::new()
     } else {
@@ -116,14 +121,14 @@ fn one(
 
     let (count, refusal, position) = ours.resolve(&call.free, &call.numbers, expected.room);
     if refusal != number {
-        return Err(format!("refusal {refusal}, of the original {number}"));
+        return Err(format!("refusal {refusal}, of the judge {number}"));
     }
     if count != words.len() {
-        return Err(format!("{count} edits, of the original {}", words.len()));
+        return Err(format!("{count} edits, of the judge {}", words.len()));
     }
     if ours.list()[..count] != *words {
         return Err(format!(
-            "the edits {:?}, of the original {words:?}",
+            "the edits {:?}, of the judge {words:?}",
             &ours.list()[..count]
         ));
     }
@@ -138,7 +143,7 @@ fn one(
     let made = ours.made();
     if made != expected.made {
         return Err(format!(
-            "{made} slots made, by the original {}",
+            "{made} slots made, by the judge {}",
             expected.made
         ));
     }
@@ -147,7 +152,7 @@ fn one(
     }
     if refusal == 0 && usize::from(position) != expected.position {
         return Err(format!(
-            "position {position}, of the original {}",
+            "position {position}, of the judge {}",
             expected.position
         ));
     }
@@ -212,10 +217,16 @@ impl List {
 /// A session in words.
 pub fn text(session: &Session) -> String {
     let mut text = String::new();
-    for bytes in &session.before {
-        put(&mut text, &format!("open {bytes:?}"));
+    for opening in session.before.iter().chain([&session.opening]) {
+        let Opening {
+            kept_evictions,
+            bytes,
+        } = opening;
+        put(
+            &mut text,
+            &format!("open setting {kept_evictions} {bytes:?}"),
+        );
     }
-    put(&mut text, &format!("open {:?}", session.bytes));
     for call in &session.calls {
         let Call {
             free,

@@ -1,13 +1,17 @@
-//! One job, answered by the original and by ours.
+//! One job, answered by the judge of a setting and by ours.
 
-use judge::{answer, words};
+use judge::answer::{self, Judge};
+use judge::generate::calls::NO_SETTINGS;
+use judge::plain::Reached;
+use judge::words;
 
 use crate::ours::Ours;
 
 /// How a job is compared.
 #[derive(Clone, Copy, Default)]
 pub struct Way {
-    /// Also with too little room for the words, and for the text.
+    /// Also with too little room for the words, and for the text, and at settings
+    /// that are none.
     pub with_little_room: bool,
     /// Ours' answer is spoiled first, to see that it is found.
     pub spoiled: Option<Spoiled>,
@@ -27,25 +31,33 @@ pub struct Outcome {
     pub refusal: u8,
     pub patches: u64,
     pub edits: u64,
+    pub text: String,
+    pub reached: Reached,
 }
 
 /// What is not the same.
 pub struct Difference {
     pub what: String,
-    pub original: String,
+    /// What the judge prints.
+    pub judged: String,
     /// What ours prints.
     pub printed: String,
     /// What the words of ours come to.
     pub decoded: String,
 }
 
-/// Compares the answers to a job.
-pub fn compare(ours: &mut Ours, job: &[u8], way: Way) -> Result<Outcome, Box<Difference>> {
-    let (original, positions) = answer::answer_and_positions(job);
-    let (count, mut refusal) = ours.answer(job, None);
+/// Compares the answers to a job at a setting.
+pub fn compare(
+    ours: &mut Ours,
+    kept_evictions: u32,
+    job: &[u8],
+    way: Way,
+) -> Result<Outcome, Box<Difference>> {
+    let judged = answer::answer(Judge::of(kept_evictions), job);
+    let (count, mut refusal) = ours.answer(kept_evictions, job, None);
     let printed = ours.text(count, refusal, None).unwrap_or_default();
     let length = printed.len();
-    let same_text = printed == original.as_bytes() && way.spoiled != Some(Spoiled::Text);
+    let same_text = printed == judged.text.as_bytes() && way.spoiled != Some(Spoiled::Text);
     let printed = (!same_text).then(|| {
         let mut text = String::from_utf8_lossy(printed).into_owned();
         if way.spoiled == Some(Spoiled::Text) {
@@ -67,14 +79,15 @@ pub fn compare(ours: &mut Ours, job: &[u8], way: Way) -> Result<Outcome, Box<Dif
     let what = match &decoded {
         _ if !same_text => "the text that ours prints".to_owned(),
         Err(wrong) => format!("the words of ours: {wrong}"),
-        Ok(decoded) if decoded.text != original => "the words of ours".to_owned(),
-        Ok(decoded) if decoded.positions != positions => format!(
-            "the positions {:?}, of the original {positions:?}",
-            decoded.positions
+        Ok(decoded) if decoded.text != judged.text => "the words of ours".to_owned(),
+        Ok(decoded) if decoded.positions != judged.positions => format!(
+            "the positions {:?}, of the judge {:?}",
+            decoded.positions, judged.positions
         ),
         Ok(decoded) => {
             let wrong = if way.with_little_room {
-                little_room(ours, job, count, refusal, length)
+                let room = little_room(ours, kept_evictions, job, count, refusal, length);
+                room.or_else(|| no_setting(ours, job))
             } else {
                 None
             };
@@ -85,6 +98,8 @@ pub fn compare(ours: &mut Ours, job: &[u8], way: Way) -> Result<Outcome, Box<Dif
                         refusal,
                         patches: decoded.patches,
                         edits: decoded.edits,
+                        text: judged.text,
+                        reached: judged.reached,
                     });
                 }
             }
@@ -92,8 +107,8 @@ pub fn compare(ours: &mut Ours, job: &[u8], way: Way) -> Result<Outcome, Box<Dif
     };
     Err(Box::new(Difference {
         what,
-        printed: printed.unwrap_or_else(|| original.clone()),
-        original,
+        printed: printed.unwrap_or_else(|| judged.text.clone()),
+        judged: judged.text,
         decoded: decoded.map_or_else(|wrong| format!("{wrong}\n"), |decoded| decoded.text),
     }))
 }
@@ -101,6 +116,7 @@ pub fn compare(ours: &mut Ours, job: &[u8], way: Way) -> Result<Outcome, Box<Dif
 /// What ours does wrong when it has too little room, if anything.
 fn little_room(
     ours: &mut Ours,
+    kept_evictions: u32,
     job: &[u8],
     count: usize,
     refusal: u8,
@@ -116,7 +132,7 @@ fn little_room(
     let whole = ours.words(count).map(|words| words.to_vec())?;
     for room in [0, count / 2, count.saturating_sub(1)] {
         if room < count
-            && let Some(wrong) = short_list(ours, job, &whole, room)
+            && let Some(wrong) = short_list(ours, kept_evictions, job, &whole, room)
         {
             return Some(format!("with room for {room} words of {count}: {wrong}"));
         }
@@ -124,12 +140,40 @@ fn little_room(
     None
 }
 
+/// What a word is that is to be left alone.
+const LEFT_ALONE: u64 = u64::MAX / 5;
+
+/// What ours does wrong at a setting that is none, if anything: it gives 22, whatever
+/// the job and the room, and leaves the list alone.
+fn no_setting(ours: &mut Ours, job: &[u8]) -> Option<String> {
+    const WATCHED: usize = 64;
+    ours.words(WATCHED)?.fill(LEFT_ALONE);
+    for setting in NO_SETTINGS {
+        for room in [None, Some(0)] {
+            let (given, number) = ours.answer(setting, job, room);
+            let text = ours.text(given, number, None);
+            if (given, number) != (0, 22) || text != Some(b"refused 22\n") {
+                return Some(format!(
+                    "at setting {setting}: {given} words and refusal {number}"
+                ));
+            }
+        }
+    }
+    let written = ours.words(WATCHED)?.iter().any(|&word| word != LEFT_ALONE);
+    written.then(|| "words written at a setting that is none".to_owned())
+}
+
 /// What ours does wrong with a list that is too short, if anything: it gives 16
 /// and some of the first patches, and leaves the rest of the list alone.
-fn short_list(ours: &mut Ours, job: &[u8], whole: &[u64], room: usize) -> Option<String> {
-    const LEFT_ALONE: u64 = u64::MAX / 5;
+fn short_list(
+    ours: &mut Ours,
+    kept_evictions: u32,
+    job: &[u8],
+    whole: &[u64],
+    room: usize,
+) -> Option<String> {
     ours.words(whole.len())?.fill(LEFT_ALONE);
-    let (given, number) = ours.answer(job, Some(room));
+    let (given, number) = ours.answer(kept_evictions, job, Some(room));
     if number != 16 || given > room {
         return Some(format!("{given} words and refusal {number}"));
     }

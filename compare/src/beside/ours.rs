@@ -15,8 +15,9 @@ extern crate stub;
 #[cfg_attr(not(stub), link(name = "parallel_moves_c", kind = "static"))]
 #[cfg_attr(not(stub), link(name = "calls_c", kind = "static"))]
 unsafe extern "C" {
-    #[link_name = "parallel_moves_open_3"]
+    #[link_name = "parallel_moves_open_4"]
     fn parallel_moves_open(
+        kept_evictions: u32,
         bytes: *const u8,
         bytes_len: usize,
         target: *mut u16,
@@ -24,7 +25,7 @@ unsafe extern "C" {
         cache: *mut u16,
     ) -> u8;
 
-    #[link_name = "parallel_moves_resolve_3"]
+    #[link_name = "parallel_moves_resolve_4"]
     fn parallel_moves_resolve(
         target: *const u16,
         function: *const u16,
@@ -48,11 +49,12 @@ unsafe extern "C" {
         carried: *mut u16,
     ) -> usize;
 
-    #[link_name = "parallel_moves_made_3"]
+    #[link_name = "parallel_moves_made_4"]
     fn parallel_moves_made(cache: *const u16) -> u16;
 
-    #[link_name = "parallel_moves_answer_3"]
+    #[link_name = "parallel_moves_answer_4"]
     fn parallel_moves_answer(
+        kept_evictions: u32,
         job: *const u8,
         job_len: usize,
         words: *mut u64,
@@ -73,7 +75,7 @@ unsafe extern "C" {
         carried: *mut u16,
     ) -> usize;
 
-    #[link_name = "parallel_moves_text_3"]
+    #[link_name = "parallel_moves_text_4"]
     fn parallel_moves_text(
         words: *const u64,
         words_len: usize,
@@ -150,7 +152,7 @@ impl Ours {
             words: longs(MOST_WORDS),
             text: Lent::new(MOST_TEXT, [b'?', b'!']),
             target: shorts(107_520),
-            function: shorts(16_387),
+            function: shorts(16_388),
             cache: shorts(65_600),
             list: longs(MOST_EDITS),
             free_units: flags(512),
@@ -167,15 +169,16 @@ impl Ours {
         }
     }
 
-    /// How many words a job's answer has, and the refusal, when it is lent
-    /// `room` words, or as many as can be needed.
-    pub fn answer(&mut self, job: &[u8], room: Option<usize>) -> (usize, u8) {
+    /// How many words a job's answer has at a setting, and the refusal, when it is
+    /// lent `room` words, or as many as can be needed.
+    pub fn answer(&mut self, kept_evictions: u32, job: &[u8], room: Option<usize>) -> (usize, u8) {
         let room = room.unwrap_or(MOST_WORDS).min(MOST_WORDS);
         let mut refusal = 0x5a;
         // SAFETY: each array is as long as the function says, the flags are 0
         // or 1, and none lies on another.
         let count = unsafe {
             parallel_moves_answer(
+                kept_evictions,
                 job.as_ptr(),
                 job.len(),
                 self.words.pointer(),
@@ -199,12 +202,13 @@ impl Ours {
         (count, refusal)
     }
 
-    /// Opens a function: the refusal, or 0.
-    pub fn open(&mut self, bytes: &[u8]) -> u8 {
+    /// Opens a function at a setting: the refusal, or 0.
+    pub fn open(&mut self, kept_evictions: u32, bytes: &[u8]) -> u8 {
         // SAFETY: each array is as long as the function says, and none lies on
         // another.
         unsafe {
             parallel_moves_open(
+                kept_evictions,
                 bytes.as_ptr(),
                 bytes.len(),
                 self.target.pointer(),

@@ -45,6 +45,14 @@ impl Task {
         }
     }
 
+    /// The mode that its jobs are of.
+    pub fn mode(&self) -> &'static str {
+        match self {
+            Task::Generated { name, .. } => name,
+            _ => "damaged",
+        }
+    }
+
     /// Gives each job in turn, until one breaks off.
     pub fn each<B>(&self, mut give: impl FnMut(&[u8]) -> ControlFlow<B>) -> ControlFlow<B> {
         match self {
@@ -180,7 +188,7 @@ pub fn damaged(trials: &Path) -> io::Result<Vec<Task>> {
                 job: job.clone(),
                 offset,
             };
-            let test = |job: &[u8]| match answer::answer(job).ends_with(refused) {
+            let test = |job: &[u8]| match answer::text(1, job).ends_with(refused) {
                 true => ControlFlow::Break(()),
                 false => ControlFlow::Continue(()),
             };
@@ -218,7 +226,7 @@ fn first(mode: &str, least: usize, most: usize, such: impl Fn(&[u8], &str) -> bo
     loop {
         let job = generator.job();
         if (least..=most).contains(&job.len()) {
-            let text = answer::answer(&job);
+            let text = answer::text(1, &job);
             if !text.contains("refused") && such(&job, &text) {
                 return job.into();
             }

@@ -27,6 +27,10 @@ pub struct Flavour {
     pub entries: Range,
     /// Chance of the shipped target.
     pub shipped: usize,
+    /// Whether registers are to be evicted again and again: hardly a unit is free,
+    /// slots are moved between, of one bank and another in turn, many classes have
+    /// no slots and share members, and few slots may be made.
+    pub evicting: bool,
 }
 
 pub const SMALL: Flavour = Flavour {
@@ -41,6 +45,7 @@ pub const SMALL: Flavour = Flavour {
     patches: (1, 3),
     entries: (1, 7),
     shipped: 0,
+    evicting: false,
 };
 
 pub const BIG: Flavour = Flavour {
@@ -55,6 +60,7 @@ pub const BIG: Flavour = Flavour {
     patches: (1, 2),
     entries: (50, 128),
     shipped: 5,
+    evicting: false,
 };
 
 pub const SHARED: Flavour = Flavour {
@@ -69,6 +75,7 @@ pub const SHARED: Flavour = Flavour {
     patches: (1, 4),
     entries: (2, 20),
     shipped: 20,
+    evicting: false,
 };
 
 pub const MEMORY: Flavour = Flavour {
@@ -83,6 +90,7 @@ pub const MEMORY: Flavour = Flavour {
     patches: (1, 4),
     entries: (1, 14),
     shipped: 0,
+    evicting: false,
 };
 
 pub const REMAT: Flavour = Flavour {
@@ -97,6 +105,7 @@ pub const REMAT: Flavour = Flavour {
     patches: (1, 4),
     entries: (1, 14),
     shipped: 3,
+    evicting: false,
 };
 
 pub const PATCHES: Flavour = Flavour {
@@ -111,6 +120,22 @@ pub const PATCHES: Flavour = Flavour {
     patches: (8, 60),
     entries: (0, 9),
     shipped: 2,
+    evicting: false,
+};
+
+pub const EVICTIONS: Flavour = Flavour {
+    banks: (2, 4),
+    registers: (1, 5),
+    wide: 60,
+    memory: 10,
+    values: (3, 14),
+    rebuild: 40,
+    slots: (4, 24),
+    slot_places: 75,
+    patches: (1, 4),
+    entries: (2, 18),
+    shipped: 1,
+    evicting: true,
 };
 
 /// A random draft.
@@ -120,12 +145,16 @@ pub fn draft(random: &mut Random, flavour: &Flavour) -> Draft {
     } else {
         targets::random(random, flavour)
     };
-    let values = targets::values(random, &target, flavour);
+    let rebuild = match flavour.evicting {
+        true => *random.pick(&[5, 40, 40, 90]),
+        false => flavour.rebuild,
+    };
+    let values = targets::values(random, &target, flavour.values, rebuild);
     let mut draft = Draft {
         target,
         values,
         slots: random.range(flavour.slots),
-        emergency_limit: if random.chance(95) {
+        emergency_limit: if random.chance(if flavour.evicting { 80 } else { 95 }) {
             random.within(100, 2048)
         } else {
             random.below(4)

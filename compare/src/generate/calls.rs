@@ -1,21 +1,31 @@
 //! Functions and calls on them, about a tenth of which are refused.
 
-use super::accepted::{self, BIG, Flavour, MEMORY, PATCHES, REMAT, SHARED, SMALL};
+use super::accepted::{self, BIG, EVICTIONS, Flavour, MEMORY, PATCHES, REMAT, SHARED, SMALL};
 use super::patches::PatchMaker;
 use super::refused;
 use crate::calls::{Call, Room};
 use crate::draft::{Draft, Patch};
 use crate::random::Random;
 
+/// A function as it is opened.
+#[derive(Clone)]
+pub struct Opening {
+    pub kept_evictions: u32,
+    /// The target and the function.
+    pub bytes: Vec<u8>,
+}
+
 /// A function and calls on it.
 #[derive(Clone)]
 pub struct Session {
     /// Functions that are opened before it; some are refused.
-    pub before: Vec<Vec<u8>>,
-    /// The target and the function.
-    pub bytes: Vec<u8>,
+    pub before: Vec<Opening>,
+    pub opening: Opening,
     pub calls: Vec<Call>,
 }
+
+/// Settings other than 1 and 2, some of them equal to these in their low bits.
+pub const NO_SETTINGS: [u32; 8] = [0, 3, 4, 257, 258, 65_537, 65_538, u32::MAX];
 
 impl Session {
     /// How many functions are opened and patches given.
@@ -25,9 +35,10 @@ impl Session {
 }
 
 /// How often a flavour is taken, in a hundred.
-const FLAVOURS: [(&Flavour, usize); 6] = [
-    (&SMALL, 35),
-    (&SHARED, 20),
+const FLAVOURS: [(&Flavour, usize); 7] = [
+    (&SMALL, 25),
+    (&EVICTIONS, 15),
+    (&SHARED, 15),
     (&MEMORY, 15),
     (&REMAT, 15),
     (&PATCHES, 13),
@@ -37,8 +48,9 @@ const FLAVOURS: [(&Flavour, usize); 6] = [
 /// The most calls of a function.
 const MOST_CALLS: usize = 60;
 
-/// A session of at most `most` calls, which is not 0.
-pub fn session(random: &mut Random, most: usize) -> Session {
+/// A session of at most `most` calls, which is not 0, at one of the settings.
+pub fn session(random: &mut Random, most: usize, settings: &[u32]) -> Session {
+    let kept_evictions = *random.pick(settings);
     let flavour = any_flavour(random);
     let mut draft = accepted::draft(random, flavour);
     let evicting = if random.chance(25) {
@@ -53,11 +65,16 @@ pub fn session(random: &mut Random, most: usize) -> Session {
 
     let mut session = Session {
         before: Vec::new(),
-        bytes: draft.opening(),
+        opening: Opening {
+            kept_evictions,
+            bytes: draft.opening(),
+        },
         calls: Vec::new(),
     };
     if most > 2 && random.chance(40) {
-        session.before.push(spoiled_opening(random, &draft));
+        session
+            .before
+            .push(spoiled_opening(random, &draft, kept_evictions));
     }
     let least = if few_slots { 1 } else { 5 };
     let count = random.within(least, if few_slots { 12 } else { MOST_CALLS });
@@ -81,9 +98,19 @@ fn any_flavour(random: &mut Random) -> &'static Flavour {
 }
 
 /// A target and a function that are mostly refused: cut off, changed, or with
-/// something left over.
-fn spoiled_opening(random: &mut Random, draft: &Draft) -> Vec<u8> {
-    let mut bytes = draft.opening();
+/// something left over; at times, some of these and others, by 22.
+fn spoiled_opening(random: &mut Random, draft: &Draft, kept_evictions: u32) -> Opening {
+    let mut opening = Opening {
+        kept_evictions,
+        bytes: draft.opening(),
+    };
+    if random.chance(15) {
+        opening.kept_evictions = *random.pick(&NO_SETTINGS);
+        if random.chance(50) {
+            return opening;
+        }
+    }
+    let bytes = &mut opening.bytes;
     match random.below(4) {
         0 => bytes.truncate(random.below(bytes.len())),
         1 => bytes.extend((0..random.within(1, 4)).map(|_| 1)),
@@ -93,10 +120,10 @@ fn spoiled_opening(random: &mut Random, draft: &Draft) -> Vec<u8> {
         }
         _ => {
             let job = refused::spoil(random, draft.clone());
-            bytes = job[..job.len().min(bytes.len())].to_vec();
+            *bytes = job[..job.len().min(bytes.len())].to_vec();
         }
     }
-    bytes
+    opening
 }
 
 /// A call, mostly one to be accepted.

@@ -537,18 +537,20 @@ fn least(random: &mut Random) -> Vec<u8> {
     draft.job()
 }
 
-/// L is what the patches need, or one less.
+/// L is what the patches need with one kept eviction or with two, or one less.
 fn just_enough_slots(random: &mut Random, past: usize) -> Vec<u8> {
     let flavours = [
         &SMALL,
         &accepted::SHARED,
         &accepted::MEMORY,
         &accepted::REMAT,
+        &accepted::EVICTIONS,
     ];
     let flavour = *random.pick(&flavours);
     let mut draft = accepted::draft(random, flavour);
     draft.emergency_limit = 2048;
-    let text = answer::answer(&draft.job());
+    let kept_evictions = *random.pick(&[1, 2]);
+    let text = answer::text(kept_evictions, &draft.job());
     let made = text
         .lines()
         .filter(|line| line.starts_with("patch "))

@@ -67,6 +67,7 @@ impl<'a> PatchMaker<'a> {
             }
             let room = wanted - self.patch.entries.len();
             match self.random.below(24) {
+                _ if self.flavour.evicting && self.random.chance(65) => self.add_evicting(room),
                 0..=4 => self.add_cycle(room),
                 5 => self.add_joined_cycle(room),
                 6..=8 => self.add_knot(room),
@@ -86,7 +87,11 @@ impl<'a> PatchMaker<'a> {
     }
 
     fn choose_free_units(&mut self) {
-        let percent = *self.random.pick(&[0, 0, 5, 15, 40]);
+        let percents = match self.flavour.evicting {
+            true => [0, 0, 0, 0, 5],
+            false => [0, 0, 5, 15, 40],
+        };
+        let percent = *self.random.pick(&percents);
         // At times memory registers are free where others are not.
         let mut words = vec![false; self.draft.target.units];
         if self.random.chance(15) {
@@ -239,6 +244,47 @@ impl<'a> PatchMaker<'a> {
         for (index, &source) in words.iter().enumerate() {
             let value = self.value_like(value);
             self.add(Some(source), words[(index + 1) % words.len()], value);
+        }
+    }
+
+    /// What needs scratch registers that are not there.
+    fn add_evicting(&mut self, room: usize) {
+        if self.random.chance(70) {
+            self.add_alternating(room);
+        } else {
+            for _ in 0..self.random.within(2, 6).min(room) {
+                self.add_rebuild();
+            }
+        }
+    }
+
+    /// Moves from slot to slot, each of another bank than the one before if chance
+    /// gives one; some have a register at one end.
+    fn add_alternating(&mut self, room: usize) {
+        let mut last_bank = None;
+        for _ in 0..self.random.within(2, 6).min(room) {
+            let mut value = None;
+            for _ in 0..4 {
+                value = self.any_value();
+                if value.map(|value| self.draft.values[value].bank) != last_bank {
+                    break;
+                }
+            }
+            let Some(value) = value else {
+                return;
+            };
+            let bank = self.draft.values[value].bank;
+            last_bank = Some(bank);
+            if self.draft.slots == 0 {
+                return;
+            }
+            let register = Place::Register(*self.random.pick(&self.registers[bank]));
+            let mut ends =
+                [(); 2].map(|()| Place::Slot(self.random.below(self.draft.slots)));
+            if self.random.chance(25) {
+                ends[self.random.below(2)] = register;
+            }
+            self.add(Some(ends[0]), ends[1], value);
         }
     }
 

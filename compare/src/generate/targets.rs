@@ -165,12 +165,13 @@ pub fn random(random: &mut Random, flavour: &Flavour) -> Target {
         registers,
         classes: Vec::new(),
     };
-    add_classes(random, &mut target, bank_count);
+    add_classes(random, &mut target, bank_count, flavour);
     target
 }
 
 /// Adds the banks and their classes, numbered in random order.
-fn add_classes(random: &mut Random, target: &mut Target, bank_count: usize) {
+fn add_classes(random: &mut Random, target: &mut Target, bank_count: usize, flavour: &Flavour) {
+    let (more, with_slots) = if flavour.evicting { (6, 10) } else { (4, 35) };
     let mut classes = Vec::new();
     let mut tops = Vec::new();
     for bank in 0..bank_count {
@@ -178,8 +179,8 @@ fn add_classes(random: &mut Random, target: &mut Target, bank_count: usize) {
         tops.push(classes.len());
         classes.push(class(random, target, bank, &all, Kind::TopLevel));
         classes.push(class(random, target, bank, &all, Kind::Stack));
-        for _ in 0..random.below(4) {
-            let kind = if random.chance(35) {
+        for _ in 0..random.below(more) {
+            let kind = if random.chance(with_slots) {
                 Kind::WithSlots
             } else {
                 Kind::WithoutSlots
@@ -262,13 +263,18 @@ fn class(random: &mut Random, target: &Target, bank: usize, all: &[usize], kind:
     }
 }
 
-/// Random values over a target.
-pub fn values(random: &mut Random, target: &Target, flavour: &Flavour) -> Vec<Value> {
-    let count = random.range(flavour.values);
+/// Random values over a target, so many, and that many in a hundred to be rebuilt.
+pub fn values(
+    random: &mut Random,
+    target: &Target,
+    count: (usize, usize),
+    rebuild: usize,
+) -> Vec<Value> {
+    let count = random.range(count);
     (0..count)
         .map(|_| {
             let bank = random.below(target.banks.len());
-            let cost = if random.chance(flavour.rebuild) {
+            let cost = if random.chance(rebuild) {
                 *random.pick(&[COST_BELOW_MOVE, COST_BELOW_LOAD])
             } else {
                 COST_NONE
