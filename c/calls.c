@@ -58,12 +58,13 @@ static size_t read_numbers(uint32_t *into)
 static bool open_function(void)
 {
     uint64_t refusal = number();
+    uint32_t kept_evictions = PARALLEL_MOVES_AS(uint32_t, number());
     size_t length = count();
     for (size_t i = 0; i < length; i++) {
         bytes[i] = PARALLEL_MOVES_AS(uint8_t, number());
     }
     memcpy(cache, memory.cache, sizeof cache);
-    if (parallel_moves_open_in(&memory, bytes, length) != refusal) {
+    if (parallel_moves_open_in(&memory, kept_evictions, bytes, length) != refusal) {
         fail("another refusal of a function");
     }
     if (refusal != 0 && memcmp(cache, memory.cache, sizeof cache) != 0) {

@@ -35,7 +35,7 @@
 /* The version of the interface: of what each function is lent, and how long the
  * tables are. The names in the library end in it, so that a library of another
  * version does not link. */
-#define PARALLEL_MOVES_INTERFACE 3
+#define PARALLEL_MOVES_INTERFACE 4
 
 #define PARALLEL_MOVES_STRING_OF(text) #text
 #define PARALLEL_MOVES_STRING(text) PARALLEL_MOVES_STRING_OF(text)
@@ -70,7 +70,7 @@
 
 /* The lengths of the tables. */
 #define PARALLEL_MOVES_TARGET 107520
-#define PARALLEL_MOVES_FUNCTION 16387
+#define PARALLEL_MOVES_FUNCTION 16388
 #define PARALLEL_MOVES_CACHE 65600
 #define PARALLEL_MOVES_UNITS 512
 #define PARALLEL_MOVES_ENTRIES 1541
@@ -86,10 +86,13 @@ extern "C" {
 #endif
 
 /* Opens a function: `bytes` are a target and a function over it, with nothing
- * behind them. Returns 0, or the number of the refusal (1 to 9; 8 for bytes left
- * over): then the cache is as it was, and no patch can be given. The function
- * has no emergency slots yet. */
+ * behind them. `kept_evictions` is how many registers may be evicted at once in
+ * its patches, 1 or 2; docs/JOB.md says what it changes. Returns 0, or the number
+ * of the refusal (22 for another number of kept evictions, tested first; else 1
+ * to 9; 8 for bytes left over): then the cache is as it was, and no patch can be
+ * given. The function has no emergency slots yet. */
 PARALLEL_MOVES_LOOK_AT_IT uint8_t parallel_moves_open(
+    uint32_t kept_evictions,
     const uint8_t *bytes, size_t bytes_length,
     uint16_t target[PARALLEL_MOVES_TARGET],
     uint16_t function[PARALLEL_MOVES_FUNCTION],
@@ -132,15 +135,16 @@ uint16_t parallel_moves_slots_made(
     const uint16_t cache[PARALLEL_MOVES_CACHE])
     PARALLEL_MOVES_SYMBOL("parallel_moves_made");
 
-/* Answers a whole job: returns how many words its resolved patches have, and
- * sets *refusal to the number of the refusal, or to 0 if there is none. Look at
- * it before the words: of a refused job they are only the patches before the
- * refused one. The words are, for each patch, a head and then its edits. A patch
+/* Answers a whole job, with 1 or 2 kept evictions as parallel_moves_open says:
+ * returns how many words its resolved patches have, and sets *refusal to the
+ * number of the refusal, or to 0 if there is none. Look at it before the words:
+ * of a refused job they are only the patches before the refused one. The words are, for each patch, a head and then its edits. A patch
  * for which too few words are left is refused with 16, which never comes from
  * PARALLEL_MOVES_MOST_WORDS words on: lend as many, or more and ask again. The
  * words past those answered are left alone. The working tables are `target` to
  * `carried`. */
 size_t parallel_moves_answer(
+    uint32_t kept_evictions,
     const uint8_t *job, size_t job_length,
     uint64_t *words, size_t words_length,
     uint8_t *refusal,
@@ -193,12 +197,12 @@ struct parallel_moves_memory {
 
 /* parallel_moves_open with the tables of `memory`. */
 PARALLEL_MOVES_LOOK_AT_IT static inline uint8_t parallel_moves_open_in(
-    struct parallel_moves_memory *memory,
+    struct parallel_moves_memory *memory, uint32_t kept_evictions,
     const uint8_t *bytes, size_t bytes_length)
 {
     memory->position = 0;
     return parallel_moves_open(
-        bytes, bytes_length, memory->target, memory->function, memory->cache);
+        kept_evictions, bytes, bytes_length, memory->target, memory->function, memory->cache);
 }
 
 /* parallel_moves_resolve with the tables of `memory`, in which a function was
@@ -252,13 +256,13 @@ static inline void parallel_moves_put_remat(uint32_t entry[4], uint32_t dest, ui
 
 /* parallel_moves_answer with the tables of `memory`. */
 static inline size_t parallel_moves_answer_in(
-    struct parallel_moves_memory *memory,
+    struct parallel_moves_memory *memory, uint32_t kept_evictions,
     const uint8_t *job, size_t job_length,
     uint64_t *words, size_t words_length,
     uint8_t *refusal)
 {
     return parallel_moves_answer(
-        job, job_length, words, words_length, refusal,
+        kept_evictions, job, job_length, words, words_length, refusal,
         memory->target, memory->function, memory->cache,
         memory->free_units, memory->entries, memory->writers,
         memory->available, memory->sources, memory->edits, memory->slots,

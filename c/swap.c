@@ -42,7 +42,8 @@ int main(void)
         fputs("swap: there is no memory\n", stderr);
         return EXIT_FAILURE;
     }
-    uint8_t refusal = parallel_moves_open_in(memory, target_and_function, sizeof target_and_function);
+    /* One register may be evicted at a time. */
+    uint8_t refusal = parallel_moves_open_in(memory, 1, target_and_function, sizeof target_and_function);
     for (size_t count = 0; refusal == 0 && count < 2; count++) {
         refusal = swap(memory, count);
     }

@@ -1,7 +1,7 @@
-/* Reads a job on standard input and prints its answer from the words, taken
- * apart with the header's functions; with an argument, only the position of each
- * patch. It is C and C++. Also sees that a list of words that is too short, and a
- * text, are refused. */
+/* words KEPT [positions] : reads a job on standard input and prints its answer with
+ * KEPT kept evictions from the words, taken apart with the header's functions; or
+ * only the position of each patch. It is C and C++. Also sees that a list of words
+ * that is too short, and a text, are refused. */
 #include <stdio.h>
 #include <stdlib.h>
 
@@ -12,6 +12,7 @@ static uint8_t job[PARALLEL_MOVES_MOST_BYTES + 1];
 static uint64_t words[PARALLEL_MOVES_MOST_WORDS];
 static uint64_t less[PARALLEL_MOVES_MOST_WORDS];
 static uint8_t text[PARALLEL_MOVES_MOST_TEXT];
+static uint32_t kept_evictions;
 
 static const uint64_t LEFT_ALONE = 0x5555555555555555;
 
@@ -51,7 +52,8 @@ static bool short_is_told(size_t length, size_t count, uint8_t refusal)
     for (size_t i = 0; i < count; i++) {
         less[i] = LEFT_ALONE;
     }
-    size_t given = parallel_moves_answer_in(&memory, job, length, less, count - 1, &other);
+    size_t given = parallel_moves_answer_in(
+        &memory, kept_evictions, job, length, less, count - 1, &other);
     for (size_t i = 0; i < count; i++) {
         if (less[i] != (i < given ? words[i] : LEFT_ALONE)) {
             return false;
@@ -62,14 +64,18 @@ static bool short_is_told(size_t length, size_t count, uint8_t refusal)
 
 int main(int count_of_words, char **given)
 {
-    bool positions = count_of_words > 1;
-    (void)given;
+    bool positions = count_of_words > 2;
+    if (count_of_words < 2) {
+        return EXIT_FAILURE;
+    }
+    kept_evictions = PARALLEL_MOVES_AS(uint32_t, strtoul(given[1], NULL, 10));
     uint8_t refusal = 99;
     size_t length = fread(job, 1, sizeof job, stdin);
     if (ferror(stdin)) {
         return EXIT_FAILURE;
     }
-    size_t count = parallel_moves_answer_in(&memory, job, length, words, PARALLEL_MOVES_MOST_WORDS, &refusal);
+    size_t count = parallel_moves_answer_in(
+        &memory, kept_evictions, job, length, words, PARALLEL_MOVES_MOST_WORDS, &refusal);
     if (!short_is_told(length, count, refusal)) {
         return EXIT_FAILURE;
     }

@@ -180,7 +180,7 @@ pub fn record(session: &generate::calls::Session) -> String {
         let kept_evictions = opening.kept_evictions;
         let opened = Function::open(Judge::of(kept_evictions), &opening.bytes);
         let refusal = opened.as_ref().map_or_else(|refused| refused.0, |_| 0);
-        put(&mut text, format_args!("open {kept_evictions} {refusal}"));
+        put(&mut text, format_args!("open {refusal} {kept_evictions}"));
         put_list(&mut text, &opening.bytes);
         text.push('\n');
         last = opened.ok();

@@ -52,7 +52,7 @@ compare replay-trials FILE
 compare calls SEED COUNT
     Writes COUNT random calls that open a function or give it a patch, with what
     they should come to, a line each, all numbers in base ten:
-    open SETTING REFUSAL COUNT BYTE..
+    open REFUSAL SETTING COUNT BYTE..
     call REFUSAL MADE POSITION ROOM COUNT FREE-UNIT.. COUNT NUMBER.. COUNT WORD..
     ROOM is the length of the lent list; the words are those of the edits.
     POSITION is the greatest that the patch met, and 0 if it is refused.

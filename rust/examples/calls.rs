@@ -13,7 +13,8 @@ const TARGET_AND_FUNCTION: [u8; 46] = [
 
 fn main() -> Result<(), Refusal> {
     let reg = |index| Allocation::reg(PhysReg::new(index));
-    let mut moves = ParallelMoves::open(&TARGET_AND_FUNCTION)?;
+    // One register may be evicted at a time.
+    let mut moves = ParallelMoves::open(1, &TARGET_AND_FUNCTION)?;
     let mut patch = Patch::new();
     let mut code: Vec<Edit> = Vec::new();
 

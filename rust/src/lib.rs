@@ -5,7 +5,8 @@
 //! at once. [`ParallelMoves`] is opened for a function over a target and
 //! answers each [`Patch`] of such moves with the [`Edits`] that carry it out in
 //! order, or with a [`Refusal`]. A [`Resolver`] does the same with a whole job,
-//! which is a target, a function and its patches as bytes.
+//! which is a target, a function and its patches as bytes. Either is told how many
+//! evictions are kept, 1 or 2: how many registers may be evicted at once.
 //!
 //! The work is done by a library in which every function is proved to meet its
 //! contract; this crate lends it memory and takes its words apart.
@@ -18,7 +19,7 @@
 //! /// The edits that move register 0 to register 1, over a target and a
 //! /// function.
 //! fn copy(target_and_function: &[u8]) -> Result<Vec<Edit>, Refusal> {
-//!     let mut moves = ParallelMoves::open(target_and_function)?;
+//!     let mut moves = ParallelMoves::open(1, target_and_function)?;
 //!     let mut patch = Patch::new();
 //!     patch.add_move(PhysReg::new(0).into(), PhysReg::new(1).into(), Value::new(0));
 //!     Ok(moves.resolve(&patch)?.iter().collect())

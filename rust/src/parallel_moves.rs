@@ -26,7 +26,7 @@ pub const MOST_EDITS: usize = 1024;
 ///     0, 1, 3, 0, 1, 2, 3, 0, 1, 2, 0, 0, 3, 0, 1, 2, 3, 0, 1, 2, // classes
 ///     2, 0, 1, 0, 0, 0, 0, // values and slots
 /// ];
-/// let mut moves = ParallelMoves::open(&target_and_function)?;
+/// let mut moves = ParallelMoves::open(1, &target_and_function)?;
 ///
 /// // Registers 0 and 1 are to change their contents, and register 2 must keep
 /// // its own.
@@ -55,16 +55,19 @@ pub struct ParallelMoves {
 
 impl ParallelMoves {
     /// Opens a function: the bytes of a target and a function over it, as
-    /// `docs/JOB.md` of the repository says, with nothing behind them. The
-    /// function has no emergency slots yet.
+    /// `docs/JOB.md` of the repository says, with nothing behind them. Of the
+    /// registers that are evicted in its patches, `kept_evictions`, 1 or 2, may be
+    /// so at once. The function has no emergency slots yet.
     ///
     /// # Errors
     ///
-    /// The refusals 1 to 9. Any bytes can be given.
-    pub fn open(target_and_function: &[u8]) -> Result<Self, Refusal> {
+    /// [`Refusal::NoSuchSetting`], before all else, if `kept_evictions` is neither 1
+    /// nor 2; the refusals 1 to 9. Any bytes can be given.
+    pub fn open(kept_evictions: u32, target_and_function: &[u8]) -> Result<Self, Refusal> {
         open(
             Tables::new(),
             Box::new([0; MOST_EDITS]),
+            kept_evictions,
             target_and_function,
         )
     }
@@ -74,8 +77,13 @@ impl ParallelMoves {
     /// # Errors
     ///
     /// As [`ParallelMoves::open`]; the memory is then given up.
-    pub fn reopen(self, target_and_function: &[u8]) -> Result<Self, Refusal> {
-        open(self.tables.close(), self.list, target_and_function)
+    pub fn reopen(self, kept_evictions: u32, target_and_function: &[u8]) -> Result<Self, Refusal> {
+        open(
+            self.tables.close(),
+            self.list,
+            kept_evictions,
+            target_and_function,
+        )
     }
 
     /// The edits that carry a patch out.
@@ -128,9 +136,10 @@ impl ParallelMoves {
 fn open(
     tables: Tables,
     list: Box<[u64; MOST_EDITS]>,
+    kept_evictions: u32,
     bytes: &[u8],
 ) -> Result<ParallelMoves, Refusal> {
-    match tables.open(bytes) {
+    match tables.open(kept_evictions, bytes) {
         Ok(tables) => Ok(ParallelMoves { tables, list }),
         Err(number) => Err(Refusal::of_number(number).expect("0 is no refusal")),
     }

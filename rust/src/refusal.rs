@@ -74,6 +74,7 @@ refusals! {
     16 ListTooShort: "the lent list is too short for the patch's edits";
     17 OutOfSlots: "an emergency slot is needed, none of its size is at hand, and no more may be made";
     21 OverlappingSources: "a move's source overlaps that of an earlier move without being equal to it, and both moves are kept";
+    22 NoSuchSetting: "the number of kept evictions is neither 1 nor 2";
 }
 
 /// The number of a refusal without a name.
@@ -110,9 +111,9 @@ mod tests {
 
     #[test]
     fn each_has_words_of_its_own() {
-        assert!((1..=17).chain([21]).eq(NAMED.iter().copied()));
+        assert!((1..=17).chain([21, 22]).eq(NAMED.iter().copied()));
         let words: Vec<&str> = (1..=18)
-            .chain([21])
+            .chain([21, 22])
             .map(|number| Refusal::of_number(number).unwrap().words())
             .collect();
         for (index, words_of_one) in words.iter().enumerate() {

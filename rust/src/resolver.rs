@@ -34,23 +34,26 @@ impl Resolver {
     }
 
     /// Answers a whole job: its patches one after the other, each with its
-    /// edits.
+    /// edits. Of the registers that are evicted in them, `kept_evictions`, 1 or 2,
+    /// may be so at once.
     ///
     /// # Errors
     ///
     /// If the job is refused; the patches before the refused one stand, and
     /// the error has them. Any bytes can be given. 16 never comes.
+    /// [`Refusal::NoSuchSetting`] comes before all else, if `kept_evictions` is
+    /// neither 1 nor 2.
     ///
     /// ```
     /// use parallel_moves::{Refusal, Resolver};
     ///
-    /// let refused = Resolver::new().answer(&[]).unwrap_err();
+    /// let refused = Resolver::new().answer(1, &[]).unwrap_err();
     /// assert_eq!(refused.refusal(), Refusal::NotANumber);
     /// assert_eq!(refused.text(), "refused 1\n");
     /// ```
-    pub fn answer(&mut self, job: &[u8]) -> Result<Answer, RefusedJob> {
+    pub fn answer(&mut self, kept_evictions: u32, job: &[u8]) -> Result<Answer, RefusedJob> {
         loop {
-            let (count, number) = self.tables.answer(job, &mut self.words);
+            let (count, number) = self.tables.answer(kept_evictions, job, &mut self.words);
             let refusal = Refusal::of_number(number);
             let room = self.words.len();
             if refusal == Some(Refusal::ListTooShort) && room < MOST_WORDS {

@@ -8,7 +8,7 @@ use crate::entity::RegUnit;
 /// A target, as the library keeps it.
 type RegInfo = [u16; 107_520];
 /// A function, as the library keeps it.
-type Function = [u16; 16_387];
+type Function = [u16; 16_388];
 /// A function's emergency slots.
 type SlotCache = [u16; 65_600];
 /// A set of register units.
@@ -31,8 +31,9 @@ type Carried = [u16; 2049];
 // A slice goes as a pointer and a length; an array, or one number, goes as a
 // pointer, which a reference is here.
 unsafe extern "C" {
-    #[link_name = "parallel_moves_open_3"]
+    #[link_name = "parallel_moves_open_4"]
     fn parallel_moves_open(
+        kept_evictions: u32,
         bytes: *const u8,
         bytes_length: usize,
         target: &mut RegInfo,
@@ -40,7 +41,7 @@ unsafe extern "C" {
         cache: &mut SlotCache,
     ) -> u8;
 
-    #[link_name = "parallel_moves_resolve_3"]
+    #[link_name = "parallel_moves_resolve_4"]
     fn parallel_moves_resolve(
         target: &RegInfo,
         function: &Function,
@@ -64,11 +65,12 @@ unsafe extern "C" {
         carried: &mut Carried,
     ) -> usize;
 
-    #[link_name = "parallel_moves_made_3"]
+    #[link_name = "parallel_moves_made_4"]
     safe fn parallel_moves_made(cache: &SlotCache) -> u16;
 
-    #[link_name = "parallel_moves_answer_3"]
+    #[link_name = "parallel_moves_answer_4"]
     fn parallel_moves_answer(
+        kept_evictions: u32,
         job: *const u8,
         job_length: usize,
         words: *mut u64,
@@ -89,7 +91,7 @@ unsafe extern "C" {
         carried: &mut Carried,
     ) -> usize;
 
-    #[link_name = "parallel_moves_text_3"]
+    #[link_name = "parallel_moves_text_4"]
     fn parallel_moves_text(
         words: *const u64,
         words_length: usize,
@@ -138,9 +140,15 @@ impl Tables {
         }
     }
 
-    /// Answers a job into `words`: how many of them its resolved patches have,
-    /// and the refusal's number or 0. What the tables hold does not matter.
-    pub(crate) fn answer(&mut self, job: &[u8], words: &mut [u64]) -> (usize, u8) {
+    /// Answers a job with so many kept evictions into `words`: how many of them
+    /// its resolved patches have, and the refusal's number or 0. What the tables
+    /// hold does not matter.
+    pub(crate) fn answer(
+        &mut self,
+        kept_evictions: u32,
+        job: &[u8],
+        words: &mut [u64],
+    ) -> (usize, u8) {
         let mut refusal = 0;
         // SAFETY: `job` and `words` are as long as the function is told, and
         // each table has the length that it is declared with. `words` and the
@@ -148,6 +156,7 @@ impl Tables {
         // them. The function keeps no pointer.
         let count = unsafe {
             parallel_moves_answer(
+                kept_evictions,
                 job.as_ptr(),
                 job.len(),
                 words.as_mut_ptr(),
@@ -171,13 +180,14 @@ impl Tables {
         (count, refusal)
     }
 
-    /// Opens a function; if it is refused, the number.
-    pub(crate) fn open(mut self, bytes: &[u8]) -> Result<Opened, u8> {
+    /// Opens a function with so many kept evictions; if it is refused, the number.
+    pub(crate) fn open(mut self, kept_evictions: u32, bytes: &[u8]) -> Result<Opened, u8> {
         // SAFETY: `bytes` is as long as the function is told, and each table
         // has the length that it is declared with and is borrowed mutably. The
         // function keeps no pointer.
         let refusal = unsafe {
             parallel_moves_open(
+                kept_evictions,
                 bytes.as_ptr(),
                 bytes.len(),
                 &mut self.target,

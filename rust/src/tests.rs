@@ -1,5 +1,5 @@
-//! Recorded calls (`tests/calls.txt`, by `compare/calls-data`): what the
-//! original made of each, and that a refused one changes neither the list nor
+//! Recorded calls (`tests/calls.txt`, by `compare/calls-data`): what the judge of
+//! each setting made of them, and that a refused one changes neither the list nor
 //! the cache.
 
 use std::str::SplitWhitespace;
@@ -14,6 +14,7 @@ const CALLS: &str = include_str!("../tests/calls.txt");
 enum Call {
     Open {
         refusal: u8,
+        kept_evictions: u32,
         bytes: Vec<u8>,
     },
     Resolve {
@@ -35,6 +36,7 @@ fn calls() -> impl Iterator<Item = Call> {
         let call = match kind {
             "open" => Call::Open {
                 refusal,
+                kept_evictions: number(&mut words),
                 bytes: list(&mut words),
             },
             "call" => Call::Resolve {
@@ -85,10 +87,14 @@ fn recorded_calls() {
     for (number, call) in calls().enumerate() {
         all += 1;
         match call {
-            Call::Open { refusal, bytes } => {
+            Call::Open {
+                refusal,
+                kept_evictions,
+                bytes,
+            } => {
                 let opened = match moves.take() {
-                    None => ParallelMoves::open(&bytes),
-                    Some(moves) => ParallelMoves::reopen(moves, &bytes),
+                    None => ParallelMoves::open(kept_evictions, &bytes),
+                    Some(moves) => ParallelMoves::reopen(moves, kept_evictions, &bytes),
                 };
                 match opened {
                     Ok(opened) => {
@@ -159,18 +165,37 @@ fn recorded_calls() {
     );
 }
 
-/// Each refusal of a patch is among the recorded calls.
+/// Each refusal of a patch is among the recorded calls, 22 among those of functions,
+/// and so are patches of functions with one kept eviction and with two.
 #[test]
 fn each_refusal_is_recorded() {
     let mut refusals = Vec::new();
+    let (mut settings, mut kept) = ([0; 2], 0);
     for call in calls() {
-        if let Call::Resolve { refusal, .. } = call {
-            refusals.push(refusal);
+        match call {
+            Call::Resolve { refusal, .. } => {
+                refusals.push(refusal);
+                settings[kept - 1] += 1;
+            }
+            Call::Open {
+                refusal,
+                kept_evictions,
+                ..
+            } => {
+                let is_setting = matches!(kept_evictions, 1 | 2);
+                assert_eq!(refusal == 22, !is_setting);
+                refusals.extend((refusal == 22).then_some(22));
+                kept = kept_evictions as usize;
+            }
         }
     }
     refusals.sort();
     refusals.dedup();
-    assert_eq!(refusals, [0, 2, 3, 9, 10, 11, 12, 13, 14, 15, 16, 17, 21]);
+    assert_eq!(
+        refusals,
+        [0, 2, 3, 9, 10, 11, 12, 13, 14, 15, 16, 17, 21, 22]
+    );
+    assert!(settings.iter().all(|&count| count > 300), "{settings:?}");
 }
 
 /// A refused function gives no tables to resolve with, and what the tables held
@@ -179,15 +204,19 @@ fn each_refusal_is_recorded() {
 fn opened_after_whole_jobs() {
     let mut tables = Tables::new();
     let mut words = vec![0; 4096];
-    let _ = tables.answer(include_bytes!("../../examples/swap-full.job"), &mut words);
+    let _ = tables.answer(1, include_bytes!("../../examples/swap-full.job"), &mut words);
     let Call::Open { bytes, .. } = calls()
         .find(|c| matches!(c, Call::Open { refusal: 0, .. }))
         .unwrap()
     else {
         unreachable!()
     };
-    let opened = tables.open(&bytes).ok().unwrap();
+    let opened = tables.open(1, &bytes).ok().unwrap();
     assert_eq!(opened.made(), 0);
-    assert_eq!(opened.close().open(&[]).err(), Some(1));
-    assert_eq!(ParallelMoves::open(&[]).err(), Some(Refusal::NotANumber));
+    let tables = opened.close().open(2, &bytes).ok().unwrap().close();
+    assert_eq!(tables.open(1, &[]).err(), Some(1));
+    assert_eq!(ParallelMoves::open(2, &[]).err(), Some(Refusal::NotANumber));
+    let no_setting = Some(Refusal::NoSuchSetting);
+    assert_eq!(ParallelMoves::open(3, &[]).err(), no_setting);
+    assert_eq!(ParallelMoves::open(0, &bytes).err(), no_setting);
 }

@@ -26,10 +26,14 @@ const HALVES: &str = "4 2 2 0 1 3 2 3 5 0 0 1 0 0 0 1 1 0 0 1 2 0 1 2 0 1 0 1 2 
 /// A rebuild of value 0, cost 2 by class 2, into r1.
 const INTO_R1: &str = "1 0 1 0 2 2 1 0 1 1 3 0";
 
-/// The number that a job is refused by, or 0.
-fn refusal(job: &[u8]) -> u8 {
-    let answer = Resolver::new().answer(job);
+/// The number that a job is refused by with so many kept evictions, or 0.
+fn refusal_with(kept_evictions: u32, job: &[u8]) -> u8 {
+    let answer = Resolver::new().answer(kept_evictions, job);
     answer.map_or_else(|refused| refused.refusal().number(), |_| 0)
+}
+
+fn refusal(job: &[u8]) -> u8 {
+    refusal_with(1, job)
 }
 
 /// A job of parts, each in numbers.
@@ -246,4 +250,23 @@ fn patches() {
             &[THREE, "2 0 0 0 0 0 0 1 1 2", swap],
         ],
     );
+}
+
+/// 22: the setting is 1 or 2, whatever the job. And what two kept evictions need a
+/// second slot for, one does with one.
+#[test]
+fn settings() {
+    let swap = job(&[THREE, PLAIN, "1 0 2 0 1 3 0 0 3 1 1"]);
+    for setting in [0, 3, 22, 257, 65_538, u32::MAX] {
+        assert_eq!(refusal_with(setting, &swap), 22);
+        assert_eq!(refusal_with(setting, &[]), 22);
+    }
+    assert_eq!(refusal_with(1, &swap), 0);
+    assert_eq!(refusal_with(2, &swap), 0);
+    let values = |limit| format!("2 4 {limit} 0 0 1 0");
+    let slots = "1 0 2 0 0 2 0 0 4 6 1";
+    let [less, more] = ["1", "2"].map(|limit| job(&[TWO_BANKS, &values(limit), slots]));
+    assert_eq!(refusal_with(2, &less), 17);
+    assert_eq!(refusal_with(1, &less), 0);
+    assert_eq!(refusal_with(2, &more), 0);
 }

@@ -32,17 +32,20 @@ fn damaged_jobs() {
     jobs.sort();
     jobs.dedup();
     let mut resolver = Resolver::new();
-    let texts: Vec<String> = jobs.iter().map(|job| text(&mut resolver, job)).collect();
-    if let Some(expected) = answers("damaged", &jobs) {
-        for ((job, text), expected) in jobs.iter().zip(&texts).zip(&expected) {
-            assert_eq!(text, expected, "{job:?}");
+    for setting in [1, 2] {
+        let given = |job: &Vec<u8>| text(&mut resolver, setting, job);
+        let texts: Vec<String> = jobs.iter().map(given).collect();
+        if let Some(expected) = answers("damaged", setting, &jobs) {
+            for ((job, text), expected) in jobs.iter().zip(&texts).zip(&expected) {
+                assert_eq!(text, expected, "{job:?}");
+            }
         }
     }
 }
 
 #[test]
 fn empty_job() {
-    assert_eq!(text(&mut Resolver::new(), &[]), "refused 1\n");
+    assert_eq!(text(&mut Resolver::new(), 1, &[]), "refused 1\n");
 }
 
 /// A job of one byte too many is refused before it is read.
@@ -51,9 +54,11 @@ fn job_too_long() {
     let (_, mut job) = jobs("examples").swap_remove(0);
     let mut resolver = Resolver::new();
     job.resize(65_536, 0);
-    assert!(text(&mut resolver, &job).ends_with("refused 8\n"));
+    assert!(text(&mut resolver, 1, &job).ends_with("refused 8\n"));
     job.push(0);
-    assert_eq!(text(&mut resolver, &job), "refused 2\n");
+    assert_eq!(text(&mut resolver, 1, &job), "refused 2\n");
+    // 22 comes before it.
+    assert_eq!(text(&mut resolver, 3, &job), "refused 22\n");
     job.resize(1 << 24, 0);
-    assert_eq!(text(&mut resolver, &job), "refused 2\n");
+    assert_eq!(text(&mut resolver, 2, &job), "refused 2\n");
 }

@@ -4,7 +4,7 @@ mod common;
 
 use std::thread;
 
-use common::{deep_chain, jobs, many_swaps, printed, text, text_of};
+use common::{deep_chain, jobs, kept_evictions, many_swaps, printed, text, text_of};
 use parallel_moves::{
     Answer, Edit, ParallelMoves, Patch, PhysReg, Refusal, RefusedJob, Resolver, Value,
 };
@@ -15,13 +15,13 @@ fn long_answer() {
     let job = many_swaps();
     let mut resolver = Resolver::new();
     for _ in 0..2 {
-        let answer = resolver.answer(&job).unwrap();
+        let answer = resolver.answer(1, &job).unwrap();
         assert_eq!(answer.patches().count(), 1024);
         for patch in answer.patches() {
             assert_eq!(patch.edits().len(), 3);
             assert_eq!(patch.made(), 1);
         }
-        assert_eq!(text(&mut resolver, &job).lines().count(), 4096);
+        assert_eq!(text(&mut resolver, 1, &job).lines().count(), 4096);
     }
 }
 
@@ -31,7 +31,7 @@ fn small_stack() {
     let job = deep_chain();
     let answer = thread::Builder::new()
         .stack_size(64 * 1024)
-        .spawn(move || Resolver::new().answer(&job))
+        .spawn(move || Resolver::new().answer(2, &job))
         .unwrap()
         .join()
         .unwrap();
@@ -51,8 +51,9 @@ fn short_after_long() {
     let mut resolver = Resolver::new();
     let long = many_swaps();
     for (name, job) in jobs("compare/trials") {
-        let _ = resolver.answer(&long);
-        assert_eq!(text(&mut resolver, &job), printed(&name), "{name}");
+        let _ = resolver.answer(2, &long);
+        let text = text(&mut resolver, kept_evictions(&name), &job);
+        assert_eq!(text, printed(&name), "{name}");
     }
 }
 
@@ -78,7 +79,8 @@ fn one_for_each_thread() {
                 let mut resolver = Resolver::new();
                 for _ in 0..100 {
                     for (name, job) in &jobs {
-                        assert_eq!(text_of(&resolver.answer(job)), printed(name), "{name}");
+                        let answer = resolver.answer(kept_evictions(name), job);
+                        assert_eq!(text_of(&answer), printed(name), "{name}");
                     }
                 }
             });

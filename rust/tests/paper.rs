@@ -23,7 +23,7 @@ fn blocks<'a>(paper: &'a str, word: &str) -> Vec<&'a str> {
         .collect()
 }
 
-/// The jobs of the paper with their answers.
+/// The jobs of the paper with their answers, with one kept eviction.
 fn shown(paper: &str) -> Vec<(Vec<u8>, &str)> {
     let jobs = blocks(paper, "job");
     let answers = blocks(paper, "answer");
@@ -54,8 +54,29 @@ fn answers_are_as_shown() {
     assert!(shown.len() >= 4);
     let mut resolver = Resolver::new();
     for (job, answer) in shown {
-        assert_eq!(text(&mut resolver, &job), answer);
+        assert_eq!(text(&mut resolver, 1, &job), answer);
     }
+}
+
+/// What follows an answer as one with two kept evictions is that of the same job.
+#[test]
+fn with_two_kept_evictions() {
+    let paper = paper();
+    let with_two = blocks(&paper, "answer-with-two");
+    assert!(!with_two.is_empty());
+    let mut resolver = Resolver::new();
+    let mut found = 0;
+    for part in paper.split("```job\n").skip(1) {
+        let Some(&answer) = blocks(part, "answer-with-two").first() else {
+            continue;
+        };
+        let (job, _) = part.split_once("```").unwrap();
+        let job = encoded(numbers(job));
+        assert_eq!(text(&mut resolver, 2, &job), answer);
+        assert_ne!(text(&mut resolver, 1, &job), answer);
+        found += 1;
+    }
+    assert_eq!(found, with_two.len());
 }
 
 /// The rows of the table of stops: the edits done, and what each place holds.
@@ -63,7 +84,7 @@ fn answers_are_as_shown() {
 fn swap_full_stop_by_stop() {
     let paper = paper();
     let (job, _) = &shown(&paper)[0];
-    let answer = Resolver::new().answer(job).unwrap();
+    let answer = Resolver::new().answer(1, job).unwrap();
     let patch = answer.patches().next().unwrap();
     let mut machine = three(&[(0, '?'.into())]);
     let after = paper.split("| edits done |").nth(1).unwrap();
@@ -99,7 +120,7 @@ fn wrong_splits_lose_a_value() {
     let shown = shown(rest);
     let end = |job: &[u8], slots: &[(u16, u32)]| -> (Vec<u32>, HashMap<u16, Vec<u32>>) {
         let mut machine = three(slots);
-        for patch in Resolver::new().answer(job).unwrap().patches() {
+        for patch in Resolver::new().answer(1, job).unwrap().patches() {
             machine.run(patch.edits(), &|_| unreachable!());
         }
         (machine.units, machine.slots)

@@ -6,11 +6,13 @@ mod common;
 
 use std::collections::HashMap;
 use std::env;
+use std::ffi::OsStr;
 use std::fs::{self, File};
+use std::os::unix::ffi::OsStrExt;
 use std::path::{Path, PathBuf};
 use std::process::{Command, Output};
 
-use common::{deep_chain, many_swaps, root, text_of};
+use common::{deep_chain, jobs, many_swaps, printed, root, text_of};
 use parallel_moves::Resolver;
 
 fn program() -> PathBuf {
@@ -30,17 +32,17 @@ fn file(name: &str, bytes: &[u8]) -> PathBuf {
     path
 }
 
-/// The jobs of the program `replay`, with the text that each is answered.
-fn records() -> Vec<(Vec<u8>, Vec<u8>)> {
+/// The settings and jobs of the program `replay`, with the text that each is answered.
+fn records() -> Vec<(u32, Vec<u8>, Vec<u8>)> {
     let stream = fs::read(root().join("crates/replay/stdin")).unwrap();
     let mut rest = &stream[..];
     let mut records = Vec::new();
-    let length = |bytes: &[u8]| u32::from_le_bytes(bytes.try_into().unwrap()) as usize;
+    let number = |bytes: &[u8]| u32::from_le_bytes(bytes.try_into().unwrap());
     while !rest.is_empty() {
-        let (job, text) = (length(&rest[..4]), length(&rest[4..8]));
-        let (job, after) = rest[8..].split_at(job);
-        let (text, after) = after.split_at(text);
-        records.push((job.to_owned(), text.to_owned()));
+        let [setting, job, text] = [0, 4, 8].map(|at| number(&rest[at..at + 4]));
+        let (job, after) = rest[12..].split_at(job as usize);
+        let (text, after) = after.split_at(text as usize);
+        records.push((setting, job.to_owned(), text.to_owned()));
         rest = after;
     }
     records
@@ -107,7 +109,7 @@ impl Faulty {
 
 /// The whole answer on standard output, and nothing on standard error.
 fn answers(output: &Output, job: &[u8]) {
-    let text = text_of(&Resolver::new().answer(job));
+    let text = text_of(&Resolver::new().answer(1, job));
     assert!(output.stdout == text.as_bytes(), "it answers otherwise");
     assert!(output.stderr.is_empty(), "it says something");
 }
@@ -121,9 +123,18 @@ fn says_so(output: &Output) {
 #[test]
 fn recorded_jobs() {
     let mut seen: HashMap<u8, usize> = HashMap::new();
-    for (index, (job, text)) in records().into_iter().enumerate() {
+    let mut settings = [0; 2];
+    for (index, (setting, job, text)) in records().into_iter().enumerate() {
         let path = file("recorded.job", &job);
-        let output = Command::new(program())
+        let mut command = Command::new(program());
+        // 1 is the setting without an argument too.
+        if setting != 1 || index % 2 == 0 {
+            command.arg(setting.to_string());
+        }
+        if let Some(count) = settings.get_mut((setting as usize).wrapping_sub(1)) {
+            *count += 1;
+        }
+        let output = command
             .stdin(File::open(path).unwrap())
             .output()
             .unwrap();
@@ -134,13 +145,67 @@ fn recorded_jobs() {
         assert!(output.stderr.is_empty());
         *seen.entry(refused(&text)).or_default() += 1;
     }
-    for number in (0..=17).chain([21]) {
+    assert!(settings.iter().all(|&count| count > 200), "{settings:?}");
+    for number in (0..=17).chain([21, 22]) {
         let count = seen.get(&number).copied().unwrap_or(0);
         assert!(
             if number == 16 { count == 0 } else { count >= 5 },
             "{number}"
         );
     }
+}
+
+/// The trials, with the arguments that they say: none, a setting, or what is refused.
+#[test]
+fn trials() {
+    let mut refused = 0;
+    for (name, job) in jobs("compare/trials") {
+        let given = root().join("compare/trials").join(&name);
+        let given = fs::read_to_string(given.with_extension("given")).unwrap_or_default();
+        let output = Command::new(program())
+            .args(given.lines())
+            .stdin(File::open(file("trial.job", &job)).unwrap())
+            .output()
+            .unwrap();
+        assert_eq!(String::from_utf8(output.stdout).unwrap(), printed(&name), "{name}");
+        assert!(output.stderr.is_empty());
+        refused += usize::from(printed(&name) == "refused 22\n");
+    }
+    assert!(refused >= 10, "{refused}");
+}
+
+/// 22 comes before 2 for a job that is too long, and an argument may be any bytes.
+#[test]
+fn arguments() {
+    let long = file("long.job", &vec![0; 65_537]);
+    let swap = file("swap.job", &many_swaps());
+    let shown = |arguments: &[&[u8]], job: &Path| {
+        let arguments = arguments.iter().map(|bytes| OsStr::from_bytes(bytes));
+        let output = Command::new(program())
+            .args(arguments)
+            .stdin(File::open(job).unwrap())
+            .output()
+            .unwrap();
+        assert!(output.stderr.is_empty());
+        String::from_utf8(output.stdout).unwrap()
+    };
+    assert_eq!(shown(&[b"2"], &long), "refused 2\n");
+    assert_eq!(shown(&[b"3"], &long), "refused 22\n");
+    let many = vec![b'1'; 100_000];
+    let none: [&[&[u8]]; 8] = [
+        &[&many],
+        &[b"1\xff"],
+        &[b"\xff"],
+        &[b" 2"],
+        &[b"2\n"],
+        &[b"12"],
+        &[b"2", b""],
+        &[b"1", b"1", b"1"],
+    ];
+    for arguments in none {
+        assert_eq!(shown(arguments, &swap), "refused 22\n");
+    }
+    assert_eq!(shown(&[b"1"], &swap), shown(&[], &swap));
 }
 
 /// The stack that README names is enough.
@@ -183,7 +248,7 @@ fn file_limit() {
     says_so(&in_shell(&before, "< \"$JOB\"", &path));
     let printed = fs::read(out).unwrap();
     assert!(printed.len() <= 8192);
-    let text = text_of(&Resolver::new().answer(&job));
+    let text = text_of(&Resolver::new().answer(1, &job));
     assert!(text.as_bytes().starts_with(&printed));
 }
 
@@ -200,7 +265,7 @@ fn nothing_after_a_failed_write() {
     let faulty = Faulty::new("writes");
     let job = many_swaps();
     let path = file("writes.job", &job);
-    let text = text_of(&Resolver::new().answer(&job));
+    let text = text_of(&Resolver::new().answer(1, &job));
     for few in [64, 5000, 1 << 20] {
         for failing in [1, 2, 3, 10] {
             let (output, notes) = faulty.run(&path, &[("FEW", few), ("FAIL_WRITE", failing)]);

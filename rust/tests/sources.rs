@@ -53,8 +53,8 @@ fn whole_jobs() {
         if !name.starts_with("sources-") {
             continue;
         }
-        assert_eq!(text(&mut resolver, &job), printed(&name), "{name}");
-        let refusal = resolver.answer(&job).err().map(|answer| answer.refusal());
+        assert_eq!(text(&mut resolver, 1, &job), printed(&name), "{name}");
+        let refusal = resolver.answer(1, &job).err().map(|answer| answer.refusal());
         refused += usize::from(refusal == Some(Refusal::OverlappingSources));
     }
     assert!(refused >= 5, "{refused}");
@@ -62,7 +62,7 @@ fn whole_jobs() {
 
 #[test]
 fn patch_by_patch() {
-    let mut moves = ParallelMoves::open(&opening()).unwrap();
+    let mut moves = ParallelMoves::open(1, &opening()).unwrap();
     let overlapping = Some(Refusal::OverlappingSources);
     // What one patch reads says nothing of the next, nor does a refused one.
     for one in [PAIR, HALF, PAIR] {

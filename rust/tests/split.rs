@@ -291,8 +291,10 @@ fn try_one(random: &mut Random, resolver: &mut Resolver) -> Tried {
         entries: entries.clone(),
     }];
     let mut tried = Tried::Split;
+    let kept_evictions = 1 + random.below(2) as u32;
     for parts in [&whole[..], &parts] {
-        let answer = resolver.answer(&job(&registers, SLOTS, &banks, &rebuilt, parts));
+        let job = job(&registers, SLOTS, &banks, &rebuilt, parts);
+        let answer = resolver.answer(kept_evictions, &job);
         let refused = parts
             .iter()
             .any(|part| sources_overlap(&registers, &part.entries));
@@ -377,7 +379,7 @@ fn moved(source: Place, dest: Place, value: u16) -> Entry {
 fn after(parts: &[Part], slots: u16) -> Vec<u32> {
     let (registers, mut machine) = two_hundred();
     let answer = Resolver::new()
-        .answer(&job(&registers, slots, &[0; 200], &[false; 200], parts))
+        .answer(1, &job(&registers, slots, &[0; 200], &[false; 200], parts))
         .unwrap();
     for patch in answer.patches() {
         machine.run(patch.edits(), &|_| unreachable!());

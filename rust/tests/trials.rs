@@ -2,18 +2,19 @@
 
 mod common;
 
-use common::{jobs, positions_met, printed, text};
+use common::{jobs, kept_evictions, positions_met, printed, text};
 use parallel_moves::{Edit, PhysReg, Refusal, Resolver, SpillSlot, Value};
 
 #[test]
 fn trials() {
     let mut resolver = Resolver::new();
     for (name, job) in jobs("compare/trials") {
-        assert_eq!(text(&mut resolver, &job), printed(&name), "{name}");
+        let text = text(&mut resolver, kept_evictions(&name), &job);
+        assert_eq!(text, printed(&name), "{name}");
     }
 }
 
-/// The positions that the original met, where a trial says them.
+/// The positions that the judge met, where a trial says them.
 #[test]
 fn positions() {
     let mut resolver = Resolver::new();
@@ -23,7 +24,7 @@ fn positions() {
             continue;
         };
         trials += 1;
-        let answer = resolver.answer(&job).unwrap();
+        let answer = resolver.answer(kept_evictions(&name), &job).unwrap();
         let positions: Vec<_> = answer.patches().map(|patch| patch.position()).collect();
         assert_eq!(positions, met, "{name}");
     }
@@ -34,7 +35,7 @@ fn positions() {
 fn examples() {
     let mut resolver = Resolver::new();
     for (name, job) in jobs("examples") {
-        assert_eq!(text(&mut resolver, &job), printed(&name), "{name}");
+        assert_eq!(text(&mut resolver, 1, &job), printed(&name), "{name}");
     }
 }
 
@@ -43,7 +44,11 @@ fn examples() {
 fn used_again() {
     let mut used = Resolver::new();
     for (name, job) in jobs("compare/trials").iter().rev() {
-        assert_eq!(used.answer(job), Resolver::new().answer(job), "{name}");
+        for kept_evictions in [2, 3, 1] {
+            let mut new = Resolver::new();
+            let answer = new.answer(kept_evictions, job);
+            assert_eq!(used.answer(kept_evictions, job), answer, "{name}");
+        }
     }
 }
 
@@ -51,7 +56,7 @@ fn used_again() {
 fn swap_full() {
     let jobs = jobs("examples");
     let (_, job) = jobs.iter().find(|(name, _)| name == "swap-full").unwrap();
-    let answer = Resolver::new().answer(job).unwrap();
+    let answer = Resolver::new().answer(1, job).unwrap();
     let patches: Vec<_> = answer.patches().collect();
     assert_eq!(patches.len(), 1);
     assert_eq!(patches[0].made(), 1);
@@ -74,7 +79,7 @@ fn swap_full() {
 fn refused_17() {
     let jobs = jobs("examples");
     let (_, job) = jobs.iter().find(|(name, _)| name == "refused-17").unwrap();
-    let refused = Resolver::new().answer(job).unwrap_err();
+    let refused = Resolver::new().answer(1, job).unwrap_err();
     let refusal = refused.refusal();
     assert_eq!(refusal, Refusal::OutOfSlots);
     assert_eq!(refusal.number(), 17);

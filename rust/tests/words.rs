@@ -62,8 +62,8 @@ fn whole_jobs() {
         if !name.starts_with("words-") {
             continue;
         }
-        assert_eq!(text(&mut resolver, &job), printed(&name), "{name}");
-        match resolver.answer(&job).map_err(|answer| answer.refusal()) {
+        assert_eq!(text(&mut resolver, 1, &job), printed(&name), "{name}");
+        match resolver.answer(1, &job).map_err(|answer| answer.refusal()) {
             Ok(_) => accepted += 1,
             Err(refusal) => unequal += usize::from(refusal == Refusal::UnequalWidths),
         }
@@ -75,7 +75,7 @@ fn whole_jobs() {
 /// its source held, and everything else but free units as it was.
 #[test]
 fn patch_by_patch() {
-    let mut moves = ParallelMoves::open(&opening()).unwrap();
+    let mut moves = ParallelMoves::open(1, &opening()).unwrap();
     let [r0, r1, r2, r3, s0, s1] = [reg(0), reg(1), reg(2), reg(3), slot(0), slot(1)];
     let patches: [(&[usize], &[(Allocation, Allocation)]); 8] = [
         (&[], &[(r0, r1), (r1, r0)]),

@@ -97,6 +97,16 @@ pub fn printed(name: &str) -> String {
     fs::read_to_string(path.with_extension("out")).expect("each trial has a .out")
 }
 
+/// The number of kept evictions that the trial with a name is given: 1 unless it says
+/// so, and 0, which is refused, where it says no number.
+pub fn kept_evictions(name: &str) -> u32 {
+    let path = root().join("compare/trials").join(name);
+    match fs::read_to_string(path.with_extension("given")) {
+        Err(_) => 1,
+        Ok(given) => given.trim_end_matches('\n').parse().unwrap_or(0),
+    }
+}
+
 /// The positions of a trial's patches, if it says them.
 pub fn positions_met(name: &str) -> Option<Vec<usize>> {
     let path = root().join("compare/trials").join(name);
@@ -136,7 +146,7 @@ pub fn text_of_parts(answer: &Answered) -> String {
     }
     if let Err(refused) = answer {
         let refusal = refused.refusal();
-        assert!(matches!(refusal.number(), 1..=17 | 21));
+        assert!(matches!(refusal.number(), 1..=17 | 21 | 22));
         assert!(!refusal.words().is_empty());
         text += &format!("refused {}\n", refusal.number());
     }
@@ -145,8 +155,8 @@ pub fn text_of_parts(answer: &Answered) -> String {
 
 /// Answers a job and checks that the answer says the same as text, printed, and
 /// taken apart.
-pub fn text(resolver: &mut Resolver, job: &[u8]) -> String {
-    let answer = resolver.answer(job);
+pub fn text(resolver: &mut Resolver, kept_evictions: u32, job: &[u8]) -> String {
+    let answer = resolver.answer(kept_evictions, job);
     let text = text_of(&answer);
     assert_eq!(text, text_of_parts(&answer));
     if let Ok(answer) = answer {
@@ -183,9 +193,9 @@ pub fn generated(seed: u64, count: usize, mode: &str) -> Option<Vec<Vec<u8>>> {
     Some(jobs)
 }
 
-/// What `compare` answers to jobs, or `None` if it is not built. `what` says
-/// what is asked, in one word.
-pub fn answers(what: &str, jobs: &[Vec<u8>]) -> Option<Vec<String>> {
+/// What `compare` answers to jobs with so many kept evictions, or `None` if it is not
+/// built. `what` says what is asked, in one word.
+pub fn answers(what: &str, kept_evictions: u32, jobs: &[Vec<u8>]) -> Option<Vec<String>> {
     let program = compare(&format!("the answers of compare, {what}"))?;
     let mut framed = Vec::new();
     for job in jobs {
@@ -195,7 +205,7 @@ pub fn answers(what: &str, jobs: &[Vec<u8>]) -> Option<Vec<String>> {
     let path = Path::new(env!("CARGO_TARGET_TMPDIR")).join(format!("{what}.jobs"));
     fs::write(&path, framed).unwrap();
     let output = Command::new(program)
-        .arg("answer-batch")
+        .args(["answer-batch", &kept_evictions.to_string()])
         .stdin(File::open(&path).unwrap())
         .output()
         .unwrap();
