@@ -54,6 +54,7 @@ fn small(entries: (usize, usize)) -> Flavour {
         patches: (1, 1),
         entries,
         shipped: 0,
+        evicting: false,
     }
 }
 
@@ -162,7 +163,7 @@ fn job(random: &mut Random, target: &str, entries: (usize, usize)) -> Draft {
         "shipped" => targets::shipped(),
         _ => large_target(),
     };
-    let values = targets::values(random, &target, &flavour);
+    let values = targets::values(random, &target, flavour.values, flavour.rebuild);
     let mut draft = Draft {
         target,
         values,

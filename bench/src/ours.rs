@@ -5,8 +5,9 @@ use crate::draft::{self, Draft, Patch, Place};
 #[link(name = "parallel_moves_c", kind = "static")]
 #[link(name = "calls_c", kind = "static")]
 unsafe extern "C" {
-    #[link_name = "parallel_moves_open_3"]
+    #[link_name = "parallel_moves_open_4"]
     fn parallel_moves_open(
+        kept_evictions: u32,
         bytes: *const u8,
         bytes_len: usize,
         target: *mut u16,
@@ -14,7 +15,7 @@ unsafe extern "C" {
         cache: *mut u16,
     ) -> u8;
 
-    #[link_name = "parallel_moves_resolve_3"]
+    #[link_name = "parallel_moves_resolve_4"]
     fn parallel_moves_resolve(
         target: *const u16,
         function: *const u16,
@@ -38,8 +39,9 @@ unsafe extern "C" {
         carried: *mut u16,
     ) -> usize;
 
-    #[link_name = "parallel_moves_answer_3"]
+    #[link_name = "parallel_moves_answer_4"]
     fn parallel_moves_answer(
+        kept_evictions: u32,
         job: *const u8,
         job_len: usize,
         words: *mut u64,
@@ -61,6 +63,9 @@ unsafe extern "C" {
     ) -> usize;
 }
 
+/// The original keeps one eviction.
+const KEPT_EVICTIONS: u32 = 1;
+
 /// The words of the longest answer.
 const MOST_WORDS: usize = 2 * 65_536 + 1024;
 
@@ -75,7 +80,7 @@ impl Tables {
     fn new() -> Self {
         Tables {
             target: vec![0xa5a5; 107_520],
-            function: vec![0xa5a5; 16_387],
+            function: vec![0xa5a5; 16_388],
             cache: vec![0xa5a5; 65_600],
         }
     }
@@ -185,6 +190,7 @@ impl Job {
         // SAFETY: each array is as long as the function says.
         let refusal = unsafe {
             parallel_moves_open(
+                KEPT_EVICTIONS,
                 beginning.as_ptr(),
                 beginning.len(),
                 tables.target.as_mut_ptr(),
@@ -245,6 +251,7 @@ pub extern "C" fn timed_ours_job(bytes: *const u8, len: usize, memory: &mut Memo
     // SAFETY: each array is as long as the function says, the flags are 0 or 1.
     let count = unsafe {
         parallel_moves_answer(
+            KEPT_EVICTIONS,
             bytes,
             len,
             memory.words.as_mut_ptr(),
