@@ -267,7 +267,9 @@ impl Options {
                     rest
                 }
                 ["--setting", word, ref rest @ ..] => {
-                    options.settings.retain(|setting| setting.to_string() == word);
+                    options
+                        .settings
+                        .retain(|setting| setting.to_string() == word);
                     if options.settings.is_empty() {
                         return Err(format!("{word} is no setting"));
                     }

@@ -174,8 +174,7 @@ fn at_both_settings(seed: u64) -> Result<Vec<Record>, String> {
     let mut records = Vec::new();
     let (mut alike, mut other) = (0, 0);
     for one in jobs(seed, "evictions").take(BOTH_TRIED) {
-        let [one, two] =
-            SETTINGS.map(|setting| Record::new(one.mode, setting, one.job.clone()));
+        let [one, two] = SETTINGS.map(|setting| Record::new(one.mode, setting, one.job.clone()));
         if one.text == two.text || one.bytes() > MOST_BOTH {
             continue;
         }

@@ -18,23 +18,23 @@ use judge::{answer, words};
 
 /// The faults, each in some answers only.
 const FAULTS: [&str; 38] = [
-    "order",       // two edits change places in a patch with four or more
-    "place",       // a copy into slot 3 goes to slot 1
-    "made",        // a slot too many is counted from the second patch on
-    "position",    // a position from 2 on is one too high
-    "patch",       // of five patches and more, the last has no answer
-    "number",      // 12 for 13
-    "accepted",    // bytes left over are accepted
-    "sources",     // 21 is not given
-    "one-width",   // 4 is document 01's: an argument word is as wide as its bank
-    "wide-memory", // 4 is not given for memory registers of several units
-    "text",        // the text of rebuilds is wrong, their words are right
-    "words",       // the words of rebuilds are wrong, their text is right
-    "little-room", // no heed is paid to the room that there is
-    "setting",     // settings are looked at by their lowest byte
+    "order",        // two edits change places in a patch with four or more
+    "place",        // a copy into slot 3 goes to slot 1
+    "made",         // a slot too many is counted from the second patch on
+    "position",     // a position from 2 on is one too high
+    "patch",        // of five patches and more, the last has no answer
+    "number",       // 12 for 13
+    "accepted",     // bytes left over are accepted
+    "sources",      // 21 is not given
+    "one-width",    // 4 is document 01's: an argument word is as wide as its bank
+    "wide-memory",  // 4 is not given for memory registers of several units
+    "text",         // the text of rebuilds is wrong, their words are right
+    "words",        // the words of rebuilds are wrong, their text is right
+    "little-room",  // no heed is paid to the room that there is
+    "setting",      // settings are looked at by their lowest byte
     "setting-last", // 22 comes after the tests of the job
-    "one-kept",    // at setting 2 one eviction is kept
-    "newer-first", // and so on: the slips of the rule for kept evictions
+    "one-kept",     // at setting 2 one eviction is kept
+    "newer-first",  // and so on: the slips of the rule for kept evictions
     "oldest-reused",
     "by-use",
     "older-too",
@@ -42,20 +42,20 @@ const FAULTS: [&str; 38] = [
     "overlap-unheeded",
     "one-for-a-place",
     "slot-first",
-    "open",        // a function with bytes left over is opened
-    "call-number", // 12 for 13
-    "call-order",  // the last two of four edits and more change places
-    "call-made",   // a slot too many is counted
-    "call-met",    // a position from 2 on is one too high
-    "call-told",   // a call refused by 17 tells a position
-    "call-list",   // a call refused by 17 writes a word of the list
-    "call-cache",  // a call refused by 13 changes the cache
-    "call-past",   // a word past the edits is written
-    "call-equal",  // 21 is given for equal sources of two values
-    "call-last",   // 21 is given only if the entry before is the one overlapped
+    "open",         // a function with bytes left over is opened
+    "call-number",  // 12 for 13
+    "call-order",   // the last two of four edits and more change places
+    "call-made",    // a slot too many is counted
+    "call-met",     // a position from 2 on is one too high
+    "call-told",    // a call refused by 17 tells a position
+    "call-list",    // a call refused by 17 writes a word of the list
+    "call-cache",   // a call refused by 13 changes the cache
+    "call-past",    // a word past the edits is written
+    "call-equal",   // 21 is given for equal sources of two values
+    "call-last",    // 21 is given only if the entry before is the one overlapped
     "open-setting", // a function is opened at setting 3, as at 2
-    "open-bytes",  // 22 comes after the tests of the target and the function
-    "call-kept",   // at setting 2 one eviction is kept
+    "open-bytes",   // 22 comes after the tests of the target and the function
+    "call-kept",    // at setting 2 one eviction is kept
 ];
 
 /// The judge that stands behind the library's place.
@@ -239,7 +239,11 @@ pub unsafe extern "C" fn parallel_moves_answer(
     if number == 22 && fault() == "setting-last" {
         let late = answer::answer(judge(1), job);
         let refused = late.positions.is_empty() && late.text.starts_with("refused");
-        number = if refused { words_of(&late.text, &[]).1 } else { 22 };
+        number = if refused {
+            words_of(&late.text, &[]).1
+        } else {
+            22
+        };
     }
     spoil(&mut found, &mut number);
     if number != 22 {

@@ -204,7 +204,11 @@ fn each_refusal_is_recorded() {
 fn opened_after_whole_jobs() {
     let mut tables = Tables::new();
     let mut words = vec![0; 4096];
-    let _ = tables.answer(1, include_bytes!("../../examples/swap-full.job"), &mut words);
+    let _ = tables.answer(
+        1,
+        include_bytes!("../../examples/swap-full.job"),
+        &mut words,
+    );
     let Call::Open { bytes, .. } = calls()
         .find(|c| matches!(c, Call::Open { refusal: 0, .. }))
         .unwrap()

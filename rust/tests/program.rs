@@ -134,10 +134,7 @@ fn recorded_jobs() {
         if let Some(count) = settings.get_mut((setting as usize).wrapping_sub(1)) {
             *count += 1;
         }
-        let output = command
-            .stdin(File::open(path).unwrap())
-            .output()
-            .unwrap();
+        let output = command.stdin(File::open(path).unwrap()).output().unwrap();
         assert!(
             output.stdout == text,
             "record {index} of crates/replay/stdin"
@@ -167,7 +164,11 @@ fn trials() {
             .stdin(File::open(file("trial.job", &job)).unwrap())
             .output()
             .unwrap();
-        assert_eq!(String::from_utf8(output.stdout).unwrap(), printed(&name), "{name}");
+        assert_eq!(
+            String::from_utf8(output.stdout).unwrap(),
+            printed(&name),
+            "{name}"
+        );
         assert!(output.stderr.is_empty());
         refused += usize::from(printed(&name) == "refused 22\n");
     }

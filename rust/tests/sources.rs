@@ -54,7 +54,10 @@ fn whole_jobs() {
             continue;
         }
         assert_eq!(text(&mut resolver, 1, &job), printed(&name), "{name}");
-        let refusal = resolver.answer(1, &job).err().map(|answer| answer.refusal());
+        let refusal = resolver
+            .answer(1, &job)
+            .err()
+            .map(|answer| answer.refusal());
         refused += usize::from(refusal == Some(Refusal::OverlappingSources));
     }
     assert!(refused >= 5, "{refused}");

@@ -142,10 +142,7 @@ fn one(
     }
     let made = ours.made();
     if made != expected.made {
-        return Err(format!(
-            "{made} slots made, by the judge {}",
-            expected.made
-        ));
+        return Err(format!("{made} slots made, by the judge {}", expected.made));
     }
     if refusal != 0 && position != NO_POSITION {
         return Err(format!("a position, with refusal {refusal}"));

@@ -279,8 +279,7 @@ impl<'a> PatchMaker<'a> {
                 return;
             }
             let register = Place::Register(*self.random.pick(&self.registers[bank]));
-            let mut ends =
-                [(); 2].map(|()| Place::Slot(self.random.below(self.draft.slots)));
+            let mut ends = [(); 2].map(|()| Place::Slot(self.random.below(self.draft.slots)));
             if self.random.chance(25) {
                 ends[self.random.below(2)] = register;
             }

@@ -103,7 +103,14 @@ pub fn kept_evictions(name: &str) -> u32 {
     let path = root().join("compare/trials").join(name);
     match fs::read_to_string(path.with_extension("given")) {
         Err(_) => 1,
-        Ok(given) => given.trim_end_matches('\n').parse().unwrap_or(0),
+        Ok(given) => {
+            let number: u32 = given.trim_end().parse().unwrap_or(0);
+            if given == format!("{number}\n") {
+                number
+            } else {
+                0
+            }
+        }
     }
 }
 
