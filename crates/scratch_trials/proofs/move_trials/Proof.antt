@@ -17,6 +17,9 @@ element-write-f-2 c = search needs
 element-write-f-3 : tie.Need-element-write-f-3
 element-write-f-3 c = search needs
 
+element-write-f-4 : tie.Need-element-write-f-4
+element-write-f-4 c = search needs
+
 ready-requires : tie.Need-ready-requires
 ready-requires c κs = search needs
 
@@ -39,6 +42,7 @@ move-trials-spec =
     element-write-f
     element-write-f-2
     element-write-f-3
+    element-write-f-4
     ready-requires
     report-slot-to-slot-requires
     report-slots-swapped-requires
