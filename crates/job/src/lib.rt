@@ -41,13 +41,7 @@ pub enum Step {
 }
 
 // 4 to 7, then the function, of `kept` kept evictions.
-fn read_after_target(
-    s: &[u8],
-    at: usize,
-    t: &mut RegInfo,
-    f: &mut Function,
-    kept: u16,
-) -> Next
+fn read_after_target(s: &[u8], at: usize, t: &mut RegInfo, f: &mut Function, kept: u16) -> Next
     requires { ⌜ isSetting kept ≡ true ⌝ }
     ensures { λ r. ⌜ BegunAt (now (s .entry)) (unlessGiven (targetRefusal (regInfoOf (now (t .entry)))) (withFunction (regInfoOf (now (t .entry))) kept (drop at (now (s .entry))))) r (now (t .exit)) (now (f .exit)) ⌝ }
 {
@@ -63,12 +57,7 @@ fn read_after_target(
 }
 
 // The target and the function that the bytes begin with; 22 first, for a setting other than 1 or 2. What the tables held does not matter.
-pub fn read_beginning(
-    kept_evictions: u32,
-    s: &[u8],
-    t: &mut RegInfo,
-    f: &mut Function,
-) -> Next
+pub fn read_beginning(kept_evictions: u32, s: &[u8], t: &mut RegInfo, f: &mut Function) -> Next
     ensures { λ r. ⌜ BegunAt (now (s .entry)) (beginning «kept_evictions» (now (s .entry))) r (now (t .exit)) (now (f .exit)) ⌝ }
 {
     if !function::is_setting(kept_evictions as usize) {
@@ -85,12 +74,7 @@ pub fn read_beginning(
 
 // The target, the function and the patch count of a job, which goes on at the offset given; 22 first, for a setting other than 1 or 2. What the
 // tables held does not matter.
-pub fn read_opening(
-    kept_evictions: u32,
-    s: &[u8],
-    t: &mut RegInfo,
-    f: &mut Function,
-) -> Number
+pub fn read_opening(kept_evictions: u32, s: &[u8], t: &mut RegInfo, f: &mut Function) -> Number
     ensures { λ r. ⌜ HeaderAt (now (s .entry)) (opening «kept_evictions» (now (s .entry))) r (now (t .exit)) (now (f .exit)) ⌝ }
 {
     match read_beginning(kept_evictions, s, t, f) {
