@@ -6,7 +6,7 @@ use Rattle.reginfo.specs.RegInfo.{spillslotSize, topLevelClass, stackToStackCla
 use Rattle.reginfo.specs.Refused.{orderTotal, countsFit, bankFits, regFits, classFits, outsideLimits, listedTwice, unequalWidths, foreignMember, sharedMemory, unfitClass, firstOf, targetRefusal}
 use Rattle.function.specs.Function.{valueBank, rematCost, rematClass, isSetting}
 use Rattle.rules.specs.Edit.{updated, andThen, each, find, firstAt, filter}
-use Rattle.rules.specs.Scratch.{acquireFrom, unevict, unevictForReg, slotScratch, evictLast, reuse, orScratch, getScratchReg, moveEdits, doMove}
+use Rattle.rules.specs.Scratch.{acquireFrom, unevict, unevictBut, unevictForReg, makeRoom, slotScratch, evictLast, reuse, orScratch, getScratchReg, moveEdits, doMove}
 use Rattle.rules.specs.Order.{carryOne, carry, remats, rematWithScratch, writerFrom, writersOf, writers, cycleMoveSources, divert, lead, undivert, undivertAll, close, visit, visitUnlessMemory, start, moves}
 use Rattle.rules.specs.Patch.{destinations, add, sortedFrom, entryConditions, patchConditions, run, resolveSorted, resolveFrom, resolve}
 use Rattle.number.specs.Number.{groups, number}
@@ -19,14 +19,17 @@ use Rattle.job.specs.Conditions.{inNumber, inTested, inTimes, inDistinct
 use Rattle.job.specs.Trials.{sameMoves, Trials}
 
 pub trials : Trials
-unfolding placeAt any all has meets twice lastOr indices spillslotSize topLevelClass stackToStackClass regMemory bankForReg regUnits bankForClass classSlots classMembers allocationOrder orderTotal countsFit bankFits regFits classFits outsideLimits listedTwice unequalWidths foreignMember sharedMemory unfitClass firstOf targetRefusal valueBank rematCost rematClass isSetting updated andThen each find firstAt filter acquireFrom unevict unevictForReg slotScratch evictLast reuse orScratch getScratchReg moveEdits doMove carryOne carry remats rematWithScratch writerFrom writersOf writers cycleMoveSources divert lead undivert undivertAll close visit visitUnlessMemory start moves destinations add sortedFrom entryConditions patchConditions run resolveSorted resolveFrom resolve groups number tested times distinct bank reg class classes target rebuilt value valued function rising place entry entries patch afterTarget header patches opening job inNumber inTested inTimes inDistinct inBank inReg inClass inClasses inTarget ofTarget inRebuilt inValue inFunction inRising inPlace inEntry inEntries inPatch ofCall inPatches inOpening jobConditions sameMoves
+unfolding placeAt any all has meets twice lastOr indices spillslotSize topLevelClass stackToStackClass regMemory bankForReg regUnits bankForClass classSlots classMembers allocationOrder orderTotal countsFit bankFits regFits classFits outsideLimits listedTwice unequalWidths foreignMember sharedMemory unfitClass firstOf targetRefusal valueBank rematCost rematClass isSetting updated andThen each find firstAt filter acquireFrom unevict unevictBut unevictForReg makeRoom slotScratch evictLast reuse orScratch getScratchReg moveEdits doMove carryOne carry remats rematWithScratch writerFrom writersOf writers cycleMoveSources divert lead undivert undivertAll close visit visitUnlessMemory start moves destinations add sortedFrom entryConditions patchConditions run resolveSorted resolveFrom resolve groups number tested times distinct bank reg class classes target rebuilt value valued function rising place entry entries patch afterTarget header patches opening job inNumber inTested inTimes inDistinct inBank inReg inClass inClasses inTarget ofTarget inRebuilt inValue inFunction inRising inPlace inEntry inEntries inPatch ofCall inPatches inOpening jobConditions sameMoves
 trials = record {
   swap-full = refl;
   in-order = refl;
   no-byte = refl;
   none-kept = λ l. refl;
   three-kept = λ l. refl;
+  one-kept = refl;
   two-kept = refl;
+  no-second-slot = refl;
+  same-with-two = refl;
   target-alone = refl;
   unequal = refl;
   argument-word = refl;

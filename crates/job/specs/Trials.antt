@@ -7,7 +7,8 @@ use mathlib.Core.List.{List, [], _∷_, _++_, map}
 use mathlib.Core.Option.{none, some}
 use Rattle.entity.specs.Place.{reg, slot}
 use Rattle.reginfo.specs.Refused.{Condition, cond}
-use Rattle.rules.specs.Edit.{Move}
+use Rattle.rules.specs.Edit.{Move, EmergencySpill}
+use Rattle.rules.specs.Trials.{r0Edits, r1Edits}
 use Rattle.job_target.specs.Trials.{swapGiven}
 use Rattle.job.specs.Job.{endsWith, before, job}
 use Rattle.job.specs.Conditions.{jobConditions}
@@ -55,11 +56,19 @@ allOf slots = 0 ∷ slots ∷ 3 ∷ 0 ∷ 1 ∷ 2 ∷ 3 ∷ 0 ∷ 1 ∷ 2 ∷ []
 abbrev pub besideAPair : ℕ → List ℕ → List ℕ
 besideAPair units r = units ∷ 1 ∷ 3 ∷ 0 ∷ 1 ∷ 2 ∷ 0 ∷ 0 ∷ 2 ∷ 0 ∷ 1 ∷ (r ++ (2 ∷ 0 ∷ 1 ∷ 2 ∷ 0 ∷ 1 ∷ 1 ∷ 0 ∷ 0 ∷ 0 ∷ 1 ∷ 0 ∷ 1 ∷ 0 ∷ []))
 
--- two banks of one register each, with the classes that they need; then a function of one value
+-- two banks of one register each, with the classes that they need; then the rest of the job
 abbrev pub twoBanks : List ℕ → List ℕ
 twoBanks more =
     2 ∷ 2 ∷ 3 ∷ 0 ∷ 1 ∷ 3 ∷ 2 ∷ 3 ∷ 2 ∷ 0 ∷ 0 ∷ 1 ∷ 0 ∷ 0 ∷ 1 ∷ 1 ∷ 1
-    ∷ 4 ∷ 0 ∷ 1 ∷ 1 ∷ 0 ∷ 1 ∷ 0 ∷ 0 ∷ 0 ∷ 1 ∷ 0 ∷ 1 ∷ 0 ∷ 1 ∷ 1 ∷ 1 ∷ 1 ∷ 1 ∷ 1 ∷ 1 ∷ 0 ∷ 1 ∷ 1 ∷ 1 ∷ 1 ∷ 1 ∷ 0 ∷ 1 ∷ more
+    ∷ 4 ∷ 0 ∷ 1 ∷ 1 ∷ 0 ∷ 1 ∷ 0 ∷ 0 ∷ 0 ∷ 1 ∷ 0 ∷ 1 ∷ 0 ∷ 1 ∷ 1 ∷ 1 ∷ 1 ∷ 1 ∷ 1 ∷ 1 ∷ 0 ∷ 1 ∷ 1 ∷ 1 ∷ 1 ∷ more
+
+-- with a function of one value
+abbrev pub withOneValue : List ℕ → List ℕ
+withOneValue more = twoBanks (1 ∷ 0 ∷ 1 ∷ more)
+
+-- a value of each bank, slot 0 to slot 1 and slot 2 to slot 3, with another L
+abbrev pub slotsMoved : ℕ → List ℕ
+slotsMoved limit = twoBanks (2 ∷ 4 ∷ limit ∷ 0 ∷ 0 ∷ 1 ∷ 0 ∷ 1 ∷ 0 ∷ 2 ∷ 0 ∷ 0 ∷ 2 ∷ 0 ∷ 0 ∷ 4 ∷ 6 ∷ 1 ∷ [])
 
 pub record Trials : Type 0 where
   -- "M s0 r1 1", "M r1 r0 0", "M r0 s0 1"; made 1; nothing of the order of three would do
@@ -75,7 +84,16 @@ pub record Trials : Type 0 where
   -- 02 i: another setting is refused before the job, whatever its bytes and however many
   pub none-kept : (l : List ℕ) → job 0 l ≡ endsWith (some 22)
   pub three-kept : (l : List ℕ) → job 3 l ≡ endsWith (some 22)
-  pub two-kept : job 2 swapFull ≡ job 1 swapFull
+  -- with one kept, r0 is brought back before r1 is evicted, and its slot taken again; with two, both wait, and the second has a slot of its own
+  pub one-kept :
+      job 1 (slotsMoved 2)
+      ≡ before (record { edits = EmergencySpill 4 1 ∷ r1Edits 4 (EmergencySpill 4 0 ∷ r0Edits 4); made = 1; position = 1 }) (endsWith none)
+  pub two-kept :
+      job 2 (slotsMoved 2)
+      ≡ before (record { edits = EmergencySpill 5 1 ∷ EmergencySpill 4 0 ∷ r1Edits 5 (r0Edits 4); made = 2; position = 1 }) (endsWith none)
+  pub no-second-slot : job 2 (slotsMoved 1) ≡ endsWith (some 17)
+  -- nothing is evicted
+  pub same-with-two : job 2 swapFull ≡ job 1 swapFull
   -- the target's rules come before the function's first number, and rise
   pub target-alone : job 1 (targetWith r0 (allOf 1) (allOf 0)) .refusal ≡ some 1
   pub unequal : job 1 (targetWith (0 ∷ 0 ∷ 2 ∷ 0 ∷ 1 ∷ []) (allOf 0) (allOf 0)) .refusal ≡ some 4
@@ -86,8 +104,8 @@ pub record Trials : Type 0 where
   pub memory-shared : job 1 (targetWith (1 ∷ 0 ∷ 1 ∷ 1 ∷ []) (allOf 0) (allOf 0)) .refusal ≡ some 6
   pub top-without-slots : job 1 (targetWith r0 (allOf 0) (allOf 0)) .refusal ≡ some 7
   -- a rebuild class of the other bank comes before the patch count; a place of it, with its entry
-  pub foreign-class : job 1 (twoBanks (0 ∷ 1 ∷ 2 ∷ [])) .refusal ≡ some 9
-  pub foreign-place : job 1 (twoBanks (0 ∷ 0 ∷ 1 ∷ 0 ∷ 1 ∷ 0 ∷ 3 ∷ 3 ∷ 0 ∷ [])) .refusal ≡ some 9
+  pub foreign-class : job 1 (withOneValue (0 ∷ 1 ∷ 2 ∷ [])) .refusal ≡ some 9
+  pub foreign-place : job 1 (withOneValue (0 ∷ 0 ∷ 1 ∷ 0 ∷ 1 ∷ 0 ∷ 3 ∷ 3 ∷ 0 ∷ [])) .refusal ≡ some 9
   pub one-byte-over : job 1 (swapFull ++ (0 ∷ [])) .refusal ≡ some 8
   -- the patch's number comes before a byte left over
   pub no-slot : job 1 (jobWith 0 (0 ∷ swapEntries) ++ (0 ∷ [])) .refusal ≡ some 17
