@@ -130,7 +130,7 @@ pub fn generated(seed: u64, count: usize) -> Vec<Task> {
 }
 
 /// Trials that are damaged.
-const TRIALS: [&str; 11] = [
+const TRIALS: [&str; 12] = [
     "swap-full",
     "sources-equal",
     "words-diverted-through",
@@ -142,6 +142,7 @@ const TRIALS: [&str; 11] = [
     "scratch-lies-on-evicted",
     "rebuild-scratch-stays-unavailable",
     "same-move-128-times",
+    "evictions-overlap-makes-room",
 ];
 
 /// Generated jobs that are damaged: the first accepted one of a mode that has so
@@ -165,7 +166,7 @@ const CHOSEN_BY_REFUSAL: (&str, usize, usize, &str) = ("remat", 100, 250, "refus
 /// The seed that they are chosen by.
 const CHOSEN_BY: u64 = 20;
 
-/// Twenty-one good jobs, with each byte changed in every way, and cut off
+/// Twenty-two good jobs, with each byte changed in every way, and cut off
 /// everywhere.
 pub fn damaged(trials: &Path) -> io::Result<Vec<Task>> {
     let mut jobs: Vec<(Arc<str>, Arc<[u8]>)> = Vec::new();
