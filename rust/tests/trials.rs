@@ -35,7 +35,8 @@ fn positions() {
 fn examples() {
     let mut resolver = Resolver::new();
     for (name, job) in jobs("examples") {
-        assert_eq!(text(&mut resolver, 1, &job), printed(&name), "{name}");
+        let text = text(&mut resolver, kept_evictions(&name), &job);
+        assert_eq!(text, printed(&name), "{name}");
     }
 }
 
