@@ -6,6 +6,7 @@ use mathlib.Core.List.{List, [], _∷_}
 use mathlib.Core.Logic.{_⊎_, inl, inr}
 use native.Mathlib.Omega.{arith}
 use lib.ListN.{length}
+use Rattle.entity.specs.Logic.{or}
 use Rattle.entity.specs.Place.{Place, reg, codeOf, placeAt}
 use Rattle.entity.proofs.Laws.{place-there}
 use Rattle.reginfo.specs.RegInfo.{overlap}
@@ -23,9 +24,9 @@ use Rattle.scratch.specs.declared.Evicted.{Evicted}
 use Rattle.scratch.specs.declared.Evicted.the-variants.{Nothing, One, Two}
 use Rattle.scratch.specs.declared.ScratchAllocator.{ScratchAllocator}
 use Rattle.scratch.specs.State.{T, F, heldOf, evictedOf, HeldFits, AllFit, owed}
-use Rattle.scratch.specs.Contracts.{Tables, tables, stateOf, Back, Brought, Holds}
+use Rattle.scratch.specs.Contracts.{Tables, tables, stateOf, unevictForEnds, Back, Brought, Holds}
 use Rattle.scratch.proofs.Bounds.{fewer, pushed, put-back, let-go, all-fit}
-use Rattle.scratch.proofs.Steps.{all-is, all-none, but-all, but-none, but-one, but-two, for-none, for-apart, for-met, for-two, for-both, for-older, for-neither, room-none}
+use Rattle.scratch.proofs.Steps.{all-is, all-none, but-all, but-none, but-one, but-two, for-none, for-apart, for-met, for-two, for-both, for-older, for-neither, ends-none, ends-apart, ends-met, room-none}
 use Rattle.scratch.proofs.Unlimited.{length-evicted}
 
 abbrev without : ScratchAllocator → Evicted → ScratchAllocator
@@ -73,6 +74,9 @@ module _ (t f cache : List ℕ) where
     pub none-room : (r : ℕ) → k .evicted ≡ Nothing → Brought t f cache k w k w (makeRoom (T t) (F f) r)
     none-room r q = same (makeRoom (T t) (F f) r) (room-none (T t) (F f) state r (ap evictedOf q))
 
+    pub none-ends : (to from : Place) → k .evicted ≡ Nothing → Brought t f cache k w k w (unevictForEnds (T t) (F f) to from)
+    none-ends to from q = same (unevictForEnds (T t) (F f) to from) (ends-none (T t) (F f) state from to (ap evictedOf q))
+
     -- one is held
     module _ (e : Held) (q : k .evicted ≡ One e) where
       pub one-all : (k′ : ScratchAllocator) (w′ : Tables) → Back t f cache e (without k Nothing) w k′ w′ → Brought t f cache k w k′ w′ (unevictAll (T t) (F f))
@@ -87,6 +91,13 @@ module _ (t f cache : List ℕ) where
 
         pub one-met : o ≡ true → (k′ : ScratchAllocator) (w′ : Tables) → Brought t f cache k w k′ w′ (unevictAll (T t) (F f)) → Brought t f cache k w k′ w′ (unevictForReg (T t) (F f) p)
         one-met n k′ w′ h = alike k′ w′ (unevictAll (T t) (F f)) (unevictForReg (T t) (F f) p) (for-met (T t) (F f) state p (heldOf e) (ap evictedOf q) (sym m ∙ n)) h
+
+      module _ (to from : Place) (o : Bool) (m : o ≡ or (overlap (T t) from (reg (e .reg .0))) (overlap (T t) to (reg (e .reg .0)))) where
+        pub ends-apart-one : o ≡ false → Brought t f cache k w k w (unevictForEnds (T t) (F f) to from)
+        ends-apart-one n = same (unevictForEnds (T t) (F f) to from) (ends-apart (T t) (F f) state from to (heldOf e) (ap evictedOf q) (sym m ∙ n))
+
+        pub ends-met-one : o ≡ true → (k′ : ScratchAllocator) (w′ : Tables) → Brought t f cache k w k′ w′ (unevictAll (T t) (F f)) → Brought t f cache k w k′ w′ (unevictForEnds (T t) (F f) to from)
+        ends-met-one n k′ w′ h = alike k′ w′ (unevictAll (T t) (F f)) (unevictForEnds (T t) (F f) to from) (ends-met (T t) (F f) state from to (heldOf e) (ap evictedOf q) (sym m ∙ n)) h
 
     -- two are
     module _ (e o : Held) (q : k .evicted ≡ Two e o) where
@@ -138,6 +149,10 @@ module _ (t f cache : List ℕ) where
         by : (functionOf f .kept ≡ 1) ⊎ (functionOf f .kept ≡ 2) → owed (k′ .evicted) ≤ 1
         by (inl x) = omega (arith, x, length-evicted (k′ .evicted), ap (λ (y : rules.ScratchAllocator). length (y .evicted)) (h .is), room-few (T t) (F f) r (stateOf t f cache k w))
         by (inr x) = omega (arith, x, length-evicted (k′ .evicted), ap (λ (y : rules.ScratchAllocator). length (y .evicted)) (h .is), room-few (T t) (F f) r (stateOf t f cache k w))
+
+  -- those for the source, then those for the destination
+  pub for-ends : (to from : Place) (k k′ k″ : ScratchAllocator) (w w′ w″ : Tables) → Brought t f cache k w k′ w′ (unevictForReg (T t) (F f) from) → Brought t f cache k′ w′ k″ w″ (unevictForReg (T t) (F f) to) → Brought t f cache k w k″ w″ (unevictForEnds (T t) (F f) to from)
+  for-ends to from k k′ k″ w w′ w″ h g = record { is = g .is ∙ ap (unevictForReg (T t) (F f) to) (h .is); fits = λ a b n x. g .fits a b n (h .fits a b n x) }
 
   -- those for the new register, then as many as there is no room for
   pub made-room : (p r l : ℕ) (k k′ k″ : ScratchAllocator) (w w′ w″ : Tables) → p ≡ codeOf (reg r) → r ≡ l → Brought t f cache k w k′ w′ (unevictForReg (T t) (F f) (placeAt p)) → Brought t f cache k′ w′ k″ w″ (unevictBut (T t) (F f) (pred (functionOf f .kept))) → Brought t f cache k w k″ w″ (makeRoom (T t) (F f) l)

@@ -20,7 +20,7 @@ use Rattle.function.specs.Table.{functionOf}
 use Rattle.small_set.specs.Set.{setOf}
 use Rattle.rules.specs.Edit.{Move, EmergencyReload, find, andThen}
 use Rattle.rules.specs.Scratch as rules
-use Rattle.rules.specs.Scratch.{meeting, searchedTo, unevictForReg, makeRoom, slotScratch, evictLast, reuse, orScratch, getScratchReg, moveEdits, doMove, makeAvailable, makeUnavailable, releasePlace}
+use Rattle.rules.specs.Scratch.{meeting, searchedTo, makeRoom, slotScratch, evictLast, reuse, orScratch, getScratchReg, moveEdits, doMove, makeAvailable, makeUnavailable, releasePlace}
 use Rattle.search.specs.declared.Search.{Search}
 use Rattle.search.specs.declared.Search.the-variants as search
 use Rattle.search.specs.declared.Search.the-variants.{At}
@@ -37,7 +37,7 @@ use Rattle.scratch.specs.declared.Scratch.{Scratch}
 use Rattle.scratch.specs.declared.Taken.{Taken}
 use Rattle.function.specs.Known.{Checked}
 use Rattle.scratch.specs.State.{T, F, heldOf, evictedOf, cacheIn, allocatorOf, Stocked, Fits, PlaceFits, Evictable}
-use Rattle.scratch.specs.Contracts.{Tables, tables, failing, stateOf, Acquired, Brought, Holds, Found, Moved, Released}
+use Rattle.scratch.specs.Contracts.{Tables, tables, failing, unevictForEnds, stateOf, Acquired, Brought, Holds, Found, Moved, Released}
 use Rattle.scratch.proofs.Bounds.{top-low, fewer, pushed, put-back, taken, met-one, one-made, hold}
 use Rattle.scratch.proofs.Steps.{took, made, reuse-member, reuse-stranger, find-has}
 
@@ -194,12 +194,12 @@ module _ (t f cache : List ℕ) where
     unfolding moveEdits
     moved-at-once k w e m p = record { is = rw (m, p .0); fits = λ a b n g. pushed (omega arith) (omega arith) (omega arith) (p .1) (p .2) g }
 
-    pub moved-marked : (k k₁ k₂ k₃ k₄ : ScratchAllocator) (w w₁ w₂ w₃ : Tables) (l : List Bool) → Brought t f cache k w k₁ w₁ (unevictForReg (T t) (F f) from) → Brought t f cache k₁ w₁ k₂ w₂ (unevictForReg (T t) (F f) to) → Moved t f cache k₂ w₂ k₃ w₃ (moveEdits (T t) (F f) b to from v) → k₄ ≡ k₃ → allocatorOf k₄ (w₃ .edits) l (w₃ .slots) cache ≡ makeUnavailable (T t) (F f) from (makeAvailable (T t) (F f) to (stateOf t f cache k₃ w₃)) → Moved t f cache k w k₄ (tables (w₃ .edits) l (w₃ .slots)) (doMove (T t) (F f) b to from v)
+    pub moved-marked : (k k₂ k₃ k₄ : ScratchAllocator) (w w₂ w₃ : Tables) (l : List Bool) → Brought t f cache k w k₂ w₂ (unevictForEnds (T t) (F f) to from) → Moved t f cache k₂ w₂ k₃ w₃ (moveEdits (T t) (F f) b to from v) → k₄ ≡ k₃ → allocatorOf k₄ (w₃ .edits) l (w₃ .slots) cache ≡ makeUnavailable (T t) (F f) from (makeAvailable (T t) (F f) to (stateOf t f cache k₃ w₃)) → Moved t f cache k w k₄ (tables (w₃ .edits) l (w₃ .slots)) (doMove (T t) (F f) b to from v)
     unfolding doMove andThen
-    moved-marked k k₁ k₂ k₃ k₄ w w₁ w₂ w₃ l h g m p x =
+    moved-marked k k₂ k₃ k₄ w w₂ w₃ l h m p x =
         record {
-          is = rw (← h .is, ← g .is, m .is) (ap some (sym x));
-          fits = λ a b n i. rw p (m .fits a b n (g .fits a (b + 1) (n + 4) (h .fits a (b + 1) (n + 4) i)));
+          is = rw (← h .is, m .is) (ap some (sym x));
+          fits = λ a b n i. rw p (m .fits a b n (h .fits a (b + 1) (n + 4) i));
         }
 
   -- units marked

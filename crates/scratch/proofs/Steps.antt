@@ -10,10 +10,12 @@ use lib.ListN.{take, drop}
 use borrow.Author.Tests.{eq-eqb, lt-ltb}
 use Rattle.entity.specs.Logic.{pick, or, no, has}
 use Rattle.entity.specs.Place.{Place, reg}
+use Rattle.entity.proofs.Laws.{or-false}
 use Rattle.reginfo.specs.RegInfo.{RegInfo, classMembers}
 use Rattle.function.specs.Function.{Function}
 use Rattle.rules.specs.Edit.{find, filter}
 use Rattle.rules.specs.Scratch.{Cache, Evicted, ScratchAllocator, withEvicted, acquireFrom, unevict, unevictAll, unevictBut, overlapsEvicted, unevictForReg, makeRoom, reuse}
+use Rattle.rules.proofs.Evictions.{unevict-evicted}
 use Rattle.slots.specs.Steps.{topOf, withoutTop}
 
 module _ (t : RegInfo) (f : Function) (z : ℕ) (c : Cache) where
@@ -113,10 +115,27 @@ module _ (t : RegInfo) (f : Function) (k : ScratchAllocator) where
       pub for-neither : overlapsEvicted t f p e ≡ false → overlapsEvicted t f p o ≡ false → unevictForReg t f p k ≡ k
       for-neither q r = for-two false false q r ∙ stays (e ∷ o ∷ []) h
 
+  -- for two places, where none or one is held
+  module _ (p q : Place) where
+    pub ends-none : k .evicted ≡ [] → unevictForReg t f q (unevictForReg t f p k) ≡ k
+    ends-none h = ap (unevictForReg t f q) (for-none p h) ∙ for-none q h
+
+    module _ (e : Evicted) (h : k .evicted ≡ e ∷ []) where
+      pub ends-apart : or (overlapsEvicted t f p e) (overlapsEvicted t f q e) ≡ false → unevictForReg t f q (unevictForReg t f p k) ≡ k
+      ends-apart o = let x = or-false _ _ o in ap (unevictForReg t f q) (for-apart p e h (x .0)) ∙ for-apart q e h (x .1)
+
   -- none is held: there is room
   pub room-none : (r : ℕ) → k .evicted ≡ [] → makeRoom t f r k ≡ k
   unfolding makeRoom
   room-none r h = ap (unevictBut t f (pred (f .kept))) (for-none (reg r) h) ∙ but-none (pred (f .kept)) h
+
+-- one is held, and is brought back for either place
+pub ends-met : (t : RegInfo) (f : Function) (k : ScratchAllocator) (p q : Place) (e : Evicted) → k .evicted ≡ e ∷ [] → or (overlapsEvicted t f p e) (overlapsEvicted t f q e) ≡ true → unevictForReg t f q (unevictForReg t f p k) ≡ unevictAll t f k
+ends-met t f k p q e h o = by (overlapsEvicted t f p e) refl o
+  where
+    by : (b : Bool) → overlapsEvicted t f p e ≡ b → or b (overlapsEvicted t f q e) ≡ true → unevictForReg t f q (unevictForReg t f p k) ≡ unevictAll t f k
+    by true x y = ap (unevictForReg t f q) (for-met t f k p e h x) ∙ for-none t f (unevictAll t f k) q (unevict-evicted t f (k .evicted) (withEvicted [] k))
+    by false x y = ap (unevictForReg t f q) (for-apart t f k p e h x) ∙ for-met t f k q e h y
 
 module _ (t : RegInfo) (f : Function) (n b c : ℕ) (k : ScratchAllocator) (e : Evicted) (l : List Evicted) where
   pub reuse-member : has (e .reg) (classMembers t c) ≡ true → reuse t f (e ∷ l) n b c k ≡ some (record { place = reg (e .reg); position = n; scratch = k })

@@ -5,8 +5,9 @@ use mathlib.Core.Bool.{Bool}
 use mathlib.Core.List.{List, [], _∷_}
 use mathlib.Core.Option.{Option, none, some}
 use lib.ListN.{length}
-use Rattle.entity.specs.Place.{placeAt}
+use Rattle.entity.specs.Place.{Place, placeAt}
 use Rattle.reginfo.specs.RegInfo.{RegInfo, allocationOrder}
+use Rattle.function.specs.Function.{Function}
 use Rattle.rules.specs.Scratch as rules
 use Rattle.slots.specs.Stacks.{metOf}
 use Rattle.scratch.specs.declared.Held.{Held}
@@ -34,6 +35,10 @@ pub record Holds (e : Held) (k k′ : ScratchAllocator) : Type 0 where
   pub made : k′ .made ≡ k .made
   pub owes : owed (k′ .evicted) ≡ owed (k .evicted) + 1
   pub fits : (t : RegInfo) → HeldFits t e → AllFit t (k .evicted) → AllFit t (k′ .evicted)
+
+-- what is brought back before a move is emitted
+abbrev pub unevictForEnds : RegInfo → Function → Place → Place → rules.ScratchAllocator → rules.ScratchAllocator
+unevictForEnds t f to from k = rules.unevictForReg t f to (rules.unevictForReg t f from k)
 
 module _ (t f cache : List ℕ) where
   abbrev pub stateOf : ScratchAllocator → Tables → rules.ScratchAllocator

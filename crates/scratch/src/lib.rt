@@ -21,10 +21,10 @@ ghost use mathlib.Core.Path.{_≡_};
 ghost use mathlib.Core.Bool.{Bool, true};
 ghost use mathlib.Core.List.{List, [], _∷_};
 ghost use Prim.Native.Nat.{ℕ, pred, _+_, _<_, _≤_};
-ghost use Rattle.entity.specs.Logic.{and};
-ghost use Rattle.entity.specs.Place.{placeAt};
-ghost use Rattle.reginfo.specs.RegInfo.{numBanks, numClasses, spillslotSize, lastInOrder, isMemory};
-ghost use Rattle.reginfo.specs.Known.{KnownPlace};
+ghost use Rattle.entity.specs.Logic.{and, or};
+ghost use Rattle.entity.specs.Place.{placeAt, reg};
+ghost use Rattle.reginfo.specs.RegInfo.{numBanks, numClasses, spillslotSize, lastInOrder, overlap, isMemory};
+ghost use Rattle.reginfo.specs.Known.{KnownPlace, KnownUnits};
 ghost use Rattle.rules.specs.Scratch.{makeAvailable, makeUnavailable, unevictAll, unevictBut, unevictForReg, makeRoom, slotScratch, evictLast, reuse, getScratchReg, moveEdits, doMove, releasePlace};
 ghost use Rattle.search.specs.Search.{barredBy};
 ghost use Rattle.slots.specs.Stacks.{SlotsFit};
@@ -34,7 +34,7 @@ ghost use Rattle.function.specs.Table.{functionOf};
 ghost use Rattle.scratch.specs.Diversions.{countAt, allocAt, scratchAt, Noted, Diverts, Ended, Undiverts};
 ghost use Rattle.function.specs.Known.{Checked};
 ghost use Rattle.scratch.specs.State.{T, F, heldOf, evictedOf, allocatorOf, Stocked, HeldFits, owed, Fits, PlaceFits, Evictable, Movable};
-ghost use Rattle.scratch.specs.Contracts.{tables, failing, Acquired, Back, Brought, Holds, Found, Moved, Released};
+ghost use Rattle.scratch.specs.Contracts.{tables, failing, unevictForEnds, Acquired, Back, Brought, Holds, Found, Moved, Released};
 
 // An evicted register, its slot and the slot's size.
 pub struct Held {
@@ -82,6 +82,17 @@ fn both_memory(t: &RegInfo, p: Allocation, q: Allocation) -> bool
         return reginfo::is_memory(t, q);
     }
     false
+}
+
+// Whether a move's source or its destination overlaps a register.
+fn overlaps_end(t: &RegInfo, to: Allocation, from: Allocation, r: PhysReg) -> bool
+    requires { ⌜ KnownPlace (T (now t)) (placeAt (to .0)) × KnownPlace (T (now t)) (placeAt (from .0)) × KnownUnits (T (now t)) (r .0) ⌝ }
+    ensures { λ o. ⌜ o ≡ or (overlap (T (now (t .entry))) (placeAt (from .0)) (reg (r .0))) (overlap (T (now (t .entry))) (placeAt (to .0)) (reg (r .0))) ⌝ }
+{
+    if reginfo::overlaps_reg(t, from, r) {
+        return true;
+    }
+    reginfo::overlaps_reg(t, to, r)
 }
 
 // The diversion of each value (specs/Diversions.antt).
@@ -319,6 +330,36 @@ impl ScratchAllocator {
                 newer,
                 older,
             ),
+        }
+    }
+
+    // Brings back those that overlap a move's source, then those that overlap its destination.
+    fn unevict_for_ends(
+        mut self,
+        t: &RegInfo,
+        f: &Function,
+        cache: &SlotCache,
+        edits: &mut Edits,
+        slots: &mut Slots,
+        to: Allocation,
+        from: Allocation,
+    ) -> Self
+        requires { ⌜ Checked (now t) (now f) × KnownPlace (T (now t)) (placeAt (to .0)) × KnownPlace (T (now t)) (placeAt (from .0)) × Fits 0 0 0 (now t) self (now edits) (now slots) (now cache) ⌝ }
+        ensures { λ r. ⌜ ((available : List Bool) → Brought (now (t .entry)) (now (f .entry)) (now (cache .entry)) self (tables (now (edits .entry)) available (now (slots .entry))) r (tables (now (edits .exit)) available (now (slots .exit))) (unevictForEnds (T (now (t .entry))) (F (now (f .entry))) (placeAt (to .0)) (placeAt (from .0)))) ⌝ }
+    {
+        let e = self.evicted;
+        match e {
+            Evicted::Nothing => self,
+            Evicted::One(newer) => {
+                if overlaps_end(t, to, from, newer.reg) {
+                    return self.unevict_all(t, f, cache, edits, slots);
+                }
+                self
+            }
+            Evicted::Two(_, _) => {
+                let first = self.unevict_for_reg(t, f, cache, edits, slots, from);
+                first.unevict_for_reg(t, f, cache, edits, slots, to)
+            }
         }
     }
 
@@ -712,8 +753,7 @@ impl ScratchAllocator {
         requires { ⌜ Movable (now t) (now f) (b .0) (to .0) (from .0) (v .0) × Fits 0 1 4 (now t) self (now edits) (now slots) (now cache) ⌝ }
         ensures { λ r. ⌜ Moved (now (t .entry)) (now (f .entry)) (now (cache .entry)) self (tables (now (edits .entry)) (now (available .entry)) (now (slots .entry))) r (tables (now (edits .exit)) (now (available .exit)) (now (slots .exit))) (doMove (T (now (t .entry))) (F (now (f .entry))) (b .0) (placeAt (to .0)) (placeAt (from .0)) (v .0)) ⌝ }
     {
-        let first = self.unevict_for_reg(t, f, cache, edits, slots, from);
-        let then = first.unevict_for_reg(t, f, cache, edits, slots, to);
+        let then = self.unevict_for_ends(t, f, cache, edits, slots, to, from);
         let through = both_memory(t, to, from);
         if through {
             let moved = then.through_scratch(
