@@ -71,11 +71,12 @@ module _ (t : RegInfo) (f : Function) where
             rw (same-call p left c (omega arith) (room-for-every t f l p r e))
             (after-call n c left p r (omega arith) (on r) (resolve t f p 1024 c) refl)
 
--- of a job that was opened: an accepted target and function with its setting, 1,024 patches at most, and no more bytes left than there were
+-- of a job that was opened: an accepted target and function with its setting, 1 to 1,024 patches, and no more bytes left than there were
 pub record Opens (kept : ℕ) (l : List ℕ) (h : Header) (r : List ℕ) : Type 0 where
   pub target-taken : target.Accepted (h .target)
   pub function-taken : function.Accepted (h .target) (h .function)
   pub setting : h .function .kept ≡ kept
+  pub some : 1 ≤ h .patches
   pub few : h .patches ≤ 1024
   pub short : length l ≤ 65536
   pub fewer : 2 * length r ≤ 2 * length l
@@ -94,12 +95,14 @@ opens kept l h r e =
     let q = leaves-got (λ _. 0) (2 * length (b .1)) (function (b .0) kept (b .1)) (d .0) (d .1) (function-less (b .0) kept (b .1)) (d .2) in
     let u = tested-less (λ n. and (leb 1 n) (leb n 1024)) (d .1) (x .0) (x .1) (x .2) in
     let v = read-accepted (b .0) kept (a .0) (b .1) (d .0) (d .1) (d .2) in
+    let k = and-true (leb 1 (x .0)) (leb (x .0) 1024) (tested-got (λ n. and (leb 1 n) (leb n 1024)) (d .1) (x .0) (x .1) (x .2)) in
     let o : Opens kept l (record { target = b .0; function = d .0; patches = x .0 }) (x .1) =
     record {
       target-taken = c .0;
       function-taken = v .0;
       setting = v .1;
-      few = leb-true (x .0) 1024 (and-true (leb 1 (x .0)) (leb (x .0) 1024) (tested-got (λ n. and (leb 1 n) (leb n 1024)) (d .1) (x .0) (x .1) (x .2)) .1);
+      some = leb-true 1 (x .0) (k .0);
+      few = leb-true (x .0) 1024 (k .1);
       short = ltb-false 65536 (length l) (a .1);
       fewer = omega arith;
     } in

@@ -4,25 +4,18 @@ use mathlib.Core.Path.{_≡_, refl}
 use mathlib.Core.List.{List, [], _∷_, _++_}
 use mathlib.Core.Option.{Option, none, some}
 use native.Mathlib.Omega.{arith}
-use borrow.Author.Tests.{leb-true}
 use lib.ListN.{length, length-append}
-use Rattle.entity.proofs.Laws.{and-true}
 use Rattle.reginfo.specs.RegInfo.{RegInfo}
-use Rattle.reginfo.specs.Refused.{targetRefusal}
 use Rattle.function.specs.Function.{Function}
 use Rattle.rules.specs.Scratch.{Cache, emptyCache}
 use Rattle.rules.specs.Patch.{Answer, resolve}
 use Rattle.rules.specs.Patch as rules
 use Rattle.number.specs.Read.{Read, got, refused}
-use Rattle.reading.specs.Reading.{between}
-use Rattle.job_target.specs.Target.{target}
-use Rattle.job_function.specs.Reads.{function}
-use Rattle.job_function.proofs.Accepted.{then-got, tested-got}
 use Rattle.job_patch.specs.Patches.{patch}
-use Rattle.job.specs.Job.{Header, Done, Answers, afterRead, afterCall, afterTarget, header, opening, patches, job}
-use Rattle.job.proofs.WasRead.{early-got, given-got}
+use Rattle.job.specs.Job.{Done, Answers, afterRead, afterCall, opening, patches, job}
 use Rattle.answer_text.specs.Lines.{refusalText}
 use Rattle.answer.specs.Words.{numberOf, doneText, OfTable, SomePrinted}
+use Rattle.answer.proofs.MostWords.{opens}
 use Rattle.answer.proofs.Numbers.{table-bounds, numbered}
 
 -- without a refusal a patch was resolved
@@ -42,21 +35,9 @@ unfolding patches
 some-patch t f zero c l h = absurd (omega arith)
 some-patch t f (suc n) c l h = after-read (patch t f l) _ (λ p r e. after-call (resolve t f p 1024 c) _)
 
--- "patch count 1 to 1,024"
-counted : (kept : ℕ) (l : List ℕ) (h : Header) (r : List ℕ) → opening kept l ≡ got h r → 1 ≤ h .patches
-unfolding opening header afterTarget
-counted kept l h r e =
-    let a = early-got kept l (header kept l) h r e in
-    let b = then-got (target l) _ h r (a .2) in
-    let c = given-got (targetRefusal (b .0)) (afterTarget (b .0) kept (b .1)) h r (b .3) in
-    let d = then-got (function (b .0) kept (b .1)) _ h r (c .1) in
-    let x = then-got (between 1 1024 (d .1)) _ h r (d .3) in
-    let is : record { target = b .0; function = d .0; patches = x .0 } ≡ h = cc in
-    rw (← is) (leb-true 1 (x .0) (and-true _ _ (tested-got _ (d .1) (x .0) (x .1) (x .2)) .0))
-
 job-some : (kept : ℕ) (l : List ℕ) → Some (job kept l)
 unfolding job
-job-some kept l = after-read (opening kept l) _ (λ h r e. some-patch (h .target) (h .function) (h .patches) emptyCache r (counted kept l h r e))
+job-some kept l = after-read (opening kept l) _ (λ h r e. some-patch (h .target) (h .function) (h .patches) emptyCache r (opens kept l h r e .some))
 
 done-line : (d : List Done) → 0 < length d → 0 < length (doneText 1 d)
 unfolding doneText
