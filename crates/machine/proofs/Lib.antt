@@ -18,6 +18,7 @@ pub mod Rebuild
 pub mod Passes
 pub mod Whole
 pub mod Slots
+pub mod SlotTrials
 pub mod Demand
 pub mod ArgumentWords
 pub mod Instance

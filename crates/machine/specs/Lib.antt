@@ -3,5 +3,7 @@ pub mod Claim
 pub mod ArgumentWords
 pub mod Paid
 pub mod Slots
+pub mod Enough
+pub mod SlotTrials
 pub mod Instance
 pub mod NotAccepted

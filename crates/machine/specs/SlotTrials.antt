@@ -1,0 +1,78 @@
+-- 02 j: how many slots the calls of a function make.
+use Prim.Native.Nat.{ℕ}
+use mathlib.Core.Path.{_≡_}
+use mathlib.Core.List.{List, [], _∷_}
+use Rattle.entity.specs.Logic.{indices}
+use Rattle.entity.specs.Place.{reg}
+use Rattle.reginfo.specs.RegInfo.{RegInfo}
+use Rattle.reginfo.specs.Refused as target
+use Rattle.function.specs.Function.{Function}
+use Rattle.function.specs.Refused as function
+use Rattle.rules.specs.Scratch.{Cache, emptyCache}
+use Rattle.rules.specs.Patch.{Entry, move, Answer, refused, resolved, resolve, cacheAfter}
+use Rattle.rules.specs.Trials.{single, patch, fixed, over, keeping, ofBankOne}
+use Rattle.machine.specs.Enough.{numSizes, numBankSizes}
+
+-- the number that a call was refused with, 0 if none, and the slots made so far
+pub record Outcome : Type 0 where
+  pub number : ℕ
+  pub made : ℕ
+
+abbrev pub outcome : Cache → Answer → Outcome
+outcome c (refused n) = record { number = n; made = c .made }
+outcome c (resolved es c′ n) = record { number = 0; made = c′ .made }
+
+-- of patches without free units, from a fresh cache
+abbrev pub outcomesFrom : RegInfo → Function → List (List Entry) → Cache → List Outcome
+outcomesFrom t f [] c = []
+outcomesFrom t f (es ∷ l) c = outcome c (resolve t f (patch [] es) 1024 c) ∷ outcomesFrom t f l (cacheAfter c (resolve t f (patch [] es) 1024 c))
+
+abbrev pub outcomes : RegInfo → Function → List (List Entry) → List Outcome
+outcomes t f l = outcomesFrom t f l emptyCache
+
+abbrev pub makes : ℕ → Outcome
+makes n = record { number = 0; made = n }
+
+abbrev pub out : ℕ → Outcome
+out n = record { number = 17; made = n }
+
+-- six registers of one unit and the pairs of them, slots of sizes y and z; nothing is in the order of a top-level class
+unfoldable pub pairs : ℕ → ℕ → RegInfo
+pairs y z =
+    record {
+      units = 6;
+      banks = record { size = y; top = 0; stack = 1 } ∷ record { size = z; top = 2; stack = 3 } ∷ [];
+      regs = single 0 ∷ single 1 ∷ single 2 ∷ single 3 ∷ single 4 ∷ single 5 ∷ ofBankOne 0 1 ∷ ofBankOne 2 3 ∷ ofBankOne 4 5 ∷ [];
+      classes =
+          record { bank = 0; slots = 1; members = indices 0 6; order = [] }
+          ∷ record { bank = 0; slots = 0; members = indices 0 6; order = indices 0 6 }
+          ∷ record { bank = 1; slots = 1; members = indices 6 3; order = [] }
+          ∷ record { bank = 1; slots = 0; members = indices 6 3; order = indices 6 3 }
+          ∷ [];
+    }
+
+-- values 0 and 1 of bank 0, 2 and 3 of bank 1; L
+abbrev pub ofBoth : ℕ → Function
+ofBoth l = over (fixed 0 ∷ fixed 0 ∷ fixed 1 ∷ fixed 1 ∷ []) 0 l
+
+abbrev pub ofFirst : ℕ → Function
+ofFirst l = over (fixed 0 ∷ fixed 0 ∷ []) 0 l
+
+-- two registers exchanged
+abbrev pub exchange : ℕ → ℕ → ℕ → ℕ → List Entry
+exchange r q v w = move (reg r) (reg q) v ∷ move (reg q) (reg r) w ∷ []
+
+-- r0 and r1, r6 and r7, r0 and r1 again
+abbrev pub exchanges : List (List Entry)
+exchanges = exchange 0 1 0 1 ∷ exchange 6 7 2 3 ∷ exchange 0 1 0 1 ∷ []
+
+pub record SlotTrials : Type 0 where
+  pub targets : target.Accepted (pairs 2 3) × target.Accepted (pairs 2 2)
+  pub functions : function.Accepted (pairs 2 3) (ofBoth 2) × function.Accepted (pairs 2 3) (keeping 2 (ofBoth 2))
+  -- a slot of each size, and then the first again
+  pub two-sizes : outcomes (pairs 2 3) (ofBoth 2) exchanges ≡ makes 1 ∷ makes 2 ∷ makes 2 ∷ []
+  -- the slot made is of the other size
+  pub one-slot : outcomes (pairs 2 3) (ofBoth 1) exchanges ≡ makes 1 ∷ out 1 ∷ makes 1 ∷ []
+  pub one-size : outcomes (pairs 2 2) (ofBoth 1) exchanges ≡ makes 1 ∷ makes 1 ∷ makes 1 ∷ []
+  -- "different slot sizes among its banks"
+  pub counted : (numSizes (pairs 2 3) (ofBoth 2) ≡ 2) × (numSizes (pairs 2 2) (ofBoth 2) ≡ 1) × (numSizes (pairs 2 3) (ofFirst 2) ≡ 1) × (numBankSizes (pairs 2 3) ≡ 2)
