@@ -37,7 +37,7 @@ unfolding sign
 sign-le zero = omega arith
 sign-le (suc n) = omega arith
 
-sign-pos : (n : ℕ) → 0 < n → sign n ≡ 1
+pub sign-pos : (n : ℕ) → 0 < n → sign n ≡ 1
 unfolding sign
 sign-pos zero h = absurd (omega arith)
 sign-pos (suc n) h = refl
@@ -189,7 +189,7 @@ module _ (t : RegInfo) (f : Function) where
       unfolding live
       live-some d v vl h = omega (arith, sum-part (λ x. sign (d .refCount x)) (numValues f) v vl, sign-pos (d .refCount v) h)
 
-      live-grown : (v : ℕ) (state : ℕ → State) (d d′ : Diverted) → v < numValues f → Grown t f ms v state d d′ → live t f d′ ≤ suc (live t f d)
+      pub live-grown : (v : ℕ) (state : ℕ → State) (d d′ : Diverted) → v < numValues f → Grown t f ms v state d d′ → live t f d′ ≤ suc (live t f d)
       unfolding live
       live-grown v state d d′ vl g =
           omega (arith, sum-change (λ x. sign (d′ .refCount x)) (λ x. sign (d .refCount x)) (numValues f) v vl (λ x q. ap sign (g .others x q)), sign-le (d′ .refCount v))
@@ -206,7 +206,7 @@ module _ (t : RegInfo) (f : Function) where
               sign-pos (d .refCount v) (was-live t f ms i il v rest d e o),
             )
 
-        live-kept : live t f (lost t f ms i v rest d) ≤ live t f d
+        pub live-kept : live t f (lost t f ms i v rest d) ≤ live t f d
         live-kept = omega (arith, live-change, sign-le (pred (d .refCount v)))
 
         -- at zero a diversion ends

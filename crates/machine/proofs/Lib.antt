@@ -1,5 +1,6 @@
 pub mod Tests
 pub mod Diversions
+pub mod Banked
 pub mod Bound
 pub mod Premises
 pub mod Entries

@@ -17,7 +17,6 @@ use Rattle.reginfo.specs.Refused as target
 use Rattle.reginfo.proofs.Accepted.{stack-slots}
 use Rattle.function.specs.Function.{Function, numValues, valueBank, rematClass}
 use Rattle.function.specs.Refused as function
-use Rattle.function.proofs.Laws.{bank-there, class-of-bank}
 use Rattle.rules.specs.Edit.{Edit, Rematerialize, updated, andThen, each, find, filter}
 use Rattle.rules.specs.Scratch.{Cache, emptyCache, Evicted, ScratchAllocator, Acquired, push, withEvicted, Found, unevict, unevictAll, unevictBut, overlapsEvicted, unevictForReg, makeRoom, acquireFrom, acquire, release, releasePlace, usable, slotScratch, evictLast, reuse, orScratch, getScratchReg, nothingBarred, moveEdits, doMove, meeting, searchedTo}
 use Rattle.rules.specs.Order.{KeptMove, noMove, Remat, State, Pending, Done, isNew, isPending, Diverted, ParallelMoves, withState, carry, remats, doRemat, rematWithScratch, source, dest, value, bank, writers, cycleMoveSources, emit, noted, divert, carried, lead, lost, undivert, undivertAll, close, visit, visitUnlessMemory, start, moves}
@@ -32,19 +31,20 @@ use Rattle.rules.proofs.Writers.{writers-low}
 use Rattle.rules.specs.Counts.{bit, sum}
 use Rattle.rules.proofs.Sum.{sum-change, sum-zero, sum-ones, sum-le}
 use Rattle.machine.specs.Paid.{occurs, Counted}
+use Rattle.machine.proofs.Banked.{Banked, banked}
 use Rattle.machine.proofs.Diversions.{occurs-head, occurs-tail, has-occurs, Grown, carry-grown, was-live, lost-counted}
 
-positive : (a : ℕ) → (a ≡ 0 → ⊥) → 0 < a
+pub positive : (a : ℕ) → (a ≡ 0 → ⊥) → 0 < a
 positive a h = omega arith
 
-less? : (a b : ℕ) → (a < b) ⊎ (b ≤ a)
+pub less? : (a b : ℕ) → (a < b) ⊎ (b ≤ a)
 less? a b = go (ltb a b) refl
   where
     go : (x : Bool) → ltb a b ≡ x → (a < b) ⊎ (b ≤ a)
     go true e = inl (ltb-true a b e)
     go false e = inr (ltb-false a b e)
 
-occurs-has : (x : ℕ) (l : List ℕ) → 0 < occurs x l → has x l ≡ true
+pub occurs-has : (x : ℕ) (l : List ℕ) → 0 < occurs x l → has x l ≡ true
 unfolding occurs has bit
 occurs-has x [] h = absurd (omega arith)
 occurs-has x (y ∷ l) h = go (eqb x y) h (occurs-has x l)
@@ -80,63 +80,63 @@ most-once (y ∷ l) h =
     go false e r = r
 
 -- one slot, in the stack z
-one : ℕ → ℕ → ℕ → ℕ → ℕ
+unfoldable pub one : ℕ → ℕ → ℕ → ℕ → ℕ
 one x z s y = pick (eqb s x) (bit (eqb y z)) 0
 
-one-other : (x z s y : ℕ) → (s ≡ x → ⊥) → one x z s y ≡ 0
+pub one-other : (x z s y : ℕ) → (s ≡ x → ⊥) → one x z s y ≡ 0
 unfolding one
 one-other x z s y d = rw (ne-eqb s x d) refl
 
-one-here : (x z s y : ℕ) → s ≡ x → y ≡ z → one x z s y ≡ 1
+pub one-here : (x z s y : ℕ) → s ≡ x → y ≡ z → one x z s y ≡ 1
 unfolding one bit
 one-here x z s y d e = rw (eq-eqb s x d, eq-eqb y z e) refl
 
-one-away : (x z s y : ℕ) → (y ≡ z → ⊥) → one x z s y ≡ 0
+pub one-away : (x z s y : ℕ) → (y ≡ z → ⊥) → one x z s y ≡ 0
 unfolding one bit
 one-away x z s y d = branch (λ k. k ≡ 0) (eqb s x) (bit (eqb y z)) 0 (λ _. rw (ne-eqb y z d) refl) (λ _. refl)
 
-one-top : (x z s y : ℕ) (l : List ℕ) → y ≡ z → one x z s y + occurs s l ≡ occurs s (x ∷ l)
+pub one-top : (x z s y : ℕ) (l : List ℕ) → y ≡ z → one x z s y + occurs s l ≡ occurs s (x ∷ l)
 one-top x z s y l e =
     ⊎-elim (λ q. omega (arith, one-here x z s y q e, occurs-head s x l q)) (λ d. omega (arith, one-other x z s y d, occurs-tail s x l d)) (same? s x)
 
 -- a scratch place, where it is a slot
-holds : Place → ℕ → ℕ → ℕ → ℕ
+unfoldable pub holds : Place → ℕ → ℕ → ℕ → ℕ
 holds (slot x) z s y = one x z s y
 holds (reg r) z s y = 0
 
 -- the scratch of a diversion, while it lives
-held : ℕ → Place → ℕ → ℕ → ℕ → ℕ
+unfoldable pub held : ℕ → Place → ℕ → ℕ → ℕ → ℕ
 held zero p z s y = 0
 held (suc n) p z s y = holds p z s y
 
-held-live : (n : ℕ) (p : Place) (z s y : ℕ) → 0 < n → held n p z s y ≡ holds p z s y
+pub held-live : (n : ℕ) (p : Place) (z s y : ℕ) → 0 < n → held n p z s y ≡ holds p z s y
 unfolding held
 held-live zero p z s y h = absurd (omega arith)
 held-live (suc n) p z s y h = refl
 
-held-ended : (n : ℕ) (p : Place) (z s y : ℕ) → n ≡ 0 → held n p z s y ≡ 0
+pub held-ended : (n : ℕ) (p : Place) (z s y : ℕ) → n ≡ 0 → held n p z s y ≡ 0
 unfolding held
 held-ended zero p z s y h = refl
 held-ended (suc n) p z s y h = absurd (omega arith)
 
 -- the slots of the evicted
-waits : List Evicted → ℕ → ℕ → ℕ
+unfoldable pub waits : List Evicted → ℕ → ℕ → ℕ
 waits [] s z = 0
 waits (e ∷ l) s z = one (e .slot) (e .size) s z + waits l s z
 
-waits-parts : (es rest l : List Evicted) → Parts es rest l → (s z : ℕ) → waits es s z + waits rest s z ≡ waits l s z
+pub waits-parts : (es rest l : List Evicted) → Parts es rest l → (s z : ℕ) → waits es s z + waits rest s z ≡ waits l s z
 unfolding waits
 waits-parts es rest l h s z = parts-sum (λ l. waits l s z) (λ (e : Evicted). one (e .slot) (e .size) s z) (λ e l. refl) refl es rest l h
 
-abbrev Count : Type 0
+abbrev pub Count : Type 0
 Count = ℕ → ℕ → ℕ
 
-abbrev stacked : Cache → Count
+abbrev pub stacked : Cache → Count
 stacked c s z = occurs s (c .stacks z)
 
 module _ (t : RegInfo) (f : Function) (c₀ : Cache) where
   -- each slot is counted once: an old one as at the start, a new one somewhere, and no other
-  record Good (count : Count) (made : ℕ) : Type 0 where
+  pub record Good (count : Count) (made : ℕ) : Type 0 where
     grows : c₀ .made ≤ made
     old : (s z : ℕ) → s < f .slots + c₀ .made → count s z ≡ stacked c₀ s z
     fresh : (s : ℕ) → f .slots + c₀ .made ≤ s → s < f .slots + made → (z : ℕ) × (count s z ≡ 1) × ((y : ℕ) → (y ≡ z → ⊥) → count s y ≡ 0)
@@ -198,7 +198,7 @@ module _ (t : RegInfo) (f : Function) (c₀ : Cache) where
       (λ d. omega (arith, one-away x z s y d))) g
 
   -- the keeper, beside what is held elsewhere
-  Kept : Count → ScratchAllocator → Type 0
+  pub Kept : Count → ScratchAllocator → Type 0
   Kept extra k = Good (λ s z. stacked (k .cache) s z + (waits (k .evicted) s z + extra s z)) (k .cache .made)
 
   kept-cong : (a b : Count) (k : ScratchAllocator) → ((s z : ℕ) → b s z ≡ a s z) → Kept a k → Kept b k
@@ -284,7 +284,7 @@ module _ (t : RegInfo) (f : Function) (c₀ : Cache) where
   remats-good [] k extra g = g
   remats-good (r ∷ l) k extra g = remats-good l (doRemat t f r k) extra g
 
-  module _ (at : target.Accepted t) (af : function.Accepted t f) where
+  module _ (at : target.Accepted t) (af : Banked t f) where
     module _ (b : ℕ) (bl : b < numBanks t) (extra : Count) where
       edits-good : (to from : Place) (v : ℕ) (k : ScratchAllocator) → Kept extra k → All (Kept extra) (moveEdits t f b to from v k)
       unfolding moveEdits Kept
@@ -311,7 +311,7 @@ module _ (t : RegInfo) (f : Function) (c₀ : Cache) where
       b = bankForClass t c
 
       b-there : b < numBanks t
-      b-there = subst (λ (x : ℕ). x < numBanks t) (sym (class-of-bank t f af (r .value) (ok .value-named) (ok .can))) (bank-there t f af (r .value) (ok .value-named))
+      b-there = subst (λ (x : ℕ). x < numBanks t) (sym (af .own (r .value) (ok .value-named) (ok .can))) (af .bank (r .value) (ok .value-named))
 
       scratch-good : (k : ScratchAllocator) → Kept extra k → All (Kept extra) (rematWithScratch t f r k)
       unfolding rematWithScratch Kept
@@ -330,7 +330,7 @@ module _ (t : RegInfo) (f : Function) (c₀ : Cache) where
       size v = spillslotSize t (valueBank f v)
 
       -- the scratch places of the live diversions
-      diverted : (ℕ → ℕ) → (ℕ → Place) → Count
+      unfoldable pub diverted : (ℕ → ℕ) → (ℕ → Place) → Count
       diverted rc p s y = sum (λ v. held (rc v) (p v) (size v) s y) (numValues f)
 
       diverted-change : (v : ℕ) → v < numValues f → (rc rc′ : ℕ → ℕ) (p p′ : ℕ → Place) → ((x : ℕ) → (x ≡ v → ⊥) → rc′ x ≡ rc x) → ((x : ℕ) → (x ≡ v → ⊥) → p′ x ≡ p x)
@@ -340,17 +340,17 @@ module _ (t : RegInfo) (f : Function) (c₀ : Cache) where
           sum-change (λ x. held (rc′ x) (p′ x) (size x) s y) (λ x. held (rc x) (p x) (size x) s y) (numValues f) v vl (λ x d. rw (r x d, q x d) refl)
 
       -- `loaded` are those that may carry although they are closed, `calm` those that are not open
-      record Walk (loaded calm : ℕ → Type 0) (w : ParallelMoves) : Type 0 where
-        good : Kept (diverted (w .diverted .refCount) (w .scratch)) (w .allocator)
-        counted : Counted t f ms (w .diverted)
-        idle : (k : ℕ) → (loaded k → ⊥) → isPending (w .state k) ≡ false → w .diverted .values k ≡ []
-        still : (k : ℕ) → calm k → isPending (w .state k) ≡ false
+      pub record Walk (loaded calm : ℕ → Type 0) (w : ParallelMoves) : Type 0 where
+        pub good : Kept (diverted (w .diverted .refCount) (w .scratch)) (w .allocator)
+        pub counted : Counted t f ms (w .diverted)
+        pub idle : (k : ℕ) → (loaded k → ⊥) → isPending (w .state k) ≡ false → w .diverted .values k ≡ []
+        pub still : (k : ℕ) → calm k → isPending (w .state k) ≡ false
 
       module _ (loaded calm : ℕ → Type 0) where
         emit-walk : (i : ℕ) → i < n → (from : Place) (w : ParallelMoves) → Walk loaded calm w → All (Walk loaded calm) (emit t f ms i from w)
         emit-walk i il from w g =
             all-then (Kept (diverted (w .diverted .refCount) (w .scratch))) (Walk loaded calm) (doMove t f (bank t f ms (value t f ms i)) (dest t f ms i) from (value t f ms i) (w .allocator)) _
-            (move-good (bank t f ms (value t f ms i)) (bank-there t f af (value t f ms i) (ok i il .value-named)) (diverted (w .diverted .refCount) (w .scratch)) (dest t f ms i) from (value t f ms i) (w .allocator) (g .good))
+            (move-good (bank t f ms (value t f ms i)) (af .bank (value t f ms i) (ok i il .value-named)) (diverted (w .diverted .refCount) (w .scratch)) (dest t f ms i) from (value t f ms i) (w .allocator) (g .good))
             (λ k q. record { good = q; counted = g .counted; idle = g .idle; still = g .still })
 
         module _ (i : ℕ) (il : i < n) (w : ParallelMoves) (g : Walk loaded calm w) where
@@ -363,24 +363,39 @@ module _ (t : RegInfo) (f : Function) (c₀ : Cache) where
           abbrev d′ : Diverted
           d′ = carry v (w .state) (writers t f ms i) (w .diverted)
 
-          grown : Grown t f ms v (w .state) (w .diverted) d′ × (any (λ m. isPending (w .state m)) (writers t f ms i) ≡ true → 0 < d′ .refCount v)
+          pub grown : Grown t f ms v (w .state) (w .diverted) d′ × (any (λ m. isPending (w .state m)) (writers t f ms i) ≡ true → 0 < d′ .refCount v)
           grown = carry-grown t f ms v vl (w .state) (writers t f ms i) (writers-low t f ms i) (w .diverted) (g .counted)
 
           still-idle : (k : ℕ) → (loaded k → ⊥) → isPending (w .state k) ≡ false → d′ .values k ≡ []
           still-idle k a b = grown .0 .only k b ∙ g .idle k a b
 
           -- a live diversion keeps its scratch
+          pub joined-held : 0 < w .diverted .refCount v → (s y : ℕ) → diverted (d′ .refCount) (w .scratch) s y ≡ diverted (w .diverted .refCount) (w .scratch) s y
+          joined-held l s y =
+              omega (
+                arith,
+                diverted-change v vl (w .diverted .refCount) (d′ .refCount) (w .scratch) (w .scratch) (grown .0 .others) (λ x d. refl) s y,
+                held-live (w .diverted .refCount v) (w .scratch v) (size v) s y l,
+                held-live (d′ .refCount v) (w .scratch v) (size v) s y (omega (arith, grown .0 .more)),
+              )
+
+          -- a new one holds the place found
+          pub begun-held :
+              (p : Place) → any (λ m. isPending (w .state m)) (writers t f ms i) ≡ true → w .diverted .refCount v ≡ 0
+              → (s y : ℕ) → diverted (d′ .refCount) (updated v p (w .scratch)) s y ≡ holds p (size v) s y + diverted (w .diverted .refCount) (w .scratch) s y
+          begun-held p e z s y =
+              omega (
+                arith,
+                diverted-change v vl (w .diverted .refCount) (d′ .refCount) (w .scratch) (updated v p (w .scratch)) (grown .0 .others) (λ k d. updated-other v p (w .scratch) k d) s y,
+                held-ended (w .diverted .refCount v) (w .scratch v) (size v) s y z,
+                held-live (d′ .refCount v) (updated v p (w .scratch) v) (size v) s y (grown .1 e),
+                ap (λ q. holds q (size v) s y) (updated-same v p (w .scratch)),
+              )
+
           joined : 0 < w .diverted .refCount v → Walk loaded calm (carried t f ms i w)
           joined l =
               record {
-                good =
-                    kept-cong _ _ (w .allocator)
-                    (λ s y. omega (
-                      arith,
-                      diverted-change v vl (w .diverted .refCount) (d′ .refCount) (w .scratch) (w .scratch) (grown .0 .others) (λ x d. refl) s y,
-                      held-live (w .diverted .refCount v) (w .scratch v) (size v) s y l,
-                      held-live (d′ .refCount v) (w .scratch v) (size v) s y (omega (arith, grown .0 .more)),
-                    )) (g .good);
+                good = kept-cong _ _ (w .allocator) (joined-held l) (g .good);
                 counted = grown .0 .counted;
                 idle = still-idle;
                 still = g .still;
@@ -394,22 +409,13 @@ module _ (t : RegInfo) (f : Function) (c₀ : Cache) where
               (search-good (bank t f ms v) (topLevelClass t (bank t f ms v)) (diverted (w .diverted .refCount) (w .scratch)) (cycleMoveSources t f ms) (w .allocator) (g .good))
               (λ x q. emit-walk i il (x .place) (noted t f ms i x (carried t f ms i w))
               (record {
-                good =
-                    kept-cong (λ s y. holds (x .place) (size v) s y + diverted (w .diverted .refCount) (w .scratch) s y) _ (x .scratch)
-                    (λ s y. omega (
-                      arith,
-                      diverted-change v vl (w .diverted .refCount) (d′ .refCount) (w .scratch) (updated v (x .place) (w .scratch)) (grown .0 .others)
-                          (λ k d. updated-other v (x .place) (w .scratch) k d) s y,
-                      held-ended (w .diverted .refCount v) (w .scratch v) (size v) s y z,
-                      held-live (d′ .refCount v) (updated v (x .place) (w .scratch) v) (size v) s y (grown .1 e),
-                      ap (λ p. holds p (size v) s y) (updated-same v (x .place) (w .scratch)),
-                    )) (q .good);
+                good = kept-cong (λ s y. holds (x .place) (size v) s y + diverted (w .diverted .refCount) (w .scratch) s y) _ (x .scratch) (begun-held (x .place) e z) (q .good);
                 counted = grown .0 .counted;
                 idle = still-idle;
                 still = g .still;
               }))
 
-          lead-walk : All (Walk loaded calm) (lead t f ms i w)
+          pub lead-walk : All (Walk loaded calm) (lead t f ms i w)
           unfolding lead
           lead-walk =
               branch (All (Walk loaded calm)) (any (λ m. isPending (w .state m)) (writers t f ms i)) _ _
@@ -418,24 +424,24 @@ module _ (t : RegInfo) (f : Function) (c₀ : Cache) where
               (λ _. emit-walk i il (source t f ms i) w g)
 
       module _ (i : ℕ) (il : i < n) (calm : ℕ → Type 0) where
-        abbrev Closing : ParallelMoves → Type 0
+        abbrev pub Closing : ParallelMoves → Type 0
         Closing = Walk (λ k. k ≡ i) calm
 
         module _ (v : ℕ) (l : List ℕ) (w : ParallelMoves) (e : w .diverted .values i ≡ v ∷ l) (g : Closing w) where
-          abbrev Left : ParallelMoves → Type 0
+          abbrev pub Left : ParallelMoves → Type 0
           Left w′ = Closing w′ × (w′ .diverted .values i ≡ l)
 
           abbrev d″ : Diverted
           d″ = lost t f ms i v l (w .diverted)
 
-          lives : 0 < w .diverted .refCount v
+          pub lives : 0 < w .diverted .refCount v
           lives = was-live t f ms i il v l (w .diverted) e (g .counted)
 
-          there : v < numValues f
+          pub there : v < numValues f
           there = g .counted .small v lives
 
           -- with one carrier fewer: the scratch is held no more where it was the last
-          fewer : (s y : ℕ) → diverted (d″ .refCount) (w .scratch) s y + holds (w .scratch v) (size v) s y ≡ diverted (w .diverted .refCount) (w .scratch) s y + held (d″ .refCount v) (w .scratch v) (size v) s y
+          pub fewer : (s y : ℕ) → diverted (d″ .refCount) (w .scratch) s y + holds (w .scratch v) (size v) s y ≡ diverted (w .diverted .refCount) (w .scratch) s y + held (d″ .refCount v) (w .scratch v) (size v) s y
           fewer s y =
               omega (
                 arith,
@@ -454,12 +460,12 @@ module _ (t : RegInfo) (f : Function) (c₀ : Cache) where
             ap (λ (d : Diverted). d .values i) q ∙ updated-same i l (w .diverted .values),
           )
 
-          undivert-walk : All Left (undivert t f ms i v l w)
+          pub undivert-walk : All Left (undivert t f ms i v l w)
           unfolding undivert
           undivert-walk =
               branch (All Left) (eqb (d″ .refCount v) 0) _ _
               (λ z. all-then (Kept (diverted (w .diverted .refCount) (w .scratch))) Left (doMove t f (bank t f ms v) (w .scratch v) (w .alloc v) v (w .allocator)) _
-              (move-good (bank t f ms v) (bank-there t f af v there) (diverted (w .diverted .refCount) (w .scratch)) (w .scratch v) (w .alloc v) v (w .allocator) (g .good))
+              (move-good (bank t f ms v) (af .bank v there) (diverted (w .diverted .refCount) (w .scratch)) (w .scratch v) (w .alloc v) v (w .allocator) (g .good))
               (λ k q. left _ refl refl
               (place-good (size v) (w .scratch v) k (diverted (d″ .refCount) (w .scratch))
               (kept-cong (diverted (w .diverted .refCount) (w .scratch)) _ k (λ s y. omega (arith, fewer s y, held-ended (d″ .refCount v) (w .scratch v) (size v) s y (eqb-true (d″ .refCount v) 0 z))) q))))
@@ -467,7 +473,7 @@ module _ (t : RegInfo) (f : Function) (c₀ : Cache) where
               (kept-cong (diverted (w .diverted .refCount) (w .scratch)) _ (w .allocator)
               (λ s y. omega (arith, fewer s y, held-live (d″ .refCount v) (w .scratch v) (size v) s y (positive (d″ .refCount v) (eqb-false (d″ .refCount v) 0 z)))) (g .good)))
 
-        undivertAll-walk : (l : List ℕ) (w : ParallelMoves) → w .diverted .values i ≡ l → Closing w → All (Walk (λ k. ⊥) calm) (undivertAll t f ms i l w)
+        pub undivertAll-walk : (l : List ℕ) (w : ParallelMoves) → w .diverted .values i ≡ l → Closing w → All (Walk (λ k. ⊥) calm) (undivertAll t f ms i l w)
         unfolding undivertAll
         undivertAll-walk [] w e g =
             record {
@@ -479,10 +485,10 @@ module _ (t : RegInfo) (f : Function) (c₀ : Cache) where
         undivertAll-walk (v ∷ l) w e g =
             all-then (Left v l w e g) (Walk (λ k. ⊥) calm) (undivert t f ms i v l w) _ (undivert-walk v l w e g) (λ w′ q. undivertAll-walk l w′ (q .1) (q .0))
 
-        abbrev Others : ℕ → Type 0
+        abbrev pub Others : ℕ → Type 0
         Others k = calm k × (k ≡ i → ⊥)
 
-        done-walk : (w : ParallelMoves) → Walk (λ k. ⊥) Others w → Closing (withState i Done w)
+        pub done-walk : (w : ParallelMoves) → Walk (λ k. ⊥) Others w → Closing (withState i Done w)
         done-walk w g =
             record {
               good = g .good;
@@ -497,7 +503,7 @@ module _ (t : RegInfo) (f : Function) (c₀ : Cache) where
             all-then Closing (Walk (λ k. ⊥) calm) (lead t f ms i (withState i Done w)) _ (lead-walk (λ k. k ≡ i) calm i il (withState i Done w) (done-walk w g))
             (λ w′ q. undivertAll-walk (w′ .diverted .values i) w′ refl q)
 
-        open-walk : (w : ParallelMoves) → Walk (λ k. ⊥) calm w → Walk (λ k. ⊥) Others (withState i Pending w)
+        pub open-walk : (w : ParallelMoves) → Walk (λ k. ⊥) calm w → Walk (λ k. ⊥) Others (withState i Pending w)
         open-walk w g =
             record {
               good = g .good;
@@ -518,14 +524,14 @@ module _ (t : RegInfo) (f : Function) (c₀ : Cache) where
           (λ _. g)
 
       -- no move is open
-      abbrev Resting : ParallelMoves → Type 0
+      abbrev pub Resting : ParallelMoves → Type 0
       Resting = Walk (λ k. ⊥) (λ k. Unit {0})
 
       first-walk : (i : ℕ) (w : ParallelMoves) → i < n → Resting w → All Resting (visitUnlessMemory t f ms i w)
       unfolding visitUnlessMemory
       first-walk i w il g = branch (All Resting) (or (isMemory t (source t f ms i)) (isMemory t (dest t f ms i))) _ _ (λ _. g) (λ _. visit-walk n (λ k. Unit {0}) i w il g)
 
-      start-walk : (k : ScratchAllocator) → Kept (λ s y. 0) k → Resting (start t f ms k)
+      pub start-walk : (k : ScratchAllocator) → Kept (λ s y. 0) k → Resting (start t f ms k)
       unfolding start occurs diverted held
       start-walk k g =
           record {
@@ -626,11 +632,11 @@ slots-empty f =
 pub run-stacks :
     (t : RegInfo) (f : Function) → target.Accepted t → function.Accepted t f → (p : Patch) (a : Sorted) (c : Cache) (k : ScratchAllocator) → SortedOk t f a → InStacks f c → run t f p a c ≡ some k
     → InStacks f (k .cache)
-run-stacks t f at af p a c k ok ins e = in-stacks t f c ins (k .cache) (subst (All (λ k. Good t f c (stacked (k .cache)) (k .cache .made))) e (run-good t f c at af ins p a ok))
+run-stacks t f at af p a c k ok ins e = in-stacks t f c ins (k .cache) (subst (All (λ k. Good t f c (stacked (k .cache)) (k .cache .made))) e (run-good t f c at (banked t f af) ins p a ok))
 
 -- no stack is deeper than slots were made
 module _ (a : ℕ) where
-  count-range : (l : List ℕ) (n : ℕ) → ((s : ℕ) → has s l ≡ true → (a ≤ s) × (s < a + n)) → length l ≡ sum (λ k. occurs (a + k) l) n
+  pub count-range : (l : List ℕ) (n : ℕ) → ((s : ℕ) → has s l ≡ true → (a ≤ s) × (s < a + n)) → length l ≡ sum (λ k. occurs (a + k) l) n
   unfolding occurs
   count-range [] n h = sym (sum-zero (λ k. 0) n (λ k l. refl))
   count-range (x ∷ l) n h =
@@ -667,7 +673,7 @@ slots-ok t f at af p room c c′ es r ins =
     subst (λ x. InStacks f x × Stays c x) (sym (r .cache)) (in-stacks t f c ins (r .allocator .cache) good, stays t f c ins (r .allocator .cache) good)
   where
     good : Good t f c (stacked (r .allocator .cache)) (r .allocator .cache .made)
-    good = subst (All (λ k. Good t f c (stacked (k .cache)) (k .cache .made))) (r .ran) (run-good t f c at af ins p (sorted t f p) (r .ok))
+    good = subst (All (λ k. Good t f c (stacked (k .cache)) (k .cache .made))) (r .ran) (run-good t f c at (banked t f af) ins p (sorted t f p) (r .ok))
 
 pub slots-lie : SlotsLie
 slots-lie t f at af calls = claim calls emptyCache (slots-empty f)
