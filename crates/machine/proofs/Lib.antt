@@ -19,6 +19,8 @@ pub mod Rebuild
 pub mod Passes
 pub mod Whole
 pub mod Slots
+pub mod Sums
+pub mod OwnSize
 pub mod SlotTrials
 pub mod Demand
 pub mod ArgumentWords
