@@ -10,6 +10,7 @@ use lib.Dec.{eqb, ltb}
 use lib.ListN.{length, getD, take, drop}
 use borrow.Author.Tests.{eq-eqb, eqb-true, eqb-false, ltb-true}
 use Rattle.entity.specs.Logic.{pick, and, or, no, any, has, indices}
+use Rattle.entity.proofs.Laws.{any-below}
 use Rattle.entity.specs.Place.{Place, reg, slot, samePlace, names}
 use Rattle.reginfo.specs.RegInfo.{RegInfo, numBanks, numRegs, numClasses, bankForReg, bankForClass, allocationOrder, classMembers, includesSpillslots, lastInOrder, isMemory, spillslotSize, topLevelClass, stackToStackClass}
 use Rattle.reginfo.specs.Refused as target
@@ -73,6 +74,23 @@ holds-here : (p : Place) (z s : ℕ) → p ≡ slot s → 0 < holds p z s z
 unfolding holds
 holds-here (slot x) z s e = let q : s ≡ x = cc in omega (arith, one-here x z s z q refl)
 holds-here (reg r) z s e = absurd (slot-apart r s e)
+
+plain-holds : (p : Place) (z s y : ℕ) → ((x : ℕ) → p ≡ slot x → ⊥) → holds p z s y ≡ 0
+unfolding holds
+plain-holds (slot x) z s y h = absurd (h x refl)
+plain-holds (reg r) z s y h = refl
+
+either : (a b : Bool) → or a b ≡ true → (a ≡ true) ⊎ (b ≡ true)
+either true b h = inl refl
+either false b h = inr h
+
+-- one of the first n passes the test
+any-index : (p : ℕ → Bool) (n i : ℕ) → i < n → p i ≡ true → any p (indices 0 n) ≡ true
+any-index p n i l h = go (any p (indices 0 n)) refl
+  where
+    go : (b : Bool) → any p (indices 0 n) ≡ b → b ≡ true
+    go true e = refl
+    go false e = absurd (false≢true (sym (any-below p n i e l) ∙ h))
 
 module _ (t : RegInfo) (f : Function) (c₀ : Cache) where
   -- an edit names no emergency slot but what is counted with its size
@@ -317,3 +335,100 @@ module _ (t : RegInfo) (f : Function) (c₀ : Cache) where
       search-kept barred k less g =
           found-kept (find (usable t f barred k) (allocationOrder t c)) (searchedTo t f c barred k) (meeting (searchedTo t f c barred k) k) less
           (record { fair = g .fair; named = g .named; held = g .held; own = g .own })
+
+    -- a slot of value v's size that is held elsewhere, or no emergency slot
+    abbrev Known : Count → ℕ → Place → Type 0
+    Known extra v p = (s : ℕ) → p ≡ slot s → f .slots ≤ s → 0 < extra s (spillslotSize t (valueBank f v))
+
+    value-size : (v : ℕ) → v < numValues f → isSize t f (spillslotSize t (valueBank f v)) ≡ true
+    value-size v h = any-index (λ x. eqb (spillslotSize t (valueBank f x)) (spillslotSize t (valueBank f v))) (numValues f) v h (eq-eqb (spillslotSize t (valueBank f v)) (spillslotSize t (valueBank f v)) refl)
+
+    -- a move names its two places
+    move-names : (extra : Count) (to from : Place) (v : ℕ) → Known extra v to → Known extra v from → Names extra (Move to from v)
+    move-names extra to from v a b s l h =
+        ⊎-elim (λ e. a s (same-slot to s e) l) (λ e. b s (same-slot from s e) l) (either (samePlace to (slot s)) (samePlace from (slot s)) h)
+
+    names-from : (to from : Place) (v s : ℕ) → from ≡ slot s → namesSlot t f s (Move to from v) ≡ true
+    names-from to from v s e = rw (slot-same from s e) (or-true (samePlace to (slot s)))
+
+    module _ (v : ℕ) (vl : v < numValues f) (b : ℕ) (bv : b ≡ valueBank f v) (extra : Count) (slack : Slack 127 extra) (to from : Place) (kt : Known extra v to) (kf : Known extra v from) where
+      b-there : b < numBanks t
+      b-there = subst (λ (x : ℕ). x < numBanks t) (sym bv) (af .bank v vl)
+
+      b-size : isSize t f (spillslotSize t b) ≡ true
+      b-size = subst (λ (x : ℕ). isSize t f (spillslotSize t x) ≡ true) (sym bv) (value-size v vl)
+
+      -- a move names its source, if that is not named yet
+      edits-kept : (ex : ℕ → Type 0) (k : ScratchAllocator) → ((s : ℕ) → ex s → from ≡ slot s) → Kept ex extra k → All (Kept Nothing extra) (moveEdits t f b to from v k)
+      unfolding moveEdits
+      edits-kept ex k h g =
+          let c : ℕ = stackToStackClass t b in
+          let y : includesSpillslots t c ≡ false = stack-slots t at b b-there in
+          branch (All (Kept Nothing extra)) (and (isMemory t to) (isMemory t from)) _ _
+          (λ _. all-then (Search b c ex extra) (Kept Nothing extra) (getScratchReg t f b c (nothingBarred t f) k) _
+          (search-kept b c b-size (stack-fits t at b b-there) (stack-bank t at b b-there) ex extra slack (nothingBarred t f) k (λ e. absurd (false≢true (sym y ∙ e))) g)
+          (λ x q. kept-push ex Nothing extra (Move (x .place) from v) (push (Move to (x .place) v) (x .scratch))
+          (move-names extra (x .place) from v (λ s e _. absurd (q .plain y s e)) kf) (λ s w. inl (names-from (x .place) from v s (h s w)))
+          (kept-push ex ex extra (Move to (x .place) v) (x .scratch) (move-names extra to (x .place) v kt (λ s e _. absurd (q .plain y s e))) (λ s w. inr w)
+          (kept-except (λ s. ex s ⊎ (x .place ≡ slot s)) ex extra (x .scratch) (λ s. ⊎-elim (λ w. w) (λ w. absurd (q .plain y s w)))
+          (kept-cong _ (λ s z. holds (x .place) (spillslotSize t b) s z + extra s z) extra (x .scratch) (λ s z. omega (arith, plain-holds (x .place) (spillslotSize t b) s z (q .plain y))) (q .kept))))))
+          (λ _. kept-push ex Nothing extra (Move to from v) k (move-names extra to from v kt kf) (λ s w. inl (names-from to from v s (h s w))) g)
+
+      move-kept : (ex : ℕ → Type 0) (k : ScratchAllocator) → ((s : ℕ) → ex s → from ≡ slot s) → Kept ex extra k → All (Kept Nothing extra) (doMove t f b to from v k)
+      unfolding doMove
+      move-kept ex k h g =
+          all-then (Kept Nothing extra) (Kept Nothing extra) (moveEdits t f b to from v (unevictForReg t f to (unevictForReg t f from k))) _
+          (edits-kept ex (unevictForReg t f to (unevictForReg t f from k)) h (some-kept to (unevictForReg t f from k) ex extra (some-kept from k ex extra g)))
+          (λ k′ q. record { fair = q .fair; named = q .named; held = q .held; own = q .own })
+
+    -- a place of an entry is no emergency slot
+    low-place : (extra : Count) (v : ℕ) (p : Place) → namesPlace t f p ≡ true → Known extra v p
+    low-place extra v (reg r) h s e l = absurd (slot-apart r s e)
+    low-place extra v (slot x) h s e l = let q : x ≡ s = cc in absurd (omega (arith, ltb-true x (f .slots) h))
+
+    abbrev Zero : Count
+    Zero s y = 0
+
+    zero-slack : (n : ℕ) → Slack n Zero
+    zero-slack n m z = omega (arith, sum-zero (λ s. 0) m (λ s h. refl))
+
+    remat-names : (extra : Count) (to : Place) (v : ℕ) → Known extra v to → Names extra (Rematerialize to v)
+    remat-names extra to v a s l h = a s (same-slot to s h) l
+
+    remats-kept : (l : List Remat) → Every (RematOk t f true) l → (k : ScratchAllocator) → Kept Nothing Zero k → Kept Nothing Zero (remats t f l k)
+    unfolding remats
+    remats-kept [] o k g = g
+    remats-kept (r ∷ l) o k g =
+        remats-kept l (o .1) (doRemat t f r k)
+        (let q = kept-push Nothing Nothing Zero (Rematerialize (r .dest) (r .value)) k (remat-names Zero (r .dest) (r .value) (low-place Zero (r .value) (r .dest) (o .0 .dest-named))) (λ s w. inr w) g in
+        record { fair = q .fair; named = q .named; held = q .held; own = q .own })
+
+    module _ (r : Remat) (ok : RematOk t f false r) where
+      abbrev v : ℕ
+      v = r .value
+
+      abbrev c : ℕ
+      c = rematClass f v
+
+      abbrev b : ℕ
+      b = bankForClass t c
+
+      bv : b ≡ valueBank f v
+      bv = af .own v (ok .value-named) (ok .can)
+
+      scratch-kept : (k : ScratchAllocator) → Kept Nothing Zero k → All (Kept Nothing Zero) (rematWithScratch t f r k)
+      unfolding rematWithScratch
+      scratch-kept k g =
+          let z : ℕ = spillslotSize t b in
+          all-then (Search b c Nothing Zero) (Kept Nothing Zero) (getScratchReg t f b c (nothingBarred t f) (unevictForReg t f (r .dest) k)) _
+          (search-kept b c (subst (λ (x : ℕ). isSize t f (spillslotSize t x) ≡ true) (sym bv) (value-size v (ok .value-named))) (af .class v (ok .value-named) (ok .can)) refl Nothing Zero (zero-slack 127)
+          (nothingBarred t f) (unevictForReg t f (r .dest) k) (λ _. zero-slack 126) (some-kept (r .dest) k Nothing Zero g))
+          (λ x q. let extra : Count = λ s y. holds (x .place) z s y + 0 in
+          let known : Known extra v (x .place) = λ s e l. let w : 0 < holds (x .place) z s z = holds-here (x .place) z s e in
+          subst (λ (j : ℕ). 0 < extra s (spillslotSize t j)) bv (omega arith) in
+          all-then (Kept Nothing extra) (Kept Nothing Zero) (moveEdits t f b (r .dest) (x .place) v (x .scratch)) _
+          (edits-kept v (ok .value-named) b bv extra (λ m y. omega (arith, sum-plus (λ s. holds (x .place) z s y) (λ s. 0) m, holds-few (x .place) z y m, sum-zero (λ s. 0) m (λ s h. refl))) (r .dest) (x .place)
+          (low-place extra v (r .dest) (ok .dest-named)) known (λ s. ⊥ ⊎ (x .place ≡ slot s)) (x .scratch) (λ s. ⊎-elim (λ w. absurd w) (λ w. w)) (q .kept))
+          (λ k′ h. let p = place-kept z (x .place) (push (Rematerialize (x .place) v) k′) Nothing Zero
+          (kept-push Nothing Nothing extra (Rematerialize (x .place) v) k′ (remat-names extra (x .place) v known) (λ s w. inr w) h) in
+          record { fair = p .fair; named = p .named; held = p .held; own = p .own }))

@@ -279,7 +279,7 @@ module _ (t : RegInfo) (f : Function) (c₀ : Cache) where
     unfolding getScratchReg Kept
     search-good barred k g = found-good (find (usable t f barred k) (allocationOrder t c)) (searchedTo t f c barred k) (meeting (searchedTo t f c barred k) k) g
 
-  remats-good : (l : List Remat) (k : ScratchAllocator) (extra : Count) → Kept extra k → Kept extra (remats t f l k)
+  pub remats-good : (l : List Remat) (k : ScratchAllocator) (extra : Count) → Kept extra k → Kept extra (remats t f l k)
   unfolding remats Kept
   remats-good [] k extra g = g
   remats-good (r ∷ l) k extra g = remats-good l (doRemat t f r k) extra g
@@ -313,7 +313,7 @@ module _ (t : RegInfo) (f : Function) (c₀ : Cache) where
       b-there : b < numBanks t
       b-there = subst (λ (x : ℕ). x < numBanks t) (sym (af .own (r .value) (ok .value-named) (ok .can))) (af .bank (r .value) (ok .value-named))
 
-      scratch-good : (k : ScratchAllocator) → Kept extra k → All (Kept extra) (rematWithScratch t f r k)
+      pub scratch-good : (k : ScratchAllocator) → Kept extra k → All (Kept extra) (rematWithScratch t f r k)
       unfolding rematWithScratch Kept
       scratch-good k g =
           all-then (Search b c extra) (Kept extra) (getScratchReg t f b c (nothingBarred t f) (unevictForReg t f (r .dest) k)) _
@@ -542,12 +542,15 @@ module _ (t : RegInfo) (f : Function) (c₀ : Cache) where
           }
 
       -- nothing is diverted any more
-      end-walk : (w : ParallelMoves) → Resting w → Kept (λ s y. 0) (w .allocator)
+      pub rest-held : (w : ParallelMoves) → Resting w → (s y : ℕ) → 0 ≡ diverted (w .diverted .refCount) (w .scratch) s y
       unfolding occurs diverted
-      end-walk w g = kept-cong _ (λ s y. 0) (w .allocator) (λ s y. sym (sum-zero (λ v. held (w .diverted .refCount v) (w .scratch v) (size v) s y) (numValues f) (λ v h. held-ended (w .diverted .refCount v) (w .scratch v) (size v) s y (ended v)))) (g .good)
+      rest-held w g s y = sym (sum-zero (λ v. held (w .diverted .refCount v) (w .scratch v) (size v) s y) (numValues f) (λ v h. held-ended (w .diverted .refCount v) (w .scratch v) (size v) s y (ended v)))
         where
           ended : (v : ℕ) → w .diverted .refCount v ≡ 0
           ended v = g .counted .counts v ∙ sum-zero (λ m. occurs v (w .diverted .values m)) n (λ m h. ap (occurs v) (g .idle m (λ x. x) (g .still m tt)))
+
+      end-walk : (w : ParallelMoves) → Resting w → Kept (λ s y. 0) (w .allocator)
+      end-walk w g = kept-cong _ (λ s y. 0) (w .allocator) (rest-held w g) (g .good)
 
       moves-good : (k : ScratchAllocator) → Kept (λ s y. 0) k → All (λ k′. Good (stacked (k′ .cache)) (k′ .cache .made)) (moves t f ms k)
       unfolding moves Kept waits
@@ -564,19 +567,22 @@ module _ (t : RegInfo) (f : Function) (c₀ : Cache) where
           saved : (k : ScratchAllocator) → Kept (λ s y. 0) k → Good (stacked (unevictAll t f k .cache)) (unevictAll t f k .cache .made)
           saved k h = good-cong _ _ (unevictAll t f k .cache .made) (λ s z. omega (arith, ap (λ l. waits l s z) (unevict-evicted t f (k .evicted) (withEvicted [] k)))) (all-good k (λ s y. 0) h)
 
+    -- a run begins with the cache, no edit and nothing evicted
+    abbrev pub begun : Patch → ScratchAllocator
+    begun p = record { edits = []; available = λ u. has u (p .free); evicted = []; cache = c₀; met = 0 }
+
+    pub begin-good : InStacks f c₀ → (p : Patch) → Kept (λ s y. 0) (begun p)
+    unfolding Kept waits
+    begin-good ins p =
+        record { grows = omega arith; old = λ s z h. omega arith; fresh = λ s h k. absurd (omega arith); none = λ s z h. omega (arith, occurs-none s (c₀ .stacks z) (never-true (has s (c₀ .stacks z)) (λ e. omega (arith, ins .below s z e)))) }
+
     run-good : InStacks f c₀ → (p : Patch) (a : Sorted) → SortedOk t f a → All (λ k. Good (stacked (k .cache)) (k .cache .made)) (run t f p a c₀)
     unfolding run Kept waits
     run-good ins p a ok =
-        all-then (Kept (λ s y. 0)) (λ k. Good (stacked (k .cache)) (k .cache .made)) (each (rematWithScratch t f) (a .rematsWithScratch) (remats t f (a .remats) k₀)) _
+        all-then (Kept (λ s y. 0)) (λ k. Good (stacked (k .cache)) (k .cache .made)) (each (rematWithScratch t f) (a .rematsWithScratch) (remats t f (a .remats) (begun p))) _
         (all-each (Kept (λ s y. 0)) (RematOk t f false) (rematWithScratch t f) (λ r k q g. scratch-good r q (λ s y. 0) k g) (a .rematsWithScratch)
-        (every-getD (RematOk t f false) (noRemat t f) (a .rematsWithScratch) (ok .rematsWithScratch)) (remats t f (a .remats) k₀) (remats-good (a .remats) k₀ (λ s y. 0) begin))
+        (every-getD (RematOk t f false) (noRemat t f) (a .rematsWithScratch) (ok .rematsWithScratch)) (remats t f (a .remats) (begun p)) (remats-good (a .remats) (begun p) (λ s y. 0) (begin-good ins p)))
         (λ k g. moves-good (a .moves) (ok .moves) k g)
-      where
-        k₀ : ScratchAllocator
-        k₀ = record { edits = []; available = λ u. has u (p .free); evicted = []; cache = c₀; met = 0 }
-
-        begin : Good (λ s z. stacked c₀ s z + (waits [] s z + 0)) (c₀ .made)
-        begin = record { grows = omega arith; old = λ s z h. omega arith; fresh = λ s h k. absurd (omega arith); none = λ s z h. omega (arith, occurs-none s (c₀ .stacks z) (never-true (has s (c₀ .stacks z)) (λ e. omega (arith, ins .below s z e)))) }
 
   -- what the counts say of the stacks
   module _ (ins : InStacks f c₀) (c : Cache) (g : Good (stacked c) (c .made)) where
