@@ -28,10 +28,11 @@ use Rattle.rules.proofs.Steps.{All, all-then, all-map, branch, same?, Every, ev
 use Rattle.rules.proofs.News.{news-all, news-open, news-close}
 use Rattle.rules.proofs.Writers.{writers-low}
 use Rattle.rules.proofs.Sum.{sum-le, sum-part, sum-zero}
-use Rattle.machine.specs.Paid.{occurs, live}
+use Rattle.machine.specs.Paid.{occurs, sign, live}
 use Rattle.machine.specs.Enough.{isSize, editSize, namesSlot}
+use Rattle.machine.proofs.Bound.{Placed, sign-pos, live-grown, live-kept}
 use Rattle.machine.proofs.Banked.{Banked}
-use Rattle.machine.proofs.Slots.{positive, less?, one, one-here, one-other, one-away, one-top, holds, held, held-live, held-ended, waits, waits-parts, Count, stacked}
+use Rattle.machine.proofs.Slots.{positive, less?, one, one-here, one-other, one-away, one-top, holds, held, held-live, held-ended, waits, waits-parts, Count, stacked, diverted, Walk, grown, joined-held, begun-held, lead-walk, Closing, Left, lives, there, fewer, undivert-walk, undivertAll-walk, Others, done-walk, open-walk, Resting, start-walk, rest-held}
 use Rattle.machine.proofs.Sums.{sum-plus, sum-swap, sum-once}
 
 -- both hold of a result
@@ -74,6 +75,16 @@ holds-here : (p : Place) (z s : ℕ) → p ≡ slot s → 0 < holds p z s z
 unfolding holds
 holds-here (slot x) z s e = let q : s ≡ x = cc in omega (arith, one-here x z s z q refl)
 holds-here (reg r) z s e = absurd (slot-apart r s e)
+
+held-few : (n : ℕ) (p : Place) (z y m : ℕ) → sum (λ s. held n p z s y) m ≤ sign n
+unfolding held sign
+held-few zero p z y m = omega (arith, sum-zero (λ s. 0) m (λ s h. refl))
+held-few (suc n) p z y m = holds-few p z y m
+
+any-none : (p : ℕ → Bool) (l : List ℕ) → ((k : ℕ) → p k ≡ false) → any p l ≡ false
+unfolding any
+any-none p [] h = refl
+any-none p (x ∷ l) h = rw (h x) (any-none p l h)
 
 plain-holds : (p : Place) (z s y : ℕ) → ((x : ℕ) → p ≡ slot x → ⊥) → holds p z s y ≡ 0
 unfolding holds
@@ -404,31 +415,133 @@ module _ (t : RegInfo) (f : Function) (c₀ : Cache) where
         record { fair = q .fair; named = q .named; held = q .held; own = q .own })
 
     module _ (r : Remat) (ok : RematOk t f false r) where
-      abbrev v : ℕ
-      v = r .value
+      abbrev rv : ℕ
+      rv = r .value
 
       abbrev c : ℕ
-      c = rematClass f v
+      c = rematClass f rv
 
       abbrev b : ℕ
       b = bankForClass t c
 
-      bv : b ≡ valueBank f v
-      bv = af .own v (ok .value-named) (ok .can)
+      bv : b ≡ valueBank f rv
+      bv = af .own rv (ok .value-named) (ok .can)
 
       scratch-kept : (k : ScratchAllocator) → Kept Nothing Zero k → All (Kept Nothing Zero) (rematWithScratch t f r k)
       unfolding rematWithScratch
       scratch-kept k g =
           let z : ℕ = spillslotSize t b in
           all-then (Search b c Nothing Zero) (Kept Nothing Zero) (getScratchReg t f b c (nothingBarred t f) (unevictForReg t f (r .dest) k)) _
-          (search-kept b c (subst (λ (x : ℕ). isSize t f (spillslotSize t x) ≡ true) (sym bv) (value-size v (ok .value-named))) (af .class v (ok .value-named) (ok .can)) refl Nothing Zero (zero-slack 127)
+          (search-kept b c (subst (λ (x : ℕ). isSize t f (spillslotSize t x) ≡ true) (sym bv) (value-size rv (ok .value-named))) (af .class rv (ok .value-named) (ok .can)) refl Nothing Zero (zero-slack 127)
           (nothingBarred t f) (unevictForReg t f (r .dest) k) (λ _. zero-slack 126) (some-kept (r .dest) k Nothing Zero g))
           (λ x q. let extra : Count = λ s y. holds (x .place) z s y + 0 in
-          let known : Known extra v (x .place) = λ s e l. let w : 0 < holds (x .place) z s z = holds-here (x .place) z s e in
+          let known : Known extra rv (x .place) = λ s e l. let w : 0 < holds (x .place) z s z = holds-here (x .place) z s e in
           subst (λ (j : ℕ). 0 < extra s (spillslotSize t j)) bv (omega arith) in
-          all-then (Kept Nothing extra) (Kept Nothing Zero) (moveEdits t f b (r .dest) (x .place) v (x .scratch)) _
-          (edits-kept v (ok .value-named) b bv extra (λ m y. omega (arith, sum-plus (λ s. holds (x .place) z s y) (λ s. 0) m, holds-few (x .place) z y m, sum-zero (λ s. 0) m (λ s h. refl))) (r .dest) (x .place)
-          (low-place extra v (r .dest) (ok .dest-named)) known (λ s. ⊥ ⊎ (x .place ≡ slot s)) (x .scratch) (λ s. ⊎-elim (λ w. absurd w) (λ w. w)) (q .kept))
-          (λ k′ h. let p = place-kept z (x .place) (push (Rematerialize (x .place) v) k′) Nothing Zero
-          (kept-push Nothing Nothing extra (Rematerialize (x .place) v) k′ (remat-names extra (x .place) v known) (λ s w. inr w) h) in
+          all-then (Kept Nothing extra) (Kept Nothing Zero) (moveEdits t f b (r .dest) (x .place) rv (x .scratch)) _
+          (edits-kept rv (ok .value-named) b bv extra (λ m y. omega (arith, sum-plus (λ s. holds (x .place) z s y) (λ s. 0) m, holds-few (x .place) z y m, sum-zero (λ s. 0) m (λ s h. refl))) (r .dest) (x .place)
+          (low-place extra rv (r .dest) (ok .dest-named)) known (λ s. ⊥ ⊎ (x .place ≡ slot s)) (x .scratch) (λ s. ⊎-elim (λ w. absurd w) (λ w. w)) (q .kept))
+          (λ k′ h. let p = place-kept z (x .place) (push (Rematerialize (x .place) rv) k′) Nothing Zero
+          (kept-push Nothing Nothing extra (Rematerialize (x .place) rv) k′ (remat-names extra (x .place) rv known) (λ s w. inr w) h) in
           record { fair = p .fair; named = p .named; held = p .held; own = p .own }))
+
+    af-placed : Placed t f
+    af-placed = record { bank = af .bank; class = af .class }
+
+    module _ (ms : List KeptMove) (ok : (i : ℕ) → i < length ms → MoveOk t f (getD ms i noMove)) where
+      abbrev n : ℕ
+      n = length ms
+
+      abbrev size : ℕ → ℕ
+      size v = spillslotSize t (valueBank f v)
+
+      -- what the live diversions hold, and how the moves stand
+      abbrev heldBy : ParallelMoves → Count
+      heldBy w = diverted t f c₀ at af ms ok (w .diverted .refCount) (w .scratch)
+
+      abbrev Stands : (ℕ → Type 0) → (ℕ → Type 0) → ParallelMoves → Type 0
+      Stands = Walk t f c₀ at af ms ok
+
+      live-slack : (w : ParallelMoves) → Slack (live t f (w .diverted)) (heldBy w)
+      unfolding live diverted
+      live-slack w m y =
+          omega (
+            arith,
+            sum-swap (λ s v. held (w .diverted .refCount v) (w .scratch v) (size v) s y) m (numValues f),
+            sum-le (λ v. sum (λ s. held (w .diverted .refCount v) (w .scratch v) (size v) s y) m) (λ v. sign (w .diverted .refCount v)) (numValues f)
+                (λ v h. held-few (w .diverted .refCount v) (w .scratch v) (size v) y m),
+          )
+
+      scratch-known : (w : ParallelMoves) (v : ℕ) → v < numValues f → 0 < w .diverted .refCount v → Known (heldBy w) v (w .scratch v)
+      unfolding diverted
+      scratch-known w v vl l s e low =
+          omega (
+            arith,
+            sum-part (λ x. held (w .diverted .refCount x) (w .scratch x) (size x) s (size v)) (numValues f) v vl,
+            held-live (w .diverted .refCount v) (w .scratch v) (size v) s (size v) l,
+            holds-here (w .scratch v) (size v) s e,
+          )
+
+      -- diversions that live and moves not visited are at most a; a first source is no emergency slot
+      record Sparing (a : ℕ) (w : ParallelMoves) : Type 0 where
+        kept : Kept Nothing (heldBy w) (w .allocator)
+        room : live t f (w .diverted) + news n (w .state) ≤ a
+        low : (v : ℕ) → 0 < w .diverted .refCount v → namesPlace t f (w .alloc v) ≡ true
+
+      module _ (a : ℕ) (al : a ≤ 127) (i : ℕ) (il : i < n) where
+        abbrev v : ℕ
+        v = value t f ms i
+
+        vl : v < numValues f
+        vl = ok i il .value-named
+
+        emit-sparing :
+            (ex : ℕ → Type 0) (from : Place) (w : ParallelMoves) → Known (heldBy w) v from → ((s : ℕ) → ex s → from ≡ slot s) → Kept ex (heldBy w) (w .allocator)
+            → live t f (w .diverted) + news n (w .state) ≤ a → ((x : ℕ) → 0 < w .diverted .refCount x → namesPlace t f (w .alloc x) ≡ true) → All (Sparing a) (emit t f ms i from w)
+        emit-sparing ex from w known h g room low =
+            all-then (Kept Nothing (heldBy w)) (Sparing a) (doMove t f (bank t f ms v) (dest t f ms i) from v (w .allocator)) _
+            (move-kept v vl (bank t f ms v) refl (heldBy w) (λ m z. omega (arith, live-slack w m z)) (dest t f ms i) from (low-place (heldBy w) v (dest t f ms i) (ok i il .dest-named)) known ex
+            (w .allocator) h g)
+            (λ k q. record { kept = q; room = room; low = low })
+
+        from-source : (w : ParallelMoves) → Sparing a w → All (Sparing a) (emit t f ms i (source t f ms i) w)
+        from-source w g =
+            emit-sparing Nothing (source t f ms i) w (low-place (heldBy w) v (source t f ms i) (ok i il .source-named)) (λ s q. absurd q) (g .kept) (g .room) (g .low)
+
+        module _ (loaded calm : ℕ → Type 0) (w : ParallelMoves) (old : Stands loaded calm w) (g : Sparing (pred a) w) (some-left : 0 < a) where
+          abbrev w′ : ParallelMoves
+          w′ = carried t f ms i w
+
+          more-room : live t f (w′ .diverted) + news n (w .state) ≤ a
+          more-room =
+              omega (arith, g .room, live-grown t f at af-placed ms ok v (w .state) (w .diverted) (w′ .diverted) vl (grown t f c₀ at af ms ok loaded calm i il w old .0))
+
+          divert-sparing : any (λ m. isPending (w .state m)) (writers t f ms i) ≡ true → w .diverted .refCount v ≡ 0 → All (Sparing a) (divert t f ms i w′)
+          unfolding divert
+          divert-sparing e z =
+              let b : ℕ = bank t f ms v in
+              let bl : b < numBanks t = af .bank v vl in
+              all-then (Search b (topLevelClass t b) Nothing (heldBy w)) (Sparing a) (getScratchReg t f b (topLevelClass t b) (cycleMoveSources t f ms) (w .allocator)) _
+              (search-kept b (topLevelClass t b) (value-size v vl) (top-fits t at b bl) (top-bank t at b bl) Nothing (heldBy w) (λ m y. omega (arith, live-slack w m y, g .room)) (cycleMoveSources t f ms)
+              (w .allocator) (λ _ m y. omega (arith, live-slack w m y, g .room)) (g .kept))
+              (λ x q. let w″ : ParallelMoves = noted t f ms i x w′ in
+              let k = kept-cong (λ s. ⊥ ⊎ (x .place ≡ slot s)) _ (heldBy w″) (x .scratch) (begun-held t f c₀ at af ms ok loaded calm i il w old (x .place) e z) (q .kept) in
+              emit-sparing (λ s. ⊥ ⊎ (x .place ≡ slot s)) (x .place) w″
+              (λ s r l. scratch-known w″ v vl (grown t f c₀ at af ms ok loaded calm i il w old .1 e) s (updated-same v (x .place) (w .scratch) ∙ r) l) (λ s. ⊎-elim (λ r. absurd r) (λ r. r))
+              (record { fair = k .fair; named = k .named; held = k .held; own = k .own }) more-room
+              (λ y l. updated-at (λ (p : Place). namesPlace t f p ≡ true) v (source t f ms i) (w .alloc) y (λ _. ok i il .source-named)
+              (λ d. g .low y (omega (arith, l, grown t f c₀ at af ms ok loaded calm i il w old .0 .others y d)))))
+
+          joined-sparing : 0 < w .diverted .refCount v → All (Sparing a) (emit t f ms i (w .scratch v) w′)
+          joined-sparing l =
+              let r = grown t f c₀ at af ms ok loaded calm i il w old .0 in
+              let k = kept-cong Nothing _ (heldBy w′) (w .allocator) (joined-held t f c₀ at af ms ok loaded calm i il w old l) (g .kept) in
+              emit-sparing Nothing (w .scratch v) w′ (scratch-known w′ v vl (omega (arith, r .more))) (λ s q. absurd q) k more-room
+              (λ y h. ⊎-elim (λ (e : y ≡ v). g .low y (subst (λ (j : ℕ). 0 < w .diverted .refCount j) (sym e) l)) (λ d. g .low y (omega (arith, h, r .others y d))) (same? y v))
+
+          lead-sparing : All (Sparing a) (lead t f ms i w)
+          unfolding lead
+          lead-sparing =
+              branch (All (Sparing a)) (any (λ m. isPending (w .state m)) (writers t f ms i)) _ _
+              (λ e. branch (All (Sparing a)) (eqb (w .diverted .refCount v) 0) _ _ (λ z. divert-sparing e (eqb-true (w .diverted .refCount v) 0 z))
+              (λ z. joined-sparing (positive (w .diverted .refCount v) (eqb-false (w .diverted .refCount v) 0 z))))
+              (λ _. from-source w (record { kept = g .kept; room = omega (arith, g .room); low = g .low }))
