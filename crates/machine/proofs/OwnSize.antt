@@ -545,3 +545,69 @@ module _ (t : RegInfo) (f : Function) (c₀ : Cache) where
               (λ e. branch (All (Sparing a)) (eqb (w .diverted .refCount v) 0) _ _ (λ z. divert-sparing e (eqb-true (w .diverted .refCount v) 0 z))
               (λ z. joined-sparing (positive (w .diverted .refCount v) (eqb-false (w .diverted .refCount v) 0 z))))
               (λ _. from-source w (record { kept = g .kept; room = omega (arith, g .room); low = g .low }))
+
+        module _ (calm : ℕ → Type 0) (u : ℕ) (l : List ℕ) (w : ParallelMoves) (e : w .diverted .values i ≡ u ∷ l) (old : Closing t f c₀ at af ms ok i il calm w) (g : Sparing a w) where
+          abbrev d″ : Diverted
+          d″ = lost t f ms i u l (w .diverted)
+
+          u-lives : 0 < w .diverted .refCount u
+          u-lives = lives t f c₀ at af ms ok i il calm u l w e old
+
+          u-there : u < numValues f
+          u-there = there t f c₀ at af ms ok i il calm u l w e old
+
+          one-less : (s y : ℕ) → diverted t f c₀ at af ms ok (d″ .refCount) (w .scratch) s y + holds (w .scratch u) (size u) s y ≡ heldBy w s y + held (d″ .refCount u) (w .scratch u) (size u) s y
+          one-less = fewer t f c₀ at af ms ok i il calm u l w e old
+
+          less-room : live t f d″ + news n (w .state) ≤ a
+          less-room = omega (arith, g .room, live-kept t f at af-placed ms ok i il u l (w .diverted) e (old .counted))
+
+          still-low : (x : ℕ) → 0 < d″ .refCount x → namesPlace t f (w .alloc x) ≡ true
+          still-low x h =
+              g .low x
+              (updated-at (λ (j : ℕ). 0 < j → 0 < w .diverted .refCount x) u (pred (w .diverted .refCount u)) (w .diverted .refCount) x
+              (λ (q : x ≡ u) _. subst (λ (j : ℕ). 0 < w .diverted .refCount j) (sym q) u-lives) (λ _ k. k) h)
+
+          undivert-sparing : All (Sparing a) (undivert t f ms i u l w)
+          unfolding undivert
+          undivert-sparing =
+              branch (All (Sparing a)) (eqb (d″ .refCount u) 0) _ _
+              (λ z. all-then (Kept Nothing (heldBy w)) (Sparing a) (doMove t f (bank t f ms u) (w .scratch u) (w .alloc u) u (w .allocator)) _
+              (move-kept u u-there (bank t f ms u) refl (heldBy w) (λ m y. omega (arith, live-slack w m y, g .room)) (w .scratch u) (w .alloc u) (scratch-known w u u-there u-lives)
+              (low-place (heldBy w) u (w .alloc u) (g .low u u-lives)) Nothing (w .allocator) (λ s q. absurd q) (g .kept))
+              (λ k q. record {
+                kept =
+                    place-kept (size u) (w .scratch u) k Nothing (diverted t f c₀ at af ms ok (d″ .refCount) (w .scratch))
+                    (kept-cong Nothing (heldBy w) _ k (λ s y. omega (arith, one-less s y, held-ended (d″ .refCount u) (w .scratch u) (size u) s y (eqb-true (d″ .refCount u) 0 z))) q);
+                room = less-room;
+                low = still-low;
+              }))
+              (λ z. record {
+                kept =
+                    kept-cong Nothing (heldBy w) _ (w .allocator)
+                    (λ s y. omega (arith, one-less s y, held-live (d″ .refCount u) (w .scratch u) (size u) s y (positive (d″ .refCount u) (eqb-false (d″ .refCount u) 0 z)))) (g .kept);
+                room = less-room;
+                low = still-low;
+              })
+
+        module _ (calm : ℕ → Type 0) where
+          -- the moves as they stand, and spared
+          abbrev Shut : ParallelMoves → Type 0
+          Shut w = Closing t f c₀ at af ms ok i il calm w × Sparing a w
+
+          undivertAll-both : (l : List ℕ) (w : ParallelMoves) → w .diverted .values i ≡ l → Shut w → All (λ w. Stands Nothing calm w × Sparing a w) (undivertAll t f ms i l w)
+          unfolding undivertAll
+          undivertAll-both [] w e g = (undivertAll-walk t f c₀ at af ms ok i il calm [] w e (g .0), g .1)
+          undivertAll-both (u ∷ l) w e g =
+              all-then (λ w′. Left t f c₀ at af ms ok i il calm u l w e (g .0) w′ × Sparing a w′) (λ w. Stands Nothing calm w × Sparing a w) (undivert t f ms i u l w) _
+              (all-both (Left t f c₀ at af ms ok i il calm u l w e (g .0)) (Sparing a) (undivert t f ms i u l w) (undivert-walk t f c₀ at af ms ok i il calm u l w e (g .0)) (undivert-sparing calm u l w e (g .0) (g .1)))
+              (λ w′ q. undivertAll-both l w′ (q .0 .1) (q .0 .0, q .1))
+
+          -- where the move is led
+          close-both : (w : ParallelMoves) → Stands Nothing (Others t f c₀ at af ms ok i il calm) w → All (Sparing a) (lead t f ms i (withState i Done w)) → All (λ w. Stands Nothing calm w × Sparing a w) (close t f ms i w)
+          unfolding close
+          close-both w old g =
+              all-then Shut (λ w. Stands Nothing calm w × Sparing a w) (lead t f ms i (withState i Done w)) _
+              (all-both (Closing t f c₀ at af ms ok i il calm) (Sparing a) (lead t f ms i (withState i Done w))
+              (lead-walk t f c₀ at af ms ok (λ k. k ≡ i) calm i il (withState i Done w) (done-walk t f c₀ at af ms ok i il calm w old)) g)
+              (λ w′ q. undivertAll-both (w′ .diverted .values i) w′ refl q)
