@@ -18,7 +18,7 @@ use Rattle.reginfo.proofs.Accepted.{stack-slots, top-slots, stack-bank, top-ban
 use Rattle.function.specs.Function.{Function, numValues, valueBank, rematClass}
 use Rattle.rules.specs.Edit.{Edit, Move, Rematerialize, EmergencySpill, EmergencyReload, updated, andThen, each, find, filter}
 use Rattle.rules.specs.Scratch.{Cache, Evicted, ScratchAllocator, Acquired, push, withAvailable, withEvicted, Found, unevict, unevictAll, unevictBut, overlapsEvicted, unevictForReg, makeRoom, acquireFrom, acquire, release, releasePlace, usable, slotScratch, evictLast, reuse, orScratch, getScratchReg, nothingBarred, moveEdits, doMove, meeting, searchedTo}
-use Rattle.rules.specs.Order.{KeptMove, noMove, Remat, State, Pending, Done, isNew, isPending, Diverted, ParallelMoves, withState, carry, remats, doRemat, rematWithScratch, source, dest, value, bank, writers, cycleMoveSources, emit, noted, divert, carried, lead, lost, undivert, undivertAll, close, visit, visitUnlessMemory, start, moves}
+use Rattle.rules.specs.Order.{KeptMove, noMove, Remat, State, New, Pending, Done, isNew, isPending, Diverted, ParallelMoves, withState, carry, remats, doRemat, rematWithScratch, source, dest, value, bank, writers, cycleMoveSources, emit, noted, divert, carried, lead, lost, undivert, undivertAll, close, visit, visitUnlessMemory, start, moves}
 use Rattle.rules.specs.Patch.{Patch, Sorted, namesPlace, run}
 use Rattle.rules.specs.Sorted.{MoveOk, RematOk, noRemat, SortedOk}
 use Rattle.rules.specs.Counts.{sum, news}
@@ -29,9 +29,11 @@ use Rattle.rules.proofs.News.{news-all, news-open, news-close}
 use Rattle.rules.proofs.Writers.{writers-low}
 use Rattle.rules.proofs.Sum.{sum-le, sum-part, sum-zero}
 use Rattle.machine.specs.Paid.{occurs, sign, live}
+use Rattle.machine.specs.Slots.{InStacks}
 use Rattle.machine.specs.Enough.{isSize, editSize, namesSlot}
 use Rattle.machine.proofs.Bound.{Placed, sign-pos, live-grown, live-kept}
 use Rattle.machine.proofs.Banked.{Banked}
+use Rattle.machine.proofs.Slots as Slots
 use Rattle.machine.proofs.Slots.{positive, less?, one, one-here, one-other, one-away, one-top, holds, held, held-live, held-ended, waits, waits-parts, Count, stacked, diverted, Walk, grown, joined-held, begun-held, lead-walk, Closing, Left, lives, there, fewer, undivert-walk, undivertAll-walk, Others, done-walk, open-walk, Resting, start-walk, rest-held}
 use Rattle.machine.proofs.Sums.{sum-plus, sum-swap, sum-once}
 
@@ -266,6 +268,17 @@ module _ (t : RegInfo) (f : Function) (c₀ : Cache) where
         held = g .held;
         own = g .own;
       }
+
+  -- what is known of a run that has ended
+  pub record Ended (k : ScratchAllocator) : Type 0 where
+    pub fair : Fair (stacked (k .cache)) (k .edits)
+    pub named : Named Nothing (k .edits) (k .cache .made)
+
+  ended : (k : ScratchAllocator) → Kept Nothing (λ s y. 0) k → Ended (unevictAll t f k)
+  unfolding waits
+  ended k g =
+      let q = all-kept k Nothing (λ s y. 0) g in
+      record { fair = fair-cong _ _ (unevictAll t f k .edits) (λ s z. omega (arith, ap (λ l. waits l s z) (unevict-evicted t f (k .evicted) (withEvicted [] k)))) (q .fair); named = q .named }
 
   -- at most n of each size
   abbrev pub Slack : ℕ → Count → Type 0
@@ -611,3 +624,115 @@ module _ (t : RegInfo) (f : Function) (c₀ : Cache) where
               (all-both (Closing t f c₀ at af ms ok i il calm) (Sparing a) (lead t f ms i (withState i Done w))
               (lead-walk t f c₀ at af ms ok (λ k. k ≡ i) calm i il (withState i Done w) (done-walk t f c₀ at af ms ok i il calm w old)) g)
               (λ w′ q. undivertAll-both (w′ .diverted .values i) w′ refl q)
+
+      abbrev Both : (ℕ → Type 0) → ℕ → ParallelMoves → Type 0
+      Both calm a w = Stands Nothing calm w × Sparing a w
+
+      -- the moves not visited after i is opened
+      abbrev left : ℕ → ParallelMoves → ℕ
+      left i w = live t f (w .diverted) + news n (withState i Pending w .state)
+
+      -- the writers of i, where each visit keeps to what is left
+      writers-both :
+          (fuel i : ℕ) (il : i < n) (w : ParallelMoves) (calm : ℕ → Type 0)
+          → ((calm : ℕ → Type 0) (m : ℕ) (w′ : ParallelMoves) → m < n → Both calm (left i w) w′ → All (Both calm (left i w)) (visit t f ms fuel m w′))
+          → (a : ℕ) → Both calm a w → All (Both (Others t f c₀ at af ms ok i il calm) (left i w)) (each (visit t f ms fuel) (reverse (writers t f ms i)) (withState i Pending w))
+      writers-both fuel i il w calm visits a g =
+          let P = Both (Others t f c₀ at af ms ok i il calm) (left i w) in
+          all-each P (λ m. m < n) (visit t f ms fuel) (λ m w′ ml q. visits (Others t f c₀ at af ms ok i il calm) m w′ ml q) (reverse (writers t f ms i))
+          (every-reverse (λ m. m < n) (writers t f ms i) (writers-low t f ms i)) (withState i Pending w)
+          (open-walk t f c₀ at af ms ok i il calm w (g .0), record { kept = g .1 .kept; room = omega arith; low = g .1 .low })
+
+      -- under an open move
+      visit-both : (fuel a : ℕ) → a ≤ 127 → (calm : ℕ → Type 0) (i : ℕ) (w : ParallelMoves) → i < n → Both calm a w → All (Both calm a) (visit t f ms fuel i w)
+      unfolding visit
+      visit-both zero a al calm i w il g = branch (All (Both calm a)) (isNew (w .state i)) _ _ (λ _. tt) (λ _. g)
+      visit-both (suc fuel) a al calm i w il g =
+          branch (All (Both calm a)) (isNew (w .state i)) _ _
+          (λ e. let fewer : left i w < a = omega (arith, news-open n i (w .state) il e, g .1 .room) in
+          all-then (Both (Others t f c₀ at af ms ok i il calm) (left i w)) (Both calm a) (each (visit t f ms fuel) (reverse (writers t f ms i)) (withState i Pending w)) _
+          (writers-both fuel i il w calm (λ calm m w′. visit-both fuel (left i w) (omega arith) calm m w′) a g)
+          (λ w′ q. close-both a al i il calm w′ (q .0)
+          (lead-sparing a al i il (λ k. k ≡ i) calm (withState i Done w′) (done-walk t f c₀ at af ms ok i il calm w′ (q .0))
+          (record { kept = q .1 .kept; room = omega (arith, q .1 .room, news-close n i (w′ .state)); low = q .1 .low }) (omega arith))))
+          (λ _. g)
+
+      -- no move is open: a root's own value is not diverted
+      abbrev Calm : ℕ → Type 0
+      Calm k = Unit {0}
+
+      root-lead : (a : ℕ) → a ≤ 127 → (i : ℕ) (il : i < n) (w : ParallelMoves) → Closing t f c₀ at af ms ok i il Calm w → Sparing a w → All (Sparing a) (lead t f ms i w)
+      unfolding lead
+      root-lead a al i il w old g =
+          branch (All (Sparing a)) (any (λ m. isPending (w .state m)) (writers t f ms i)) _ _
+          (λ e. absurd (false≢true (sym (any-none (λ m. isPending (w .state m)) (writers t f ms i) (λ k. old .still k tt)) ∙ e))) (λ _. from-source a al i il w g)
+
+      root-both : (fuel i : ℕ) (w : ParallelMoves) → i < n → Both Calm 128 w → All (Both Calm 128) (visit t f ms fuel i w)
+      unfolding visit
+      root-both zero i w il g = branch (All (Both Calm 128)) (isNew (w .state i)) _ _ (λ _. tt) (λ _. g)
+      root-both (suc fuel) i w il g =
+          branch (All (Both Calm 128)) (isNew (w .state i)) _ _
+          (λ e. let fewer : left i w < 128 = omega (arith, news-open n i (w .state) il e, g .1 .room) in
+          let a = left i w in
+          let al : a ≤ 127 = omega arith in
+          all-then (Both (Others t f c₀ at af ms ok i il Calm) a) (Both Calm 128) (each (visit t f ms fuel) (reverse (writers t f ms i)) (withState i Pending w)) _
+          (writers-both fuel i il w Calm (visit-both fuel a al) 128 g)
+          (λ w′ q. all-map (Both Calm a) (Both Calm 128) (close t f ms i w′) (λ w″ r. (r .0, record { kept = r .1 .kept; room = omega (arith, r .1 .room); low = r .1 .low }))
+          (close-both a al i il Calm w′ (q .0)
+          (root-lead a al i il (withState i Done w′) (done-walk t f c₀ at af ms ok i il Calm w′ (q .0))
+          (record { kept = q .1 .kept; room = omega (arith, q .1 .room, news-close n i (w′ .state)); low = q .1 .low })))))
+          (λ _. g)
+
+      first-both : (i : ℕ) (w : ParallelMoves) → i < n → Both Calm 128 w → All (Both Calm 128) (visitUnlessMemory t f ms i w)
+      unfolding visitUnlessMemory
+      first-both i w il g = branch (All (Both Calm 128)) (or (isMemory t (source t f ms i)) (isMemory t (dest t f ms i))) _ _ (λ _. g) (λ _. root-both n i w il g)
+
+      start-both : n ≤ 128 → (k : ScratchAllocator) → Slots.Kept t f c₀ Zero k → Kept Nothing Zero k → Both Calm 128 (start t f ms k)
+      unfolding start live sign
+      start-both few k old g =
+          let s = start-walk t f c₀ at af ms ok k old in (
+            s,
+            record {
+              kept = kept-cong Nothing Zero _ k (λ x y. sym (rest-held t f c₀ at af ms ok (start t f ms k) s x y)) g;
+              room = omega (arith, sum-zero (λ v. 0) (numValues f) (λ v h. refl), news-all n (λ i. New));
+              low = λ v h. absurd (omega arith);
+            },
+          )
+
+      -- what holds at the end of a run
+      moves-ended : n ≤ 128 → (k : ScratchAllocator) → Slots.Kept t f c₀ Zero k → Kept Nothing Zero k → All Ended (moves t f ms k)
+      unfolding moves
+      moves-ended few k old g =
+          all-then (Both Calm 128) Ended (andThen (each (visitUnlessMemory t f ms) (indices 0 n) (start t f ms k)) (each (visit t f ms n) (indices 0 n))) _
+          (all-then (Both Calm 128) (Both Calm 128) (each (visitUnlessMemory t f ms) (indices 0 n) (start t f ms k)) _
+          (all-each (Both Calm 128) (λ i. i < n) (visitUnlessMemory t f ms) first-both (indices 0 n) below (start t f ms k) (start-both few k old g))
+          (λ w p. all-each (Both Calm 128) (λ i. i < n) (visit t f ms n) (root-both n) (indices 0 n) below w p))
+          (λ w p. ended (w .allocator) (kept-cong Nothing (heldBy w) Zero (w .allocator) (rest-held t f c₀ at af ms ok w (p .0)) (p .1 .kept)))
+        where
+          below : Every (λ i. i < n) (indices 0 n)
+          below = every-index n 0 n (omega arith)
+
+    pub run-ended : InStacks f c₀ → Fair (stacked c₀) [] → (p : Patch) (a : Sorted) → SortedOk t f a → length (a .moves) ≤ 128 → All Ended (run t f p a c₀)
+    unfolding run waits
+    run-ended ins fair p a ok few =
+        all-then P Ended (each (rematWithScratch t f) (a .rematsWithScratch) (remats t f (a .remats) k₀)) _
+        (all-each P (RematOk t f false) (rematWithScratch t f)
+        (λ r k q g. all-both (Slots.Kept t f c₀ Zero) (Kept Nothing Zero) (rematWithScratch t f r k) (Slots.scratch-good t f c₀ at af r q Zero k (g .0)) (scratch-kept r q k (g .1))) (a .rematsWithScratch)
+        (every-getD (RematOk t f false) (noRemat t f) (a .rematsWithScratch) (ok .rematsWithScratch)) (remats t f (a .remats) k₀)
+        (Slots.remats-good t f c₀ (a .remats) k₀ Zero (Slots.begin-good t f c₀ at af ins p), remats-kept (a .remats) (every-getD (RematOk t f true) (noRemat t f) (a .remats) (ok .remats)) k₀ begin))
+        (λ k g. moves-ended (a .moves) (ok .moves) few k (g .0) (g .1))
+      where
+        P : ScratchAllocator → Type 0
+        P k = Slots.Kept t f c₀ Zero k × Kept Nothing Zero k
+
+        k₀ : ScratchAllocator
+        k₀ = Slots.begun t f c₀ at af p
+
+        begin : Kept Nothing Zero k₀
+        begin =
+            record {
+              fair = fair-cong (stacked c₀) _ [] (λ s z. omega arith) fair;
+              named = λ s lo hi. absurd (omega arith);
+              held = omega arith;
+              own = tt;
+            }
