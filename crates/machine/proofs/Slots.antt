@@ -635,10 +635,15 @@ slots-empty f =
     record { listed = λ s lo hi. absurd (omega arith); once = λ z. refl; sole = λ s y z a b. absurd (false≢true a); low = λ s z a. absurd (false≢true a); below = λ s z a. absurd (false≢true a) }
 
 -- so it is after every run
+pub run-lies :
+    (t : RegInfo) (f : Function) → target.Accepted t → Banked t f → (p : Patch) (a : Sorted) (c : Cache) (k : ScratchAllocator) → SortedOk t f a → InStacks f c → run t f p a c ≡ some k
+    → InStacks f (k .cache)
+run-lies t f at af p a c k ok ins e = in-stacks t f c ins (k .cache) (subst (All (λ k. Good t f c (stacked (k .cache)) (k .cache .made))) e (run-good t f c at af ins p a ok))
+
 pub run-stacks :
     (t : RegInfo) (f : Function) → target.Accepted t → function.Accepted t f → (p : Patch) (a : Sorted) (c : Cache) (k : ScratchAllocator) → SortedOk t f a → InStacks f c → run t f p a c ≡ some k
     → InStacks f (k .cache)
-run-stacks t f at af p a c k ok ins e = in-stacks t f c ins (k .cache) (subst (All (λ k. Good t f c (stacked (k .cache)) (k .cache .made))) e (run-good t f c at (banked t f af) ins p a ok))
+run-stacks t f at af p a c k ok ins e = run-lies t f at (banked t f af) p a c k ok ins e
 
 -- no stack is deeper than slots were made
 module _ (a : ℕ) where

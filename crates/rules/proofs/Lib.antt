@@ -8,6 +8,7 @@ pub mod Evictions
 pub mod Fuel
 pub mod Trials
 pub mod Accepted
+pub mod Tested
 pub mod Refusals
 pub mod Limit
 pub mod Enough
