@@ -21,6 +21,7 @@ pub mod Whole
 pub mod Slots
 pub mod Sums
 pub mod OwnSize
+pub mod EnoughSlots
 pub mod SlotTrials
 pub mod Demand
 pub mod ArgumentWords

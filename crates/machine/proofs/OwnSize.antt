@@ -98,7 +98,7 @@ either true b h = inl refl
 either false b h = inr h
 
 -- one of the first n passes the test
-any-index : (p : ℕ → Bool) (n i : ℕ) → i < n → p i ≡ true → any p (indices 0 n) ≡ true
+pub any-index : (p : ℕ → Bool) (n i : ℕ) → i < n → p i ≡ true → any p (indices 0 n) ≡ true
 any-index p n i l h = go (any p (indices 0 n)) refl
   where
     go : (b : Bool) → any p (indices 0 n) ≡ b → b ≡ true
