@@ -1,8 +1,8 @@
 -- 02 j: with L enough no call gets 17, and between patches every slot made lies in the stack of its size.
-use Prim.Native.Nat.{ℕ, zero, suc, _+_, _*_, _<_, _≤_}
+use Prim.Native.Nat.{ℕ, zero, suc, _+_, _-_, _*_, _<_, _≤_}
 use mathlib.Core.Path.{_≡_, refl, sym, ap, subst, _∙_}
 use mathlib.Core.Bool.{Bool, true, false, false≢true, or-true}
-use mathlib.Core.List.{List, [], _∷_, _++_, List·Memᴰ, List·Memᴰ·head, List·Memᴰ·tail}
+use mathlib.Core.List.{List, [], _∷_, _++_, List·Memᴰ, List·Memᴰ·head, List·Memᴰ·tail, List·Memᴰ·not-nil}
 use mathlib.Core.Option.{Option, none, some}
 use mathlib.Core.Logic.{_⊎_, inl, inr, ⊎-elim}
 use native.Mathlib.Omega.{arith}
@@ -131,3 +131,144 @@ module _ (t : RegInfo) (f : Function) (at : target.Accepted t) (af : Banked t f)
   ran-ended p a c k ok g e =
       let d : All (Ended t f c) (some k) = subst (All (Ended t f c)) e (run-ended t f c at af (g .ins) (g .fair) p a (ok .ok) (omega (arith, ok .kept, ok .most))) in
       (record { ins = run-lies t f at af p a c k (ok .ok) (g .ins) e; fair = record { few = d .fair .few; sized = d .fair .sized; lies = tt } }, d)
+
+-- the same function with another L
+module _ (t : RegInfo) (f : Function) (l : ℕ) where
+  abbrev F : Function
+  F = withLimit t f l
+
+  tested-within : (a : Sorted) → Tested t f a → Tested t F a
+  unfolding valueBank rematCost rematClass
+  tested-within a g =
+      record {
+        ok =
+            record {
+              moves = λ i h.
+                  let m = g .ok .moves i h in
+                  record { source-named = m .source-named; dest-named = m .dest-named; value-named = m .value-named; source-bank = m .source-bank; dest-bank = m .dest-bank; differ = m .differ };
+              remats = λ i h. let r = g .ok .remats i h in record { dest-named = r .dest-named; value-named = r .value-named; dest-bank = r .dest-bank; can = r .can; in-class = r .in-class };
+              rematsWithScratch = λ i h.
+                  let r = g .ok .rematsWithScratch i h in record { dest-named = r .dest-named; value-named = r .value-named; dest-bank = r .dest-bank; can = r .can; in-class = r .in-class };
+              apart = g .ok .apart;
+              sources = g .ok .sources;
+            };
+        kept = g .kept;
+        most = g .most;
+      }
+
+  steady-within : (at : target.Accepted t) (af : Banked t f) (c : Cache) → Steady t f at af c → Steady t F at (banked-within t f l af) c
+  unfolding valueBank
+  steady-within at af c g =
+      record {
+        ins = record { listed = g .ins .listed; once = g .ins .once; sole = g .ins .sole; low = g .ins .low; below = g .ins .below };
+        fair = record { few = g .fair .few; sized = g .fair .sized; lies = tt };
+      }
+
+  same-sizes : numSizes t F ≡ numSizes t f
+  unfolding valueBank
+  same-sizes = refl
+
+ran-out : (o : Option ScratchAllocator) → answerOf o ≡ refused 17 → o ≡ none
+ran-out none e = refl
+ran-out (some k) e = let z : _≡_ {A = ℕ} 0 1 = cc in absurd (omega arith)
+
+module _ (t : RegInfo) (f : Function) (at : target.Accepted t) (af : function.Accepted t f) where
+  abbrev ab : Banked t f
+  ab = banked t f af
+
+  abbrev Quiet : Cache → Type 0
+  Quiet = Steady t f at ab
+
+  -- with slots enough the run makes no more than `most` of each size
+  never-out : (127 + f .kept) * numSizes t f ≤ f .limit → (p : Patch) (room : ℕ) (c : Cache) → Quiet c → resolve t f p room c ≡ refused 17 → ⊥
+  never-out enough p room c g e =
+      let q = tested t f p room c (refused 17) refl e in
+      let a : Sorted = sorted t f p in
+      let o = only-by-slots t f p a c in
+      let l : ℕ = o .1 .0 in
+      let ab′ : Banked t (withLimit t f l) = banked-within t f l ab in
+      let d = ran-ended t (withLimit t f l) at ab′ p a c (o .0) (tested-within t f l a (q .0)) (steady-within t f l at ab c g) (o .1 .1 l (omega arith)) in
+      let out : f .limit < o .0 .cache .made = o .2 .out .0 (ran-out (run t f p a c) (q .1)) .1 in
+      omega (arith, out, enough, made-few t (withLimit t f l) at ab′ (o .0 .cache) (d .0), ap (λ (n : ℕ). (127 + f .kept) * n) (same-sizes t f l))
+
+  -- after each call
+  module _ (p : Patch) (room : ℕ) (c : Cache) (g : Quiet c) where
+    answered : (r : Answer) → resolve t f p room c ≡ r → Quiet (cacheAfter c r) × Sized t f c r
+    answered (refused n) e = (g, tt)
+    answered (resolved es c′ n) e =
+        let q = tested t f p room c (resolved es c′ n) tt e in
+        let r = accepted t f p room c c′ es n e in
+        let d = ran-ended t f at ab p (sorted t f p) c (r .allocator) (q .0) g (r .ran) in (
+          subst Quiet (sym (r .cache)) (d .0),
+          record {
+            lies = λ x m s low h.
+                occurs-has s (c′ .stacks (editSize t f x))
+                (subst (λ (y : Cache). 0 < occurs s (y .stacks (editSize t f x))) (sym (r .cache))
+                (every-in (Names t f (stacked (r .allocator .cache))) (r .allocator .edits) x (d .1 .fair .lies) (subst (List·Memᴰ x) (r .edits) m) s low h));
+            named = λ s lo hi.
+                let k : s < f .slots + r .allocator .cache .made = subst (λ (y : Cache). s < f .slots + y .made) (r .cache) hi in
+                subst (λ (y : List Edit). any (namesSlot t f s) y ≡ true) (sym (r .edits)) (⊎-elim (λ w. w) (λ w. absurd w) (d .1 .named s lo k));
+          },
+        )
+
+    stay-there : (r : Answer) → resolve t f p room c ≡ r → Stays c (cacheAfter c r)
+    stay-there (refused n) e = λ s z h. h
+    stay-there (resolved es c′ n) e = slots-ok t f at af p room c c′ es (accepted t f p room c c′ es n e) (g .ins) .1
+
+    -- the edits of the call beside those before it
+    beside : (es : List Edit) → Between t f es c → (r : Answer) → resolve t f p room c ≡ r → Between t f (es ++ editsOf t f r) (cacheAfter c r)
+    beside es b (refused n) e =
+        record { once = g .ins; lies = λ x m. ⊎-elim (b .lies x) (λ q. absurd (List·Memᴰ·not-nil q)) (in-either es [] x m); named = λ s lo hi. any-left (namesSlot t f s) es [] (b .named s lo hi) }
+    beside es b (resolved es′ c′ n) e =
+        let q = answered (resolved es′ c′ n) e in
+        let o = q .1 in
+        record {
+          once = q .0 .ins;
+          lies = λ x m s low h. ⊎-elim (λ q. stay-there (resolved es′ c′ n) e s (editSize t f x) (b .lies x q s low h)) (λ q. o .lies x q s low h) (in-either es es′ x m);
+          named = λ s lo hi.
+              ⊎-elim (λ q. any-left (namesSlot t f s) es es′ (b .named s lo q)) (λ q. any-right (namesSlot t f s) es es′ (o .named s q hi)) (less? s (f .slots + c .made));
+        }
+
+  fresh : Quiet emptyCache
+  unfolding occurs
+  fresh = record { ins = slots-empty f; fair = record { few = λ m z. omega (arith, sum-zero (λ s. 0) m (λ s h. refl)); sized = λ s z h. absurd (omega arith); lies = tt } }
+
+  never : (127 + f .kept) * numSizes t f ≤ f .limit → (calls : List Call) (c : Cache) → Quiet c → NeverOut t f calls c
+  never enough [] c g = tt
+  never enough (x ∷ l) c g =
+      (never-out enough (x .patch) (x .room) c g, never enough l (cacheAfter c (resolve t f (x .patch) (x .room) c)) (answered (x .patch) (x .room) c g (resolve t f (x .patch) (x .room) c) refl .0))
+
+  sizes : (calls : List Call) (es : List Edit) (c : Cache) → Quiet c → Between t f es c → SizesClaim t f calls es c
+  sizes [] es c g b = b
+  sizes (x ∷ l) es c g b =
+      let r : Answer = resolve t f (x .patch) (x .room) c in
+      let q = answered (x .patch) (x .room) c g r refl in
+      (b, q .1, sizes l (es ++ editsOf t f r) (cacheAfter c r) (q .0) (beside (x .patch) (x .room) c g es b r refl))
+
+pub each-of-its-size : EachOfItsSize
+each-of-its-size t f at af calls =
+    sizes t f at af calls [] emptyCache (fresh t f at af) (record { once = slots-empty f; lies = λ e m. absurd (List·Memᴰ·not-nil m); named = λ s lo hi. absurd (omega arith) })
+
+pub fewer-enough : FewerEnough
+fewer-enough t f at af enough calls = never t f at af enough calls emptyCache (fresh t f at af)
+
+pub enough : Enough
+enough t f at af h calls = fewer-enough t f at af (omega arith) calls
+
+-- the sizes of the function's banks are among those of the target's
+sizes-le : (p q : ℕ → Bool) → ((z : ℕ) → p z ≡ true → q z ≡ true) → sizesThat p ≤ sizesThat q
+unfolding sizesThat
+sizes-le p q h = omega (arith, filtered p 32, filtered q 32, sum-le (λ z. bit (p z)) (λ z. bit (q z)) 32 (λ z l. bit-le (p z) (q z) (h z)))
+
+bank-size : (t : RegInfo) (f : Function) → Banked t f → (z : ℕ) → isSize t f z ≡ true → isBankSize t z ≡ true
+bank-size t f af z h =
+    let q = any-some (λ v. eqb (spillslotSize t (valueBank f v)) z) (numValues f) h in
+    any-index (λ b. eqb (spillslotSize t b) z) (numBanks t) (valueBank f (q .0)) (af .bank (q .0) (q .1)) (q .2)
+
+times-le : (b x y : ℕ) → x ≤ y → b * x ≤ b * y
+times-le b x y h =
+    let d : ℕ = y - x in
+    let e : y ≡ x + d = omega arith in rw e (omega arith)
+
+pub enough-for-target : EnoughForTarget
+enough-for-target t f at af h calls = enough t f at af (omega (arith, times-le (128 + f .kept) (numSizes t f) (numBankSizes t) (sizes-le (isSize t f) (isBankSize t) (bank-size t f (banked t f af))))) calls

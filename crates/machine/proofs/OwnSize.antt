@@ -227,11 +227,10 @@ module _ (t : RegInfo) (f : Function) where
         unevict-back l k ex (λ s z. one (e .slot) (e .size) s z + extra s z) (o .1) (fair-cong _ _ (k .edits) (λ s z. omega arith) g) n in
         let i : Edit = EmergencySpill (e .slot) (e .reg) in
         let h : Names (λ s z. stacked (u .cache) s z + (waits (u .evicted) s z + (one (e .slot) (e .size) s z + extra s z))) i =
-        λ s low q. omega (arith, one-here (e .slot) (e .size) s (spillslotSize t (bankForReg t (e .reg))) (sym (eqb-true (e .slot) s q)) (sym (o .0))) in
-        (
+        λ s low q. omega (arith, one-here (e .slot) (e .size) s (spillslotSize t (bankForReg t (e .reg))) (sym (eqb-true (e .slot) s q)) (sym (o .0))) in (
           release-fair (e .size) (e .slot) (u .cache) (λ s z. waits (u .evicted) s z + extra s z) (i ∷ u .edits)
-          (fair-cong (λ s z. stacked (u .cache) s z + (waits (u .evicted) s z + (one (e .slot) (e .size) s z + extra s z))) _ (i ∷ u .edits) (λ s z. omega arith)
-          (record { few = r .0 .few; sized = r .0 .sized; lies = (h, r .0 .lies) })),
+              (fair-cong (λ s z. stacked (u .cache) s z + (waits (u .evicted) s z + (one (e .slot) (e .size) s z + extra s z))) _ (i ∷ u .edits) (λ s z. omega arith)
+              (record { few = r .0 .few; sized = r .0 .sized; lies = (h, r .0 .lies) })),
           named-push ex ex i (u .edits) (u .cache .made) (λ s q. inr q) (r .1),
         )
 

@@ -14,6 +14,7 @@ use Rattle.function.specs.Refused as function
 use Rattle.rules.specs.Edit.{Edit, Move, Rematerialize, EmergencySpill, EmergencyReload, filter}
 use Rattle.rules.specs.Scratch.{Cache, emptyCache}
 use Rattle.rules.specs.Patch.{Answer, refused, resolved, resolve, Call, cacheAfter}
+use Rattle.machine.specs.Slots.{InStacks}
 
 -- how many of the 32 slot sizes pass a test
 unfoldable pub sizesThat : (ℕ → Bool) → ℕ
@@ -73,10 +74,14 @@ module _ (t : RegInfo) (f : Function) where
   editsOf (refused n) = []
   editsOf (resolved es c n) = es
 
-  -- "between patches every slot made lies in the stack of its size": `es` are the edits of all calls so far. A slot's size is that of the bank
-  -- of the edits that name it. That it lies there once, and in no other stack, is `InStacks` of Slots.
+  -- "between patches every slot made lies in the stack of its size once": `es` are the edits of all calls so far. A slot's size is that of the
+  -- bank of the edits that name it.
   pub record Between (es : List Edit) (c : Cache) : Type 0 where
+    -- in exactly one stack, once
+    pub once : InStacks f c
+    -- and in that of its size
     pub lies : InTheirStacks es c
+    -- an edit names each
     pub named : (s : ℕ) → f .slots ≤ s → s < f .slots + c .made → any (namesSlot s) es ≡ true
 
   abbrev pub SizesClaim : List Call → List Edit → Cache → Type 0
