@@ -10,7 +10,7 @@ use Rattle.rules.specs.Scratch.{acquireFrom, unevict, unevictBut, unevictForReg
 use Rattle.rules.specs.Order.{carryOne, carry, remats, rematWithScratch, writerFrom, writersOf, writers, cycleMoveSources, divert, lead, undivert, undivertAll, close, visit, visitUnlessMemory, start, moves}
 use Rattle.rules.specs.Patch.{destinations, add, entryConditions, patchConditions, run, resolveSorted, resolveFrom, resolve}
 use Rattle.machine.specs.Enough.{sizesThat}
-use Rattle.machine.specs.SlotTrials.{pairs, SlotTrials}
+use Rattle.machine.specs.SlotTrials.{pairs, fan, SlotTrials, FanTrials}
 
 pub slot-trials : SlotTrials
 unfolding any all has meets lastOr indices spillslotSize topLevelClass stackToStackClass regMemory bankForReg regUnits bankForClass classSlots classMembers allocationOrder firstOf valueBank rematCost rematClass updated andThen each find firstAt filter acquireFrom unevict unevictBut unevictForReg makeRoom slotScratch evictLast reuse orScratch getScratchReg moveEdits doMove carryOne carry remats rematWithScratch writerFrom writersOf writers cycleMoveSources divert lead undivert undivertAll close visit visitUnlessMemory start moves destinations add entryConditions patchConditions run resolveSorted resolveFrom resolve orderTotal countsFit bankFits regFits classFits outsideLimits listedTwice unequalWidths foreignMember sharedMemory unfitClass targetRefusal twice isSetting function.countsFit function.valueFits function.foreignClass function.valuesRefusal function.functionRefusal sizesThat pairs
@@ -23,3 +23,7 @@ slot-trials =
       one-size = refl;
       counted = (refl, refl, refl, refl);
     }
+
+pub fan-trials : FanTrials
+unfolding any all has meets lastOr indices spillslotSize topLevelClass stackToStackClass regMemory bankForReg regUnits bankForClass classSlots classMembers allocationOrder firstOf valueBank rematCost rematClass updated andThen each find firstAt filter acquireFrom unevict unevictBut unevictForReg makeRoom slotScratch evictLast reuse orScratch getScratchReg moveEdits doMove carryOne carry remats rematWithScratch writerFrom writersOf writers cycleMoveSources divert lead undivert undivertAll close visit visitUnlessMemory start moves destinations add entryConditions patchConditions run resolveSorted resolveFrom resolve orderTotal countsFit bankFits regFits classFits outsideLimits listedTwice unequalWidths foreignMember sharedMemory unfitClass targetRefusal twice isSetting function.countsFit function.valueFits function.foreignClass function.valuesRefusal function.functionRefusal sizesThat fan
+fan-trials = record { target = refl; function = refl; both-banks = refl; two-kept = refl; not-for-both = refl; one-fewer = refl; counted = refl }

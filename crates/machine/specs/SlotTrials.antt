@@ -1,16 +1,16 @@
 -- 02 j: how many slots the calls of a function make.
-use Prim.Native.Nat.{ℕ}
+use Prim.Native.Nat.{ℕ, _+_, _-_, _*_, _/_, _%_}
 use mathlib.Core.Path.{_≡_}
-use mathlib.Core.List.{List, [], _∷_}
+use mathlib.Core.List.{List, [], _∷_, _++_, map}
 use Rattle.entity.specs.Logic.{indices}
 use Rattle.entity.specs.Place.{reg}
-use Rattle.reginfo.specs.RegInfo.{RegInfo}
+use Rattle.reginfo.specs.RegInfo.{Reg, RegInfo}
 use Rattle.reginfo.specs.Refused as target
 use Rattle.function.specs.Function.{Function}
 use Rattle.function.specs.Refused as function
 use Rattle.rules.specs.Scratch.{Cache, emptyCache}
 use Rattle.rules.specs.Patch.{Entry, move, Answer, refused, resolved, resolve, cacheAfter}
-use Rattle.rules.specs.Trials.{single, patch, fixed, over, keeping, ofBankOne}
+use Rattle.rules.specs.Trials.{single, patch, fixed, over, keeping, regOf, slotsOf, soleOf, ofBankOne}
 use Rattle.machine.specs.Enough.{numSizes, numBankSizes}
 
 -- the number that a call was refused with, 0 if none, and the slots made so far
@@ -66,6 +66,42 @@ exchange r q v w = move (reg r) (reg q) v ∷ move (reg q) (reg r) w ∷ []
 abbrev pub exchanges : List (List Entry)
 exchanges = exchange 0 1 0 1 ∷ exchange 6 7 2 3 ∷ exchange 0 1 0 1 ∷ []
 
+-- a fan: D and m registers S have w units each. S0 goes to D, and each later S to a T, which has the first unit of the S before it and w - 1 of
+-- its own. From D's first unit a value of its own goes to each unit behind the first of each S, the leaves. All leaves are diverted before D is
+-- written. Two banks of leaves, with slots of sizes 3 and 4.
+module _ (w m : ℕ) where
+  abbrev pub numLeaves : ℕ
+  numLeaves = m * (w - 1)
+
+  -- D's first unit and the leaves
+  abbrev pub leaves : ℕ → List Reg
+  leaves b = regOf b (0 ∷ []) ∷ map (λ k. regOf b ((w + 1 + k / (w - 1) * w + k % (w - 1)) ∷ [])) (indices 0 numLeaves)
+
+  unfoldable pub fan : RegInfo
+  fan =
+      record {
+        units = w * (m + 1) + (w - 1) * (m - 1);
+        banks = record { size = 3; top = 0; stack = 1 } ∷ record { size = 3; top = 2; stack = 3 } ∷ record { size = 4; top = 4; stack = 5 } ∷ [];
+        regs =
+            map (λ j. regOf 0 (indices (j * w) w)) (indices 0 (m + 1))
+            ++ (map (λ j. regOf 0 ((w + j * w) ∷ indices (w * (m + 1) + j * (w - 1)) (w - 1))) (indices 0 (m - 1)) ++ (leaves 1 ++ leaves 2));
+        classes = slotsOf 0 ∷ soleOf 0 0 ∷ slotsOf 1 ∷ soleOf 1 (2 * m) ∷ slotsOf 2 ∷ soleOf 2 (2 * m + 1 + numLeaves) ∷ [];
+      }
+
+  -- a value for each S and for each leaf of both banks
+  abbrev pub ofFan : ℕ → Function
+  ofFan l = over (map (λ k. fixed 0) (indices 0 m) ++ (map (λ k. fixed 1) (indices 0 numLeaves) ++ map (λ k. fixed 2) (indices 0 numLeaves))) 0 l
+
+  -- the leaves from register r, the values from v
+  abbrev pub fanned : ℕ → ℕ → List Entry
+  fanned r v =
+      move (reg 1) (reg 0) 0
+      ∷ (map (λ j. move (reg (2 + j)) (reg (m + 1 + j)) (1 + j)) (indices 0 (m - 1)) ++ map (λ k. move (reg r) (reg (r + 1 + k)) (v + k)) (indices 0 numLeaves))
+
+  -- a patch for each bank of leaves
+  abbrev pub fans : List (List Entry)
+  fans = fanned (2 * m) m ∷ fanned (2 * m + 1 + numLeaves) (m + numLeaves) ∷ []
+
 pub record SlotTrials : Type 0 where
   pub targets : target.Accepted (pairs 2 3) × target.Accepted (pairs 2 2)
   pub functions : function.Accepted (pairs 2 3) (ofBoth 2) × function.Accepted (pairs 2 3) (keeping 2 (ofBoth 2))
@@ -76,3 +112,14 @@ pub record SlotTrials : Type 0 where
   pub one-size : outcomes (pairs 2 2) (ofBoth 1) exchanges ≡ makes 1 ∷ makes 1 ∷ makes 1 ∷ []
   -- "different slot sizes among its banks"
   pub counted : (numSizes (pairs 2 3) (ofBoth 2) ≡ 2) × (numSizes (pairs 2 2) (ofBoth 2) ≡ 1) × (numSizes (pairs 2 3) (ofFirst 2) ≡ 1) × (numBankSizes (pairs 2 3) ≡ 2)
+
+-- of each size a slot for every leaf; with 8 and 16 it is 112 of each, by 128 entries
+pub record FanTrials : Type 0 where
+  pub target : target.Accepted (fan 4 4)
+  pub function : function.Accepted (fan 4 4) (ofFan 4 4 24)
+  pub both-banks : outcomes (fan 4 4) (ofFan 4 4 24) (fans 4 4) ≡ makes 12 ∷ makes 24 ∷ []
+  pub two-kept : outcomes (fan 4 4) (keeping 2 (ofFan 4 4 24)) (fans 4 4) ≡ makes 12 ∷ makes 24 ∷ []
+  -- enough for one size alone
+  pub not-for-both : outcomes (fan 4 4) (ofFan 4 4 23) (fans 4 4) ≡ makes 12 ∷ out 12 ∷ []
+  pub one-fewer : outcomes (fan 4 4) (ofFan 4 4 11) (fans 4 4) ≡ out 0 ∷ out 0 ∷ []
+  pub counted : numSizes (fan 4 4) (ofFan 4 4 24) ≡ 2
