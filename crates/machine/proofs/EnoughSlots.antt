@@ -7,29 +7,26 @@ use mathlib.Core.Option.{Option, none, some}
 use mathlib.Core.Logic.{_⊎_, inl, inr, ⊎-elim}
 use native.Mathlib.Omega.{arith}
 use lib.Dec.{eqb}
-use lib.ListN.{length, getD}
 use borrow.Author.Tests.{eqb-true}
-use Rattle.entity.specs.Logic.{or, any, has, indices}
-use Rattle.entity.proofs.Laws.{never-true}
+use Rattle.entity.specs.Logic.{or, any, indices}
 use Rattle.reginfo.specs.RegInfo.{RegInfo, numBanks, spillslotSize}
 use Rattle.reginfo.specs.Refused as target
 use Rattle.reginfo.proofs.Accepted.{size-fits}
 use Rattle.function.specs.Function.{Function, numValues, valueBank, rematCost, rematClass}
 use Rattle.function.specs.Refused as function
-use Rattle.rules.specs.Edit.{Edit, filter}
+use Rattle.rules.specs.Edit.{Edit}
 use Rattle.rules.specs.Scratch.{Cache, emptyCache, ScratchAllocator}
 use Rattle.rules.specs.Patch.{Patch, Sorted, sorted, run, Answer, refused, resolved, answerOf, resolve, Call, cacheAfter}
-use Rattle.rules.specs.Sorted.{MoveOk, RematOk, SortedOk, Ran}
 use Rattle.rules.specs.Refusals.{withLimit}
 use Rattle.rules.specs.Counts.{bit, sum}
-use Rattle.rules.proofs.Sum.{bit-yes, bit-le, sum-le, sum-ones, sum-part, sum-zero}
+use Rattle.rules.proofs.Sum.{bit-le, sum-le, sum-ones, sum-part, sum-zero}
 use Rattle.rules.proofs.Steps.{All, Every}
 use Rattle.rules.proofs.Accepted.{accepted}
 use Rattle.rules.proofs.Tested.{Tested, tested}
 use Rattle.rules.proofs.Enough.{only-by-slots}
 use Rattle.machine.specs.Paid.{occurs}
 use Rattle.machine.specs.Slots.{InStacks, Stays}
-use Rattle.machine.specs.Enough.{sizesThat, isSize, numSizes, isBankSize, numBankSizes, NeverOut, editSize, namesSlot, InTheirStacks, OfItsSize, Sized, editsOf, Between, SizesClaim, EachOfItsSize, EnoughWith, Enough, FewerEnough, EnoughForTarget}
+use Rattle.machine.specs.Enough.{sizesThat, isSize, numSizes, isBankSize, numBankSizes, NeverOut, editSize, namesSlot, Sized, editsOf, Between, SizesClaim, EachOfItsSize, Enough, FewerEnough, EnoughForTarget}
 use Rattle.machine.proofs.Diversions.{has-occurs}
 use Rattle.machine.proofs.Banked.{Banked, banked, banked-within}
 use Rattle.machine.proofs.Slots.{less?, occurs-has, stacked, slots-empty, run-lies, slots-ok}

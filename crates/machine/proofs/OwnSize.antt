@@ -9,32 +9,32 @@ use native.Mathlib.Omega.{arith}
 use lib.Dec.{eqb, ltb}
 use lib.ListN.{length, getD, take, drop}
 use borrow.Author.Tests.{eq-eqb, eqb-true, eqb-false, ltb-true}
-use Rattle.entity.specs.Logic.{pick, and, or, no, any, has, indices}
+use Rattle.entity.specs.Logic.{and, or, no, any, has, indices}
 use Rattle.entity.proofs.Laws.{any-below}
 use Rattle.entity.specs.Place.{Place, reg, slot, samePlace, names}
-use Rattle.reginfo.specs.RegInfo.{RegInfo, numBanks, numRegs, numClasses, bankForReg, bankForClass, allocationOrder, classMembers, includesSpillslots, lastInOrder, isMemory, spillslotSize, topLevelClass, stackToStackClass}
+use Rattle.reginfo.specs.RegInfo.{RegInfo, numBanks, numClasses, bankForReg, bankForClass, allocationOrder, classMembers, includesSpillslots, lastInOrder, isMemory, spillslotSize, topLevelClass, stackToStackClass}
 use Rattle.reginfo.specs.Refused as target
-use Rattle.reginfo.proofs.Accepted.{stack-slots, top-slots, stack-bank, top-bank, stack-fits, top-fits, last-ordered, order-member, member-bank}
+use Rattle.reginfo.proofs.Accepted.{stack-slots, stack-bank, top-bank, stack-fits, top-fits, last-ordered, order-member, member-bank}
 use Rattle.function.specs.Function.{Function, numValues, valueBank, rematClass}
-use Rattle.rules.specs.Edit.{Edit, Move, Rematerialize, EmergencySpill, EmergencyReload, updated, andThen, each, find, filter}
-use Rattle.rules.specs.Scratch.{Cache, Evicted, ScratchAllocator, Acquired, push, withAvailable, withEvicted, Found, unevict, unevictAll, unevictBut, overlapsEvicted, unevictForReg, makeRoom, acquireFrom, acquire, release, releasePlace, usable, slotScratch, evictLast, reuse, orScratch, getScratchReg, nothingBarred, moveEdits, doMove, meeting, searchedTo}
-use Rattle.rules.specs.Order.{KeptMove, noMove, Remat, State, New, Pending, Done, isNew, isPending, Diverted, ParallelMoves, withState, carry, remats, doRemat, rematWithScratch, source, dest, value, bank, writers, cycleMoveSources, emit, noted, divert, carried, lead, lost, undivert, undivertAll, close, visit, visitUnlessMemory, start, moves}
+use Rattle.rules.specs.Edit.{Edit, Move, Rematerialize, EmergencySpill, EmergencyReload, andThen, each, find, filter}
+use Rattle.rules.specs.Scratch.{Cache, Evicted, ScratchAllocator, Acquired, push, withEvicted, Found, unevict, unevictAll, unevictBut, overlapsEvicted, unevictForReg, makeRoom, acquireFrom, acquire, release, releasePlace, usable, slotScratch, evictLast, reuse, orScratch, getScratchReg, nothingBarred, moveEdits, doMove, meeting, searchedTo}
+use Rattle.rules.specs.Order.{KeptMove, noMove, Remat, New, Pending, Done, isNew, isPending, Diverted, ParallelMoves, withState, remats, doRemat, rematWithScratch, source, dest, value, bank, writers, cycleMoveSources, emit, noted, divert, carried, lead, lost, undivert, undivertAll, close, visit, visitUnlessMemory, start, moves}
 use Rattle.rules.specs.Patch.{Patch, Sorted, namesPlace, run}
 use Rattle.rules.specs.Sorted.{MoveOk, RematOk, noRemat, SortedOk}
 use Rattle.rules.specs.Counts.{sum, news}
 use Rattle.rules.proofs.Parts.{Parts, every-picked, all-parts, filter-parts, drop-parts, parts-length}
 use Rattle.rules.proofs.Evictions.{unevict-evicted, room-few}
-use Rattle.rules.proofs.Steps.{All, all-then, all-map, branch, same?, Every, every-getD, every-map, every-reverse, every-index, all-each, updated-at, updated-same, updated-other}
+use Rattle.rules.proofs.Steps.{All, all-then, all-map, branch, same?, Every, every-getD, every-map, every-reverse, every-index, all-each, updated-at, updated-same}
 use Rattle.rules.proofs.News.{news-all, news-open, news-close}
 use Rattle.rules.proofs.Writers.{writers-low}
 use Rattle.rules.proofs.Sum.{sum-le, sum-part, sum-zero}
 use Rattle.machine.specs.Paid.{occurs, sign, live}
 use Rattle.machine.specs.Slots.{InStacks}
 use Rattle.machine.specs.Enough.{isSize, editSize, namesSlot}
-use Rattle.machine.proofs.Bound.{Placed, sign-pos, live-grown, live-kept}
+use Rattle.machine.proofs.Bound.{Placed, live-grown, live-kept}
 use Rattle.machine.proofs.Banked.{Banked}
 use Rattle.machine.proofs.Slots as Slots
-use Rattle.machine.proofs.Slots.{positive, less?, one, one-here, one-other, one-away, one-top, holds, held, held-live, held-ended, waits, waits-parts, Count, stacked, diverted, Walk, grown, joined-held, begun-held, lead-walk, Closing, Left, lives, there, fewer, undivert-walk, undivertAll-walk, Others, done-walk, open-walk, Resting, start-walk, rest-held}
+use Rattle.machine.proofs.Slots.{positive, less?, one, one-here, one-other, one-away, one-top, holds, held, held-live, held-ended, waits, waits-parts, Count, stacked, diverted, Walk, grown, joined-held, begun-held, lead-walk, Closing, Left, lives, there, fewer, undivert-walk, undivertAll-walk, Others, done-walk, open-walk, start-walk, rest-held}
 use Rattle.machine.proofs.Sums.{sum-plus, sum-swap, sum-once}
 
 -- both hold of a result

@@ -6,7 +6,7 @@ use mathlib.Core.List.{List, [], _∷_, _++_, List·Memᴰ}
 use lib.Dec.{eqb}
 use lib.ListN.{length}
 use Rattle.entity.specs.Logic.{or, any, has, indices}
-use Rattle.entity.specs.Place.{Place, slot, samePlace}
+use Rattle.entity.specs.Place.{slot, samePlace}
 use Rattle.reginfo.specs.RegInfo.{RegInfo, numBanks, bankForReg, spillslotSize}
 use Rattle.reginfo.specs.Refused as target
 use Rattle.function.specs.Function.{Function, numValues, valueBank}

@@ -1,21 +1,18 @@
 -- What is known of a call that is not refused before its run: every test was passed, and at most 128 moves are kept.
-use Prim.Native.Nat.{ℕ, suc, _+_, _<_, _≤_}
+use Prim.Native.Nat.{ℕ, suc, _<_, _≤_}
 use mathlib.Core.Path.{_≡_, refl, sym, subst}
 use mathlib.Core.Bool.{Bool, true, false}
-use mathlib.Core.List.{List, [], _∷_, _++_}
+use mathlib.Core.List.{List, [], _∷_}
 use mathlib.Core.Option.{Option, none, some}
 use native.Mathlib.Omega.{arith}
-use lib.Dec.{leb}
 use lib.ListN.{length, length-append}
 use borrow.Author.Tests.{leb-false}
-use Rattle.entity.specs.Logic.{pick}
 use Rattle.entity.specs.Place.{Place}
 use Rattle.reginfo.specs.RegInfo.{RegInfo}
 use Rattle.reginfo.specs.Refused.{Condition, orElse, firstOf}
 use Rattle.reginfo.proofs.First.{first-none}
 use Rattle.function.specs.Function.{Function}
-use Rattle.rules.specs.Scratch.{Cache, ScratchAllocator}
-use Rattle.rules.specs.Order.{KeptMove}
+use Rattle.rules.specs.Scratch.{Cache}
 use Rattle.rules.specs.Patch.{Entry, move, remat, Patch, Sorted, nothingSorted, destinations, Answer, refused, resolved, answerOf, unlessRefused, becomesRemat, needsScratch, dropped, addRemat, addKept, add, sortedFrom, sorted, entryConditions, patchConditions, run, resolveSorted, resolveFrom, resolve}
 use Rattle.rules.specs.Sorted.{SortedOk}
 use Rattle.rules.proofs.Steps.{Every, branch}
