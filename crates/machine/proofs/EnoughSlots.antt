@@ -7,30 +7,31 @@ use mathlib.Core.Option.{Option, none, some}
 use mathlib.Core.Logic.{_⊎_, inl, inr, ⊎-elim}
 use native.Mathlib.Omega.{arith}
 use lib.Dec.{eqb}
-use borrow.Author.Tests.{eqb-true}
+use borrow.Author.Tests.{ne-eqb, eqb-true, le-leb}
 use Rattle.entity.specs.Logic.{or, any, indices}
 use Rattle.reginfo.specs.RegInfo.{RegInfo, numBanks, spillslotSize}
 use Rattle.reginfo.specs.Refused as target
-use Rattle.reginfo.proofs.Accepted.{size-fits}
-use Rattle.function.specs.Function.{Function, numValues, valueBank, rematCost, rematClass}
+use Rattle.reginfo.proofs.Accepted.{banks-fit, size-fits}
+use Rattle.function.specs.Function.{Function, numValues, valueBank, rematCost, rematClass, isSetting}
 use Rattle.function.specs.Refused as function
+use Rattle.function.proofs.Laws.{one-or-two, few-values, few-slots, low-limit, values-left}
 use Rattle.rules.specs.Edit.{Edit}
 use Rattle.rules.specs.Scratch.{Cache, emptyCache, ScratchAllocator}
 use Rattle.rules.specs.Patch.{Patch, Sorted, sorted, run, Answer, refused, resolved, answerOf, resolve, Call, cacheAfter}
 use Rattle.rules.specs.Refusals.{withLimit}
 use Rattle.rules.specs.Counts.{bit, sum}
-use Rattle.rules.proofs.Sum.{bit-le, sum-le, sum-ones, sum-part, sum-zero}
+use Rattle.rules.proofs.Sum.{bit-yes, bit-le, sum-le, sum-ones, sum-part, sum-zero}
 use Rattle.rules.proofs.Steps.{All, Every}
 use Rattle.rules.proofs.Accepted.{accepted}
 use Rattle.rules.proofs.Tested.{Tested, tested}
 use Rattle.rules.proofs.Enough.{only-by-slots}
 use Rattle.machine.specs.Paid.{occurs}
 use Rattle.machine.specs.Slots.{InStacks, Stays}
-use Rattle.machine.specs.Enough.{sizesThat, isSize, numSizes, isBankSize, numBankSizes, NeverOut, editSize, namesSlot, Sized, editsOf, Between, SizesClaim, EachOfItsSize, Enough, FewerEnough, EnoughForTarget}
+use Rattle.machine.specs.Enough.{sizesThat, isSize, numSizes, isBankSize, numBankSizes, NeverOut, editSize, namesSlot, Sized, editsOf, Between, SizesClaim, EachOfItsSize, Enough, FewerEnough, EnoughForTarget, enoughSlots, planned, Plan}
 use Rattle.machine.proofs.Diversions.{has-occurs}
 use Rattle.machine.proofs.Banked.{Banked, banked, banked-within}
 use Rattle.machine.proofs.Slots.{less?, occurs-has, stacked, slots-empty, run-lies, slots-ok}
-use Rattle.machine.proofs.Sums.{sum-swap, sum-times, filtered}
+use Rattle.machine.proofs.Sums.{sum-swap, sum-once, sum-times, filtered}
 use Rattle.machine.proofs.OwnSize.{any-index, Names, Fair, Ended, run-ended}
 
 -- a number that passes the test
@@ -269,3 +270,62 @@ times-le b x y h =
 
 pub enough-for-target : EnoughForTarget
 enough-for-target t f at af h calls = enough t f at af (omega (arith, times-le (128 + f .kept) (numSizes t f) (numBankSizes t) (sizes-le (isSize t f) (isBankSize t) (bank-size t f (banked t f af))))) calls
+
+-- no more sizes than banks
+sizes-few : (t : RegInfo) → numBankSizes t ≤ numBanks t
+unfolding sizesThat bit
+sizes-few t =
+    let n : ℕ = numBanks t in
+    omega (
+      arith,
+      filtered (isBankSize t) 32,
+      sum-le (λ z. bit (isBankSize t z)) (λ z. sum (λ b. bit (eqb (spillslotSize t b) z)) n) 32 (λ z l. found z),
+      sum-swap (λ z b. bit (eqb (spillslotSize t b) z)) 32 n,
+      sum-le (λ b. sum (λ z. bit (eqb (spillslotSize t b) z)) 32) (λ b. 1) n (λ b l. once (spillslotSize t b)),
+      sum-ones n,
+    )
+  where
+    found : (z : ℕ) → bit (isBankSize t z) ≤ sum (λ b. bit (eqb (spillslotSize t b) z)) (numBanks t)
+    found z = go (isBankSize t z) refl
+      where
+        go : (a : Bool) → isBankSize t z ≡ a → bit a ≤ sum (λ b. bit (eqb (spillslotSize t b) z)) (numBanks t)
+        go true e =
+            let q = any-some (λ b. eqb (spillslotSize t b) z) (numBanks t) e in
+            omega (arith, sum-part (λ b. bit (eqb (spillslotSize t b) z)) (numBanks t) (q .0) (q .1), bit-yes (eqb (spillslotSize t (q .0)) z) (q .2))
+        go false e = omega arith
+
+    once : (y : ℕ) → sum (λ z. bit (eqb y z)) 32 ≤ 1
+    once y = sum-once (λ z. bit (eqb y z)) y 32 (bit-le (eqb y y) true (λ _. refl)) (λ z d. rw (ne-eqb y z (λ e. d (sym e))) refl)
+
+-- another L within 01's limit
+counts-fit : (f : Function) → numValues f ≤ 4096 → f .slots ≤ 4096 → f .limit ≤ 2048 → function.countsFit f ≡ true
+unfolding function.countsFit
+counts-fit f a b c = rw (le-leb (numValues f) 4096 a, le-leb (f .slots) 4096 b, le-leb (f .limit) 2048 c)
+
+setting-fits : (t : RegInfo) (f : Function) → function.Accepted t f → isSetting (f .kept) ≡ true
+unfolding isSetting
+setting-fits t f af = ⊎-elim (λ e. rw e) (λ e. rw e) (one-or-two t f af)
+
+same-values : (t : RegInfo) (f : Function) (l : ℕ) (vs : List ℕ) → function.valuesRefusal t (withLimit t f l) vs ≡ function.valuesRefusal t f vs
+unfolding function.valuesRefusal function.valueFits function.foreignClass valueBank rematCost rematClass
+same-values t f l [] = refl
+same-values t f l (v ∷ vs) = rw (same-values t f l vs)
+
+pub accepted-within : (t : RegInfo) (f : Function) (l : ℕ) → function.Accepted t f → l ≤ 2048 → function.Accepted t (withLimit t f l)
+accepted-within t f l af h =
+    let s = setting-fits t f af in
+    values-left t (withLimit t f l) (counts-fit (withLimit t f l) (few-values t f af) (few-slots t f af) h) s
+    ∙ same-values t f l (indices 0 (numValues f))
+    ∙ sym (values-left t f (counts-fit f (few-values t f af) (few-slots t f af) (low-limit t f af)) s)
+    ∙ af
+
+pub plan : Plan
+unfolding valueBank
+plan t f at af =
+    let n : numSizes t f ≤ 8 = omega (arith, sizes-le (isSize t f) (isBankSize t) (bank-size t f (banked t f af)), sizes-few t, banks-fit t at .1) in
+    let e : enoughSlots t f ≤ 1040 = ⊎-elim (λ k. rw k (omega arith)) (λ k. rw k (omega arith)) (one-or-two t f af) in
+    let a : function.Accepted t (planned t f) = accepted-within t f (enoughSlots t f) af (omega arith) in (
+      e,
+      a,
+      enough t (planned t f) at a (omega (arith, ap (λ (n : ℕ). (128 + f .kept) * n) (same-sizes t f (enoughSlots t f)))),
+    )

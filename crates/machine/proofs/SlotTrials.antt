@@ -22,6 +22,7 @@ slot-trials =
       one-slot = refl;
       one-size = refl;
       counted = (refl, refl, refl, refl);
+      planned = (refl, refl, refl);
     }
 
 pub fan-trials : FanTrials

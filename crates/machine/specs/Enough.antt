@@ -14,6 +14,7 @@ use Rattle.function.specs.Refused as function
 use Rattle.rules.specs.Edit.{Edit, Move, Rematerialize, EmergencySpill, EmergencyReload, filter}
 use Rattle.rules.specs.Scratch.{Cache, emptyCache}
 use Rattle.rules.specs.Patch.{Answer, refused, resolved, resolve, Call, cacheAfter}
+use Rattle.rules.specs.Refusals.{withLimit}
 use Rattle.machine.specs.Slots.{InStacks}
 
 -- how many of the 32 slot sizes pass a test
@@ -111,3 +112,15 @@ FewerEnough = EnoughWith 127
 abbrev pub EnoughForTarget : Type 0
 EnoughForTarget =
     (t : RegInfo) (f : Function) → target.Accepted t → function.Accepted t f → (128 + f .kept) * numBankSizes t ≤ f .limit → (calls : List Call) → NeverOut t f calls emptyCache
+
+-- "an L to plan with": at most 1,040, one that the function may have, and with it no call gets 17
+abbrev pub enoughSlots : RegInfo → Function → ℕ
+enoughSlots t f = (128 + f .kept) * numSizes t f
+
+abbrev pub planned : RegInfo → Function → Function
+planned t f = withLimit t f (enoughSlots t f)
+
+abbrev pub Plan : Type 0
+Plan =
+    (t : RegInfo) (f : Function) → target.Accepted t → function.Accepted t f
+    → (enoughSlots t f ≤ 1040) × function.Accepted t (planned t f) × ((calls : List Call) → NeverOut t (planned t f) calls emptyCache)

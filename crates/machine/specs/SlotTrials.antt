@@ -11,7 +11,7 @@ use Rattle.function.specs.Refused as function
 use Rattle.rules.specs.Scratch.{Cache, emptyCache}
 use Rattle.rules.specs.Patch.{Entry, move, Answer, refused, resolved, resolve, cacheAfter}
 use Rattle.rules.specs.Trials.{single, patch, fixed, over, keeping, regOf, slotsOf, soleOf, ofBankOne}
-use Rattle.machine.specs.Enough.{numSizes, numBankSizes}
+use Rattle.machine.specs.Enough.{numSizes, numBankSizes, enoughSlots}
 
 -- the number that a call was refused with, 0 if none, and the slots made so far
 pub record Outcome : Type 0 where
@@ -112,6 +112,8 @@ pub record SlotTrials : Type 0 where
   pub one-size : outcomes (pairs 2 2) (ofBoth 1) exchanges ≡ makes 1 ∷ makes 1 ∷ makes 1 ∷ []
   -- "different slot sizes among its banks"
   pub counted : (numSizes (pairs 2 3) (ofBoth 2) ≡ 2) × (numSizes (pairs 2 2) (ofBoth 2) ≡ 1) × (numSizes (pairs 2 3) (ofFirst 2) ≡ 1) × (numBankSizes (pairs 2 3) ≡ 2)
+  -- "129 times", "With two, 130"
+  pub planned : (enoughSlots (pairs 2 3) (ofBoth 2) ≡ 258) × (enoughSlots (pairs 2 3) (keeping 2 (ofBoth 2)) ≡ 260) × (enoughSlots (pairs 2 2) (ofBoth 2) ≡ 129)
 
 -- of each size a slot for every leaf; with 8 and 16 it is 112 of each, by 128 entries
 pub record FanTrials : Type 0 where
