@@ -37,7 +37,7 @@ unfolding sign
 sign-le zero = omega arith
 sign-le (suc n) = omega arith
 
-pub sign-pos : (n : ℕ) → 0 < n → sign n ≡ 1
+sign-pos : (n : ℕ) → 0 < n → sign n ≡ 1
 unfolding sign
 sign-pos zero h = absurd (omega arith)
 sign-pos (suc n) h = refl

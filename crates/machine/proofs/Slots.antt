@@ -647,7 +647,7 @@ run-stacks t f at af p a c k ok ins e = run-lies t f at (banked t f af) p a c k 
 
 -- no stack is deeper than slots were made
 module _ (a : ℕ) where
-  pub count-range : (l : List ℕ) (n : ℕ) → ((s : ℕ) → has s l ≡ true → (a ≤ s) × (s < a + n)) → length l ≡ sum (λ k. occurs (a + k) l) n
+  count-range : (l : List ℕ) (n : ℕ) → ((s : ℕ) → has s l ≡ true → (a ≤ s) × (s < a + n)) → length l ≡ sum (λ k. occurs (a + k) l) n
   unfolding occurs
   count-range [] n h = sym (sum-zero (λ k. 0) n (λ k l. refl))
   count-range (x ∷ l) n h =

@@ -42,7 +42,7 @@ module _ (t : RegInfo) (f : Function) where
           by false = refl
       go (e ∷ e′ ∷ es) l = absurd (omega arith)
 
-  pub for-few : (p : Place) (k : ScratchAllocator) → Few t f k → Few t f (unevictForReg t f p k)
+  for-few : (p : Place) (k : ScratchAllocator) → Few t f k → Few t f (unevictForReg t f p k)
   unfolding unevictForReg
   for-few p k h =
       let es = filter (overlapsEvicted t f p) (k .evicted) in
