@@ -23,6 +23,11 @@ ended x (b ∷ l) = refused 8
 unfoldable pub opened : (kept : ℕ) → List ℕ → Read job.Opened
 opened kept l = then (beginning kept l) (λ x q. ended x q)
 
+-- the tables hold them; where they are refused, the tables hold anything
+abbrev pub TablesAs : Read job.Opened → Opened → (t f : List ℕ) → Type 0
+TablesAs (refused k) r t f = (r ≡ Refused k) × Anything t × Anything f
+TablesAs (got x rest) r t f = (r ≡ Yes) × (regInfoOf t ≡ x .target) × (functionOf f ≡ x .function) × Checked t f
+
 -- the tables hold them, and the cache is one with no slot made; where they are refused, the tables hold anything and the cache is as it was
 abbrev pub OpenedAs : Read job.Opened → Opened → (t f cache cache′ : List ℕ) → Type 0
 OpenedAs (refused k) r t f cache cache′ = (r ≡ Refused k) × Anything t × Anything f × (cache′ ≡ cache)

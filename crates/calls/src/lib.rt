@@ -25,7 +25,7 @@ ghost use Rattle.slots.specs.Stacks.{cacheOf};
 ghost use Rattle.entries.specs.Answers.{addedOf};
 ghost use Rattle.parallel_moves.specs.Given.{CacheOk};
 ghost use Rattle.parallel_moves.specs.Answers.{Gives};
-ghost use Rattle.calls.specs.Opening.{opened, OpenedAs};
+ghost use Rattle.calls.specs.Opening.{opened, TablesAs, OpenedAs};
 ghost use Rattle.calls.specs.Call.{callOf, FreeTaken};
 
 // Whether a target and a function are open, or 01's number.
@@ -34,8 +34,23 @@ pub enum Opened {
     Refused(u8),
 }
 
-// Opens the target and the function that the bytes are, with its setting and a cache that has no slot made; 22 first, for a setting other than 1
-// or 2. What the tables held does not matter.
+// Opens the target and the function that the bytes are, with its setting; 22 first, for a setting other than 1 or 2. What the tables held does
+// not matter.
+pub fn open_tables(kept_evictions: u32, s: &[u8], t: &mut RegInfo, f: &mut Function) -> Opened
+    ensures { λ r. ⌜ TablesAs (opened «kept_evictions» (now (s .entry))) r (now (t .exit)) (now (f .exit)) ⌝ }
+{
+    match job::read_beginning(kept_evictions, s, t, f) {
+        Next::Refused(k) => Opened::Refused(k),
+        Next::At(next) => {
+            if next < s.len() {
+                return Opened::Refused(8);
+            }
+            Opened::Yes
+        }
+    }
+}
+
+// The same with a cache that has no slot made.
 pub fn open(
     kept_evictions: u32,
     s: &[u8],
@@ -45,12 +60,9 @@ pub fn open(
 ) -> Opened
     ensures { λ r. ⌜ OpenedAs (opened «kept_evictions» (now (s .entry))) r (now (t .exit)) (now (f .exit)) (now (cache .entry)) (now (cache .exit)) ⌝ }
 {
-    match job::read_beginning(kept_evictions, s, t, f) {
-        Next::Refused(k) => Opened::Refused(k),
-        Next::At(next) => {
-            if next < s.len() {
-                return Opened::Refused(8);
-            }
+    match open_tables(kept_evictions, s, t, f) {
+        Opened::Refused(k) => Opened::Refused(k),
+        Opened::Yes => {
             slots::clear(cache);
             Opened::Yes
         }

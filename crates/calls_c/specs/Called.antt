@@ -8,6 +8,7 @@ use Rattle.reginfo.specs.Table.{regInfoOf}
 use Rattle.function.specs.Known.{Checked}
 use Rattle.function.specs.Table.{functionOf}
 use Rattle.rules.specs.Patch.{Answer, refused, resolved}
+use Rattle.machine.specs.Enough.{enoughSlots}
 use Rattle.edit.specs.Word.{wordOf, AllInRange}
 use Rattle.slots.specs.Stacks.{cacheOf}
 use Rattle.slots.specs.Steps.{Cleared}
@@ -21,6 +22,11 @@ use Rattle.job.specs.Job.{Opened}
 abbrev pub OpenedBy : Read Opened → ℕ → (t f cache cache′ : List ℕ) → Type 0
 OpenedBy (read.refused k) r t f cache cache′ = (r ≡ k) × Anything t × Anything f × (cache′ ≡ cache)
 OpenedBy (read.got x rest) r t f cache cache′ = (r ≡ 0) × (regInfoOf t ≡ x .target) × (functionOf f ≡ x .function) × Checked t f × Cleared cache′ × CacheOk f cache′
+
+-- 02 j: "an L to plan with", and 0 for the number; refused: 0, and 01's number
+abbrev pub PlannedBy : Read Opened → (r refusal : ℕ) → Type 0
+PlannedBy (read.refused k) r refusal = (r ≡ 0) × (refusal ≡ k)
+PlannedBy (read.got x rest) r refusal = (r ≡ enoughSlots (x .target) (x .function)) × (refusal ≡ 0)
 
 -- `Gives` of crate parallel_moves, as a count and numbers
 abbrev pub CalledAs : (f : List ℕ) → Answer → (r refusal position position′ : ℕ) → (list list′ cache cache′ : List ℕ) → Type 0

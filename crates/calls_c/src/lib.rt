@@ -23,7 +23,7 @@ ghost use Rattle.slots.specs.Stacks.{cacheOf};
 ghost use Rattle.parallel_moves.specs.Given.{CacheOk};
 ghost use Rattle.calls.specs.Opening.{opened};
 ghost use Rattle.calls.specs.Call.{callOf};
-ghost use Rattle.calls_c.specs.Called.{OpenedBy, CalledAs};
+ghost use Rattle.calls_c.specs.Called.{OpenedBy, PlannedBy, CalledAs};
 
 // Opens the target and the function that the bytes are, with its number of kept evictions, for `parallel_moves_resolve`: answers 0, or 01's number:
 // 22, tested before the bytes, for one other than 1 or 2.
@@ -40,6 +40,31 @@ pub extern "C" fn parallel_moves_open_4(
     match calls::open(kept_evictions, bytes, target, function, cache) {
         Opened::Yes => 0,
         Opened::Refused(k) => k,
+    }
+}
+
+// 02 j: the L to plan with: with it no patch of the function that the bytes are gets 17. The bytes are as for `parallel_moves_open`, with any L. Sets
+// `refusal` to 0, or to the number that `parallel_moves_open` answers, and then answers 0. `target` and `function` are worked in.
+#[no_mangle]
+pub extern "C" fn parallel_moves_enough_slots_4(
+    kept_evictions: u32,
+    bytes: &[u8],
+    refusal: &mut u8,
+    target: &mut RegInfo,
+    function: &mut Function,
+) -> u16
+    ensures { λ r. ⌜ PlannedBy (opened «kept_evictions» (now (bytes .entry))) r (now (refusal .exit)) ⌝ }
+    ensures { λ _. ⌜ Anything (now (target .exit)) × Anything (now (function .exit)) ⌝ }
+{
+    match calls::open_tables(kept_evictions, bytes, target, function) {
+        Opened::Yes => {
+            *refusal = 0;
+            enough_slots::enough_slots(target, function)
+        }
+        Opened::Refused(number) => {
+            *refusal = number;
+            0
+        }
     }
 }
 
