@@ -8,16 +8,16 @@ use function::value_bank;
 use reginfo::RegInfo;
 use reginfo::spillslot_size;
 ghost use mathlib.Core.Path.{_≡_};
-ghost use mathlib.Core.Bool.{false};
 ghost use Prim.Native.Nat.{_<_, _≤_};
-ghost use lib.ListN.{length, getD};
+ghost use lib.ListN.{length};
 ghost use Rattle.reginfo.specs.RegInfo.{spillslotSize};
 ghost use Rattle.reginfo.specs.Table.{regInfoOf};
 ghost use Rattle.function.specs.Function.{numValues, valueBank};
 ghost use Rattle.function.specs.Known.{Checked};
 ghost use Rattle.function.specs.Table.{functionOf};
+ghost use Rattle.small_set.specs.Set.{setOf, inserted};
 ghost use Rattle.machine.specs.Enough.{sizesThat, numSizes, enoughSlots};
-ghost use Rattle.enough_slots.specs.Sizes.{Marked, AllMarked};
+ghost use Rattle.enough_slots.specs.Sizes.{AllMarked};
 
 // It does nothing: a call tells the length of the table that is passed.
 fn told(sizes: [bool; 32]) -> bool
@@ -29,7 +29,7 @@ fn told(sizes: [bool; 32]) -> bool
 // Marks the size of the slots of a value's bank.
 fn mark_size(t: &RegInfo, f: &Function, v: Value, sizes: &mut [bool; 32])
     requires { ⌜ Checked (now t) (now f) × (v .0 < numValues (functionOf (now f))) ⌝ }
-    ensures { λ _. ⌜ Marked (now (sizes .entry)) (spillslotSize (regInfoOf (now (t .entry))) (valueBank (functionOf (now (f .entry))) (v .0))) (now (sizes .exit)) ⌝ }
+    ensures { λ _. ⌜ setOf (now (sizes .exit)) ≡ inserted (setOf (now (sizes .entry))) (spillslotSize (regInfoOf (now (t .entry))) (valueBank (functionOf (now (f .entry))) (v .0))) ⌝ }
 {
     told(*sizes);
     let z = spillslot_size(t, value_bank(f, v));
@@ -51,7 +51,7 @@ fn mark_sizes(t: &RegInfo, f: &Function, sizes: &mut [bool; 32])
 }
 
 fn num_marked(sizes: &[bool; 32]) -> usize
-    ensures { λ n. ⌜ n ≡ sizesThat (λ z. getD (now (sizes .entry)) z false) ⌝ }
+    ensures { λ n. ⌜ n ≡ sizesThat (setOf (now (sizes .entry))) ⌝ }
 {
     let mut n: usize = 0;
     let mut z: usize = 0;

@@ -43,23 +43,27 @@ unfolding sum
 sum-same f g zero h = refl
 sum-same f g (suc n) h = omega (arith, h n, sum-same f g n h)
 
--- how many of a row of numbers pass a test
-filtered-from : (p : ℕ → Bool) (i n : ℕ) → length (filter p (indices i n)) ≡ sum (λ k. bit (p (i + k))) n
+-- how many of a row of numbers pass a test: the first, and the others
+pub filter-first : (p : ℕ → Bool) (i n : ℕ) → length (filter p (indices i (suc n))) ≡ bit (p i) + length (filter p (indices (i + 1) n))
 unfolding filter indices bit
+filter-first p i n = go (p i)
+  where
+    go : (b : Bool) → length (pick b (i ∷ filter p (indices (i + 1) n)) (filter p (indices (i + 1) n))) ≡ bit b + length (filter p (indices (i + 1) n))
+    go true = omega arith
+    go false = omega arith
+
+filtered-from : (p : ℕ → Bool) (i n : ℕ) → length (filter p (indices i n)) ≡ sum (λ k. bit (p (i + k))) n
+unfolding filter indices
 filtered-from p i zero = sym (sum-zero (λ k. bit (p (i + k))) 0 (λ k l. absurd (omega arith)))
 filtered-from p i (suc n) =
     omega (
       arith,
-      go (p i),
+      filter-first p i n,
       filtered-from p (i + 1) n,
       sum-same (λ k. bit (p (i + 1 + k))) (λ k. bit (p (i + suc k))) n (λ k. let e : i + 1 + k ≡ i + suc k = omega arith in ap (λ j. bit (p j)) e),
       sum-first (λ k. bit (p (i + k))) n,
       let e : i + 0 ≡ i = omega arith in ap (λ j. bit (p j)) e,
     )
-  where
-    go : (b : Bool) → length (pick b (i ∷ filter p (indices (i + 1) n)) (filter p (indices (i + 1) n))) ≡ bit b + length (filter p (indices (i + 1) n))
-    go true = omega arith
-    go false = omega arith
 
 pub filtered : (p : ℕ → Bool) (n : ℕ) → length (filter p (indices 0 n)) ≡ sum (λ k. bit (p k)) n
 filtered p n = filtered-from p 0 n ∙ sum-same (λ k. bit (p (0 + k))) (λ k. bit (p k)) n (λ k. let e : 0 + k ≡ k = omega arith in ap (λ j. bit (p j)) e)
