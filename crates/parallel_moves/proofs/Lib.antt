@@ -3,3 +3,4 @@ pub mod Running
 pub mod Resolving
 pub mod Adding
 pub mod Claimed
+pub mod Enough

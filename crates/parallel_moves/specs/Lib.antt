@@ -2,3 +2,4 @@ pub mod Given
 pub mod Answers
 pub mod Steps
 pub mod Claim
+pub mod Enough

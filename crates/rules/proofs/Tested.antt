@@ -46,6 +46,10 @@ module _ (t : RegInfo) (f : Function) where
   entry-numbers a (move s d v) = (λ e. omega arith, (λ e. omega arith, (λ e. omega arith, (λ e. omega arith, (λ e. omega arith, (λ e. omega arith, tt))))))
   entry-numbers a (remat d v) = (λ e. omega arith, (λ e. omega arith, (λ e. omega arith, (λ e. omega arith, (λ e. omega arith, tt)))))
 
+  -- an entry is not refused with 17
+  pub entry-other : (a : Sorted) (e : Entry) (n : ℕ) → firstOf (entryConditions t f a e) ≡ some n → n ≡ 17 → ⊥
+  entry-other a e = first-of Other (entryConditions t f a e) (entry-numbers a e)
+
   patch-numbers : (p : Patch) (room : ℕ) (a : Sorted) → Every (λ (c : Condition). Other (c .number)) (patchConditions t f p room a)
   unfolding patchConditions
   patch-numbers p room a = (λ e. omega arith, (λ e. omega arith, (λ e. omega arith, tt)))
@@ -92,7 +96,7 @@ module _ (t : RegInfo) (f : Function) where
   unfolding sortedFrom resolveFrom
   tested-from p room c r late [] a g e = (g, e)
   tested-from p room c r late (x ∷ l) a g e =
-      let q = late-none (firstOf (entryConditions t f a x)) (resolveFrom t f p room c l (add t f x a)) r (first-of Other (entryConditions t f a x) (entry-numbers a x)) e late in
+      let q = late-none (firstOf (entryConditions t f a x)) (resolveFrom t f p room c l (add t f x a)) r (entry-other a x) e late in
       tested-from p room c r late l (add t f x a) (tested-add x a g (q .0)) (q .1)
 
   -- the answer is the run's
