@@ -26,23 +26,23 @@ use Rattle.calls.specs.Call.{freeRefusal, callOf}
 use Rattle.calls.specs.Claim.{Made, patched, ruled, Called, Outcome, not-free, called, Claim, Demand3}
 
 module _ (t f : List ℕ) where
-  abbrev refusalOf : Made → Option ℕ
+  abbrev pub refusalOf : Made → Option ℕ
   refusalOf x = freeRefusal (regInfoOf t .units) (x .free)
 
   -- the calls of the rules: a call that is refused for its free units is none
-  abbrev unlessNotFree : Option ℕ → Call → List Call → List Call
+  abbrev pub unlessNotFree : Option ℕ → Call → List Call → List Call
   unlessNotFree none x l = x ∷ l
   unlessNotFree (some n) x l = l
 
-  abbrev asked : List Made → List Call
+  abbrev pub asked : List Made → List Call
   asked [] = []
   asked (x ∷ l) = unlessNotFree (refusalOf x) (call (patched x)) (asked l)
 
-  turned : (x : Made) (c : Cache) (n : ℕ) → refusalOf x ≡ some n → ruled t f x c ≡ refused n
+  pub turned : (x : Made) (c : Cache) (n : ℕ) → refusalOf x ≡ some n → ruled t f x c ≡ refused n
   unfolding callOf
   turned x c n e = rw e
 
-  let-in : (x : Made) (c : Cache) → refusalOf x ≡ none → ruled t f x c ≡ patch.ruled t f (patched x) c
+  pub let-in : (x : Made) (c : Cache) → refusalOf x ≡ none → ruled t f x c ≡ patch.ruled t f (patched x) c
   unfolding callOf
   let-in x c e = rw e
 
@@ -63,7 +63,7 @@ module _ (t f : List ℕ) where
   claims (x ∷ l) cache c e ok h g = step x l cache c (refusalOf x) refl e ok (rw e at (h .0 ok)) g (λ c′ e′ ok′ g′. claims l (x .cache) c′ e′ ok′ (h .1) g′)
 
 -- an opened function's tables and cache
-known : (x : Read job.Opened) (t f cache cache′ : List ℕ) → OpenedAs x Yes t f cache cache′ → Checked t f × Cleared cache′ × CacheOk f cache′
+pub known : (x : Read job.Opened) (t f cache cache′ : List ℕ) → OpenedAs x Yes t f cache cache′ → Checked t f × Cleared cache′ × CacheOk f cache′
 known (read.refused k) t f cache cache′ h = absurd (let z : _≡_ {A = ℕ} 0 1 = cc in omega arith)
 known (read.got x rest) t f cache cache′ h = (h .3, h .4, h .5)
 

@@ -1,3 +1,4 @@
 pub mod Opening
 pub mod Freeing
 pub mod Claimed
+pub mod Enough

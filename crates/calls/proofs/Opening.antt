@@ -12,39 +12,49 @@ use Rattle.job.specs.Job as job
 use Rattle.job.specs.Job.{beginning}
 use Rattle.job.specs.Steps.{BegunAt}
 use Rattle.calls.specs.declared.Opened.the-variants.{Yes, Refused}
-use Rattle.calls.specs.Opening.{ended, opened, OpenedAs}
+use Rattle.calls.specs.Opening.{ended, opened, TablesAs, OpenedAs}
 
-module _ (kept : ℕ) (s t f cache : List ℕ) where
-  pub not-opened : (k : ℕ) → BegunAt s (beginning kept s) (X.Refused k) t f → OpenedAs (opened kept s) (Refused k) t f cache cache
+module _ (kept : ℕ) (s t f : List ℕ) where
+  pub not-opened : (k : ℕ) → BegunAt s (beginning kept s) (X.Refused k) t f → TablesAs (opened kept s) (Refused k) t f
   unfolding opened
   not-opened k h = go (beginning kept s) h
     where
-      go : (x : Read job.Opened) → BegunAt s x (X.Refused k) t f → OpenedAs (then x (λ x q. ended x q)) (Refused k) t f cache cache
-      go (refused j) h = let z : k ≡ j = cc in (ap Refused z, tt, tt, refl)
+      go : (x : Read job.Opened) → BegunAt s x (X.Refused k) t f → TablesAs (then x (λ x q. ended x q)) (Refused k) t f
+      go (refused j) h = let z : k ≡ j = cc in (ap Refused z, tt, tt)
       go (got x rest) h = absurd (let z : _≡_ {A = ℕ} 0 1 = cc in omega arith)
 
-  pub left-over : (next : ℕ) → next < length s → BegunAt s (beginning kept s) (X.At next) t f → OpenedAs (opened kept s) (Refused 8) t f cache cache
+  pub left-over : (next : ℕ) → next < length s → BegunAt s (beginning kept s) (X.At next) t f → TablesAs (opened kept s) (Refused 8) t f
   unfolding opened
   left-over next l h = go (beginning kept s) h
     where
-      some-left : (x : job.Opened) (rest : List ℕ) → 0 < length rest → OpenedAs (ended x rest) (Refused 8) t f cache cache
+      some-left : (x : job.Opened) (rest : List ℕ) → 0 < length rest → TablesAs (ended x rest) (Refused 8) t f
       some-left x [] z = absurd (omega arith)
-      some-left x (b ∷ rest) z = (refl, tt, tt, refl)
+      some-left x (b ∷ rest) z = (refl, tt, tt)
 
-      go : (x : Read job.Opened) → BegunAt s x (X.At next) t f → OpenedAs (then x (λ x q. ended x q)) (Refused 8) t f cache cache
+      go : (x : Read job.Opened) → BegunAt s x (X.At next) t f → TablesAs (then x (λ x q. ended x q)) (Refused 8) t f
       go (refused j) h = absurd (let z : _≡_ {A = ℕ} 0 1 = cc in omega arith)
       go (got x rest) h =
           let same : next ≡ h .0 = cc in
           let is : rest ≡ drop next s = h .2 ∙ rw same in
           some-left x rest (rw is (omega (arith, length-drop next s)))
 
-  pub all-read : (next : ℕ) (cache′ : List ℕ) → length s ≤ next → BegunAt s (beginning kept s) (X.At next) t f → Cleared cache′ → OpenedAs (opened kept s) Yes t f cache cache′
+  pub all-read : (next : ℕ) → length s ≤ next → BegunAt s (beginning kept s) (X.At next) t f → TablesAs (opened kept s) Yes t f
   unfolding opened
-  all-read next cache′ l h cleared = go (beginning kept s) h
+  all-read next l h = go (beginning kept s) h
     where
-      go : (x : Read job.Opened) → BegunAt s x (X.At next) t f → OpenedAs (then x (λ x q. ended x q)) Yes t f cache cache′
+      go : (x : Read job.Opened) → BegunAt s x (X.At next) t f → TablesAs (then x (λ x q. ended x q)) Yes t f
       go (refused j) h = absurd (let z : _≡_ {A = ℕ} 0 1 = cc in omega arith)
       go (got x rest) h =
           let same : next ≡ h .0 = cc in
           let is : rest ≡ [] = h .2 ∙ rw (← same) (drop-of-length-le s {i = next} l) in
-          rw is (refl, h .4, h .5, h .6, cleared, fresh f cache′ cleared)
+          rw is (refl, h .4, h .5, h .6)
+
+-- the cache beside the tables
+module _ (t f cache : List ℕ) where
+  pub cache-kept : (x : Read job.Opened) (k : ℕ) → TablesAs x (Refused k) t f → OpenedAs x (Refused k) t f cache cache
+  cache-kept (refused j) k h = (h .0, tt, tt, refl)
+  cache-kept (got x rest) k h = absurd (let z : _≡_ {A = ℕ} 0 1 = cc in omega arith)
+
+  pub cache-cleared : (x : Read job.Opened) (cache′ : List ℕ) → TablesAs x Yes t f → Cleared cache′ → OpenedAs x Yes t f cache cache′
+  cache-cleared (refused j) cache′ h cleared = absurd (let z : _≡_ {A = ℕ} 0 1 = cc in omega arith)
+  cache-cleared (got x rest) cache′ h cleared = (refl, h .1, h .2, h .3, cleared, fresh f cache′ cleared)

@@ -1,3 +1,4 @@
 pub mod Opening
 pub mod Call
 pub mod Claim
+pub mod Enough

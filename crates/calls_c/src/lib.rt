@@ -61,8 +61,8 @@ pub extern "C" fn parallel_moves_enough_slots_4(
             *refusal = 0;
             enough_slots::enough_slots(target, function)
         }
-        Opened::Refused(number) => {
-            *refusal = number;
+        Opened::Refused(k) => {
+            *refusal = k;
             0
         }
     }

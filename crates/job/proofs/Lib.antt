@@ -7,3 +7,4 @@ pub mod Conditions
 pub mod ReadTarget
 pub mod Trials
 pub mod Room
+pub mod Enough

@@ -76,10 +76,10 @@ module _ (kept : ℕ) (s t f : List ℕ) where
     beginning-read t′ next r l h g = rw (set, le-ltb 65536 (length s) l, ← h .reads) g
 
 -- the patch count behind them
-abbrev counted : Opened → List ℕ → Read Header
+abbrev pub counted : Opened → List ℕ → Read Header
 counted x q = then (between 1 1024 q) (λ n p. got (record { target = x .target; function = x .function; patches = n }) p)
 
-opening-is : (kept : ℕ) (l : List ℕ) → opening kept l ≡ then (beginning kept l) (λ x q. counted x q)
+pub opening-is : (kept : ℕ) (l : List ℕ) → opening kept l ≡ then (beginning kept l) (λ x q. counted x q)
 unfolding opening header afterTarget beginning withFunction
 opening-is kept l = go (no (isSetting kept)) (ltb 65536 (length l)) (target l)
   where

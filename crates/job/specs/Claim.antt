@@ -1,5 +1,6 @@
--- Demand 3 of every job: its answers are those of its patches' calls, one behind the other, and the edits of each are as demanded.
-use Prim.Native.Nat.{ℕ, _-_, _<_}
+-- Demand 3 of every job: its answers are those of its patches' calls, one behind the other, and the edits of each are as demanded; 02 j: with L
+-- enough it is not refused with 17.
+use Prim.Native.Nat.{ℕ, _+_, _-_, _*_, _<_, _≤_}
 use mathlib.Core.Path.{_≡_}
 use mathlib.Core.List.{List, [], _∷_}
 use mathlib.Core.Option.{Option, none, some}
@@ -10,6 +11,7 @@ use Rattle.rules.specs.Scratch.{Cache, emptyCache}
 use Rattle.rules.specs.Patch.{Patch, resolve}
 use Rattle.rules.specs.Patch as rules
 use Rattle.machine.specs.Claim.{Accepted}
+use Rattle.machine.specs.Enough.{numSizes}
 use Rattle.number.specs.Read.{Read, got, refused}
 use Rattle.job_patch.specs.Patches.{patch}
 use Rattle.job.specs.Job.{Header, Done, Answers, opening, job}
@@ -52,3 +54,17 @@ EveryJob = (kept : ℕ) (l : List ℕ) → Opened (opening kept l) (job kept l)
 -- a job that is not refused has as many patches done as it says
 abbrev pub AllDone : Type 0
 AllDone = (kept : ℕ) (l : List ℕ) (h : Header) (r : List ℕ) → opening kept l ≡ got h r → job kept l .refusal ≡ none → length (job kept l .done) ≡ h .patches
+
+-- 02 j: so many slots a size and so many more as evictions are kept
+abbrev pub EnoughWith : ℕ → Type 0
+EnoughWith n =
+    (kept : ℕ) (l : List ℕ) (h : Header) (r : List ℕ) → opening kept l ≡ got h r → (n + kept) * numSizes (h .target) (h .function) ≤ h .function .limit
+    → job kept l .refusal ≡ some 17 → ⊥
+
+-- "a function never meets 17 if L is at least 129 times the number of different slot sizes among its banks [..]. With two, 130 stands for 129."
+abbrev pub Enough : Type 0
+Enough = EnoughWith 128
+
+-- one fewer of each size is enough too
+abbrev pub FewerEnough : Type 0
+FewerEnough = EnoughWith 127
