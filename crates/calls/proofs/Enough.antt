@@ -1,6 +1,6 @@
 -- 02 j of every list of calls: the theorems about the rules, of the calls that are not refused for their free units.
-use Prim.Native.Nat.{ℕ, _+_}
-use mathlib.Core.Path.{_≡_, refl, ap, _∙_}
+use Prim.Native.Nat.{ℕ, _+_, _*_, _≤_}
+use mathlib.Core.Path.{_≡_, refl, sym, ap, subst, _∙_}
 use mathlib.Core.Bool.{Bool, true, false}
 use mathlib.Core.List.{List, [], _∷_, _++_, map, append-nil}
 use mathlib.Core.Option.{some}
@@ -106,7 +106,7 @@ enough-with : (n : ℕ) → rules.EnoughWith n → EnoughWith n
 enough-with n by kept bytes t f cache cache′ o h calls made =
     let k = known (opened kept bytes) t f cache cache′ o in
     never t f calls cache′ emptyCache (demand-3-of-the-calls kept bytes t f cache cache′ o calls made)
-    (by (regInfoOf t) (functionOf f) (k .0 .target) (k .0 .function) (rw (setting kept bytes t f cache cache′ o) h) (asked t f calls))
+    (by (regInfoOf t) (functionOf f) (k .0 .target) (k .0 .function) (subst (λ (k : ℕ). (n + k) * rules.numSizes (regInfoOf t) (functionOf f) ≤ functionOf f .limit) (sym (setting kept bytes t f cache cache′ o)) h) (asked t f calls))
 
 pub enough-for-the-calls : Enough
 enough-for-the-calls = enough-with 128 rule.enough

@@ -56,7 +56,7 @@ of-number l = go (number l) (one-refusal l)
   where
     go : (d : Read ℕ) → ((k : ℕ) → d ≡ refused k → k ≡ 1) → Other d
     go (got n r) h = tt
-    go (refused k) h e = omega (arith, h k refl)
+    go (refused k) h = λ e. omega (arith, h k refl)
 
 of-tested : (ok : ℕ → Bool) (l : List ℕ) → Other (tested ok l)
 unfolding tested
@@ -103,7 +103,7 @@ module _ (t : RegInfo) (f : Function) where
 
   ended : (n : ℕ) (c : Cache) (l : List ℕ) → Never c → Ends t f n c l (some 17) → ⊥
   ended n c l all (all-done z e k) = let z : _≡_ {A = ℕ} 0 1 = cc in omega arith
-  ended n c l all (left-over z e k) = let q : 17 ≡ 8 = cc in omega arith
+  ended n c l all (left-over z e k) = let q : _≡_ {A = ℕ} 17 8 = cc in omega arith
   ended n c l all (not-read m z e k) = let q : m ≡ 17 = cc in subst Other e (of-patch l) q
   ended n c l all (not-resolved m p r z e i k) = let q : m ≡ 17 = cc in all (record { patch = p; room = 1024 } ∷ []) .0 (i ∙ ap rules.refused q)
 
@@ -140,7 +140,7 @@ enough-with : (n : ℕ) → rules-enough.EnoughWith n → EnoughWith n
 enough-with n by kept l h r e g q =
     let o = opens kept l h r e in
     never (h .target) (h .function) (job kept l .done) (h .patches) emptyCache r
-    (by (h .target) (h .function) (o .target-taken) (o .function-taken) (rw (o .setting) g)) (rw (e, q) at (every-job kept l))
+    (by (h .target) (h .function) (o .target-taken) (o .function-taken) (subst (λ (k : ℕ). (n + k) * rules-enough.numSizes (h .target) (h .function) ≤ h .function .limit) (sym (o .setting)) g)) (rw (e, q) at (every-job kept l))
 
 pub enough-for-a-job : Enough
 enough-for-a-job = enough-with 128 enough
