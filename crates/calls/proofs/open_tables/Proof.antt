@@ -1,10 +1,7 @@
-use Rattle.calls.proofs.Opening.{not-opened, left-over, all-read}
 use borrow.Author.Needs.{needs}
+use Rattle.calls.proofs.Opening.{not-opened, left-over, all-read}
 use Rattle.calls.proofs.open_tables.Statement.{statement}
 use Rattle.calls.proofs.open_tables.Tie as tie
-use Rattle.calls.proofs.open_tables.Reads as reads
-use Rattle.calls.proofs.open_tables.Lts as lts
-use Rattle.job.proofs.read_beginning.Reads as read-beginning-reads
 
 read-beginning-requires : tie.Need-read-beginning-requires
 read-beginning-requires c κs = search needs
