@@ -9,6 +9,8 @@ mod compare;
 mod ours;
 #[path = "beside/parse.rs"]
 mod parse;
+#[path = "beside/planned.rs"]
+mod planned;
 #[path = "beside/reduce.rs"]
 mod reduce;
 #[path = "beside/tasks.rs"]
@@ -25,7 +27,7 @@ use std::sync::atomic::{AtomicUsize, Ordering};
 use std::thread;
 use std::time::Instant;
 
-use compare::{Outcome, Spoiled, Way};
+use compare::{Difference, Outcome, Spoiled, Way};
 use judge::generate::calls::Session;
 use judge::plain::Reached;
 use judge::random::Random;
@@ -48,6 +50,8 @@ beside answer [SETTING]
 Options:
     --setting S     at this setting only; 1 or 2
     --threads N     how many at a time (as many as there are processors)
+    --planned       with the L to plan with in the place of each job's own: ours must
+                    give that number, and never 17
     --difference F  the file that a job with different answers is written to
     --spoil text N, --spoil words N
                     spoils ours' text of the N-th job, or its words, which must
@@ -245,6 +249,7 @@ fn answer_one(given: &[&str]) -> Ended {
 struct Options {
     threads: usize,
     settings: Vec<u32>,
+    planned: bool,
     difference: Option<PathBuf>,
     /// Of which job, counted from 0, something is spoiled.
     spoiled: Option<(Spoiled, usize)>,
@@ -255,6 +260,7 @@ impl Options {
         let mut options = Options {
             threads: thread::available_parallelism().map_or(1, |n| n.get()),
             settings: answer::SETTINGS.to_vec(),
+            planned: false,
             difference: None,
             spoiled: None,
         };
@@ -273,6 +279,10 @@ impl Options {
                     if options.settings.is_empty() {
                         return Err(format!("{word} is no setting"));
                     }
+                    rest
+                }
+                ["--planned", ref rest @ ..] => {
+                    options.planned = true;
                     rest
                 }
                 ["--difference", file, ref rest @ ..] => {
@@ -300,6 +310,7 @@ impl Options {
             spoiled: self
                 .spoiled
                 .and_then(|(what, at)| (at == number).then_some(what)),
+            planned: self.planned,
         }
     }
 }
@@ -323,6 +334,9 @@ struct Counts {
     /// By mode: jobs, those that differ from the setting before, and those in which
     /// two are held at once.
     by_mode: BTreeMap<&'static str, [u64; 3]>,
+    /// By mode, of jobs with their L planned anew: how many, and the most slots of one
+    /// size, of all and sizes that one makes.
+    planned: BTreeMap<&'static str, (u64, [usize; 3])>,
 }
 
 /// What the rules say when two are held at once.
@@ -338,10 +352,23 @@ impl Counts {
         for (&branch, &count) in &outcome.reached {
             *self.reached.entry(branch).or_default() += count;
         }
+        if let Some(slots) = &outcome.slots_by_size {
+            let of_a_size = slots.values().copied().max().unwrap_or(0);
+            let most = [of_a_size, slots.values().sum(), slots.len()];
+            self.add_planned(mode, 1, most);
+        }
         let two_held = outcome.reached.contains_key(&TWO_HELD);
         let by_mode = self.by_mode.entry(mode).or_default();
         for (count, holds) in by_mode.iter_mut().zip([true, differs, two_held]) {
             *count += u64::from(holds);
+        }
+    }
+
+    fn add_planned(&mut self, mode: &'static str, jobs: u64, most: [usize; 3]) {
+        let planned = self.planned.entry(mode).or_default();
+        planned.0 += jobs;
+        for (known, count) in planned.1.iter_mut().zip(most) {
+            *known = count.max(*known);
         }
     }
 
@@ -359,6 +386,9 @@ impl Counts {
             let by_mode = self.by_mode.entry(mode).or_default();
             by_mode.iter_mut().zip(counts).for_each(|(a, b)| *a += b);
         }
+        for (&mode, &(jobs, most)) in &other.planned {
+            self.add_planned(mode, jobs, most);
+        }
     }
 
     fn print(&self) {
@@ -371,6 +401,14 @@ impl Counts {
         }
         println!("accepted patches {}", self.patches);
         println!("edits {}", self.edits);
+        if !self.planned.is_empty() {
+            println!(
+                "jobs by mode with their L planned anew; the most slots made of one size, in all, sizes"
+            );
+        }
+        for (mode, (jobs, [of_a_size, all, sizes])) in &self.planned {
+            println!("  {mode}: {jobs}; {of_a_size}, {all}, {sizes}");
+        }
         if self.reached.is_empty() {
             return;
         }
@@ -444,7 +482,7 @@ impl Work<'_> {
             let way = self.options.way(self.before[number] + index);
             let mut before = None;
             for &kept_evictions in &self.options.settings {
-                match compare::compare(ours, kept_evictions, job, way) {
+                match compare_one(ours, kept_evictions, job, way) {
                     Ok(outcome) => {
                         let differs = before.is_some_and(|text| text != outcome.text);
                         let counts = counts.entry(kept_evictions).or_default();
@@ -466,6 +504,19 @@ impl Work<'_> {
             ControlFlow::Continue(())
         });
         ended.break_value()
+    }
+}
+
+/// Compares the answers to a job at a setting, in such a way.
+fn compare_one(
+    ours: &mut Ours,
+    kept_evictions: u32,
+    job: &[u8],
+    way: Way,
+) -> Result<Outcome, Box<Difference>> {
+    match way.planned {
+        true => planned::compare(ours, kept_evictions, job, way),
+        false => compare::compare(ours, kept_evictions, job, way),
     }
 }
 
@@ -536,7 +587,7 @@ fn report(task: &Task, found: Found, options: &Options) -> Result<(), Box<dyn Er
         let ours = &mut ours;
         let make_small = move || {
             reduce::reduce(found.job, |job| {
-                compare::compare(ours, kept_evictions, job, found.way).is_err()
+                compare_one(ours, kept_evictions, job, found.way).is_err()
             })
         };
         let builder = thread::Builder::new().stack_size(STACK);
@@ -552,7 +603,7 @@ fn report(task: &Task, found: Found, options: &Options) -> Result<(), Box<dyn Er
         std::fs::write(file, &small)?;
         println!("written to {}", file.display());
     }
-    match compare::compare(&mut ours, kept_evictions, &small, found.way) {
+    match compare_one(&mut ours, kept_evictions, &small, found.way) {
         Ok(_) => println!("the answers to it differ no longer"),
         Err(difference) => {
             println!("what differs: {}", difference.what);

@@ -6,6 +6,7 @@ use original::internal::parallel_moves::Edit;
 use original::output::{Allocation, AllocationKind};
 
 use crate::answer::{Judge, LEFT_OVER, MOST_BYTES, Resolver};
+use crate::enough;
 use crate::generate;
 use crate::number::{self, NAMES_NOTHING, Reader, Refused};
 use crate::patch::Patch;
@@ -56,8 +57,8 @@ impl Room {
 /// A target and a function, and who resolves its patches.
 pub struct Function {
     judge: Judge,
-    target: Target,
-    values: Values,
+    pub(crate) target: Target,
+    pub(crate) values: Values,
 }
 
 impl Function {
@@ -180,7 +181,11 @@ pub fn record(session: &generate::calls::Session) -> String {
         let kept_evictions = opening.kept_evictions;
         let opened = Function::open(Judge::of(kept_evictions), &opening.bytes);
         let refusal = opened.as_ref().map_or_else(|refused| refused.0, |_| 0);
-        put(&mut text, format_args!("open {refusal} {kept_evictions}"));
+        let enough = enough::enough_slots(kept_evictions, &opening.bytes).unwrap_or(0);
+        put(
+            &mut text,
+            format_args!("open {refusal} {enough} {kept_evictions}"),
+        );
         put_list(&mut text, &opening.bytes);
         text.push('\n');
         last = opened.ok();

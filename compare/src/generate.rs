@@ -3,6 +3,7 @@
 mod accepted;
 pub mod calls;
 mod damaged;
+mod fans;
 pub mod limits;
 mod patches;
 mod refused;
@@ -23,13 +24,14 @@ pub enum Mode {
     Remat,
     Patches,
     Evictions,
+    Fans,
     Refused,
     Limits,
     Damaged,
 }
 
 /// The modes by name, with what they are.
-pub const MODES: [(&str, Mode, &str); 11] = [
+pub const MODES: [(&str, Mode, &str); 12] = [
     ("mixed", Mode::Mixed, "all of the others"),
     (
         "small",
@@ -55,6 +57,11 @@ pub const MODES: [(&str, Mode, &str); 11] = [
         "slots moved between, of one bank and another in turn, hardly a unit free",
     ),
     (
+        "fans",
+        Mode::Fans,
+        "many values diverted at once, each to an emergency slot",
+    ),
+    (
         "refused",
         Mode::Refused,
         "each number of the table at each place, at times several at once",
@@ -68,7 +75,7 @@ pub const MODES: [(&str, Mode, &str); 11] = [
 ];
 
 /// How often `mixed` takes each mode, in so many as these come to.
-const MIX: [(Mode, usize); 10] = [
+const MIX: [(Mode, usize); 11] = [
     (Mode::Small, 22),
     (Mode::Big, 3),
     (Mode::Shared, 16),
@@ -76,6 +83,7 @@ const MIX: [(Mode, usize); 10] = [
     (Mode::Remat, 12),
     (Mode::Patches, 4),
     (Mode::Evictions, 8),
+    (Mode::Fans, 1),
     (Mode::Refused, 20),
     (Mode::Limits, 3),
     (Mode::Damaged, 10),
@@ -108,6 +116,7 @@ impl Generator {
                 let draft = accepted::draft(random, flavour);
                 refused::spoil(random, draft)
             }
+            Mode::Fans => fans::draft(random).job(),
             Mode::Limits => limits::job(random),
             Mode::Damaged if random.chance(3) => damaged::noise(random),
             Mode::Damaged => {

@@ -5,6 +5,7 @@ pub mod answer;
 pub mod calls;
 pub mod draft;
 pub mod encode;
+pub mod enough;
 pub mod frame;
 pub mod generate;
 pub mod number;

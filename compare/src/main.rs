@@ -52,10 +52,11 @@ compare replay-trials FILE
 compare calls SEED COUNT
     Writes COUNT random calls that open a function or give it a patch, with what
     they should come to, a line each, all numbers in base ten:
-    open REFUSAL SETTING COUNT BYTE..
+    open REFUSAL ENOUGH SETTING COUNT BYTE..
     call REFUSAL MADE POSITION ROOM COUNT FREE-UNIT.. COUNT NUMBER.. COUNT WORD..
     ROOM is the length of the lent list; the words are those of the edits.
-    POSITION is the greatest that the patch met, and 0 if it is refused.
+    POSITION is the greatest that the patch met, and 0 if it is refused. ENOUGH is
+    the L to plan with, and 0 if the function is refused.
 compare tally
     Reads answers, each after its length, and prints counts over them.
     Fails if there is a panic among them.

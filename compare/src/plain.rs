@@ -41,6 +41,14 @@ pub enum Slip {
     OneForAPlace,
     /// The slot is taken before any comes back.
     SlotFirst,
+    /// A diversion's slot is put back one size up.
+    SizeUp,
+    /// An evicted register's slot is not put back.
+    NotPutBack,
+    /// Where its stack is empty, a slot is taken from another.
+    OtherSize,
+    /// A hundred slots are made at most.
+    FewSlots,
 }
 
 /// How often a branch of the rule for kept evictions was taken: what was done,
@@ -71,7 +79,10 @@ impl<'a> Plain<'a> {
                 stacks: vec![Vec::new(); MOST_SIZE_LOG2 + 1],
                 made: 0,
                 first: values.slots,
-                limit: values.emergency_limit,
+                limit: match slip {
+                    Slip::FewSlots => values.emergency_limit.min(100),
+                    _ => values.emergency_limit,
+                },
             },
             position: 0,
             reached: Reached::new(),
@@ -112,8 +123,13 @@ struct Slots {
 
 impl Slots {
     /// "Take the one last put back, else make slot N, then N + 1 and so on."
-    fn take(&mut self, size: usize) -> Result<SpillSlot, Refused> {
+    fn take(&mut self, size: usize, slip: Slip) -> Result<SpillSlot, Refused> {
         if let Some(slot) = self.stacks[size].pop() {
+            return Ok(slot);
+        }
+        if slip == Slip::OtherSize
+            && let Some(slot) = self.stacks.iter_mut().find_map(Vec::pop)
+        {
             return Ok(slot);
         }
         if self.made == self.limit {
@@ -508,7 +524,7 @@ impl<'a> Run<'a> {
         }
         let bank = self.target.class(class).bank;
         if self.target.class(class).slots {
-            let slot = self.slots.take(self.size_of(bank))?;
+            let slot = self.slots.take(self.size_of(bank), self.slip)?;
             return Ok(Allocation::spillslot(slot));
         }
         if let Some(reg) = self.reuse(class) {
@@ -549,7 +565,7 @@ impl<'a> Run<'a> {
     fn evict(&mut self, reg: PhysReg, bank: RegBank) -> Result<(), Refused> {
         let size = self.size_of(bank);
         let early = match self.slip {
-            Slip::SlotFirst => Some(self.slots.take(size)?),
+            Slip::SlotFirst => Some(self.slots.take(size, self.slip)?),
             _ => None,
         };
         let before = self.held.len();
@@ -570,7 +586,7 @@ impl<'a> Run<'a> {
         }
         let slot = match early {
             Some(slot) => slot,
-            None => self.slots.take(size)?,
+            None => self.slots.take(size, self.slip)?,
         };
         if self.held.len() == 1 {
             self.note("evicted", "beside one that stays held");
@@ -604,7 +620,9 @@ impl<'a> Run<'a> {
                 to: held.slot,
                 from: held.reg,
             });
-            self.slots.put_back(held.slot, held.size);
+            if self.slip != Slip::NotPutBack {
+                self.slots.put_back(held.slot, held.size);
+            }
         }
     }
 
@@ -657,6 +675,10 @@ impl<'a> Run<'a> {
     fn put_back_slot(&mut self, scratch: Allocation, value: Value) {
         if let AllocationKind::SpillSlot(slot) = scratch.kind() {
             let size = self.size_of(self.values.value_bank(value));
+            let size = match self.slip {
+                Slip::SizeUp => (size + 1) % (MOST_SIZE_LOG2 + 1),
+                _ => size,
+            };
             self.slots.put_back(slot, size);
         }
     }

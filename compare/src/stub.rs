@@ -11,13 +11,14 @@ use std::sync::{Mutex, OnceLock};
 
 use judge::answer::Judge;
 use judge::calls::{Call, Function, Room, Session};
+use judge::enough::{Miscount, miscounted};
 use judge::number::{Reader, Refused};
 use judge::plain::Slip;
 use judge::target::{Register, Target};
 use judge::{answer, words};
 
 /// The faults, each in some answers only.
-const FAULTS: [&str; 38] = [
+const FAULTS: [&str; 47] = [
     "order",        // two edits change places in a patch with four or more
     "place",        // a copy into slot 3 goes to slot 1
     "made",         // a slot too many is counted from the second patch on
@@ -56,6 +57,15 @@ const FAULTS: [&str; 38] = [
     "open-setting", // a function is opened at setting 3, as at 2
     "open-bytes",   // 22 comes after the tests of the target and the function
     "call-kept",    // at setting 2 one eviction is kept
+    "size-up",      // a diversion's slot is put back one size up
+    "not-put-back", // an evicted register's slot is not put back
+    "other-size",   // where its stack is empty, a slot is taken from another
+    "few-slots",    // a hundred slots are made at most
+    "enough-banks", // of the L to plan with: banks of one size count each
+    "all-sizes",    // the sizes of all banks of the target count
+    "enough-kept",  // it is 129 for each size at setting 2 too
+    "enough-over",  // bytes left over are accepted
+    "enough-bytes", // 22 comes after the tests of the target and the function
 ];
 
 /// The judge that stands behind the library's place.
@@ -69,6 +79,10 @@ fn judge(kept_evictions: u32) -> Result<Judge, Refused> {
         "overlap-unheeded" => Slip::OverlapUnheeded,
         "one-for-a-place" => Slip::OneForAPlace,
         "slot-first" => Slip::SlotFirst,
+        "size-up" => Slip::SizeUp,
+        "not-put-back" => Slip::NotPutBack,
+        "other-size" => Slip::OtherSize,
+        "few-slots" => Slip::FewSlots,
         _ => Slip::None,
     };
     let kept_evictions = match (fault(), kept_evictions) {
@@ -331,6 +345,40 @@ pub unsafe extern "C" fn parallel_moves_open(
     opened().lock().unwrap().insert(target as usize, session);
     unsafe { *cache = 0 };
     0
+}
+
+/// # Safety
+/// As the library's.
+#[unsafe(export_name = "parallel_moves_enough_slots_4")]
+pub unsafe extern "C" fn parallel_moves_enough_slots(
+    kept_evictions: u32,
+    bytes: *const u8,
+    bytes_len: usize,
+    refusal: *mut u8,
+    _target: *mut u16,
+    _function: *mut u16,
+) -> u16 {
+    let bytes = unsafe { slice::from_raw_parts(bytes, bytes_len) };
+    let miscount = match fault() {
+        "enough-banks" => Miscount::Banks,
+        "all-sizes" => Miscount::Target,
+        "enough-kept" => Miscount::OneKept,
+        _ => Miscount::None,
+    };
+    let mut found = miscounted(kept_evictions, bytes, miscount);
+    match (fault(), found) {
+        ("enough-bytes", Err(Refused(22))) => {
+            found = miscounted(1, bytes, miscount).and(found);
+        }
+        ("enough-over", Err(Refused(8))) => {
+            let ends = (0..bytes.len()).rev();
+            let mut parts = ends.map(|end| miscounted(kept_evictions, &bytes[..end], miscount));
+            found = parts.find(Result::is_ok).unwrap_or(found);
+        }
+        _ => {}
+    }
+    unsafe { *refusal = found.map_or_else(|refused| refused.0, |_| 0) };
+    found.map_or(0, |enough| enough as u16)
 }
 
 /// Whether two moves of a call have equal sources and other values.

@@ -6,6 +6,7 @@ use std::panic::{self, AssertUnwindSafe};
 
 use judge::answer::Judge;
 use judge::calls::{self, Call, Function, Room};
+use judge::enough;
 use judge::generate::calls::{Opening, Session};
 
 use crate::ours::{NO_POSITION, Ours};
@@ -78,6 +79,14 @@ fn open_all(
             kept_evictions,
             ref bytes,
         } = opening;
+        let judged = enough::enough_slots(kept_evictions, bytes);
+        let expected = judged.map_or_else(|refused| (0, refused.0), |enough| (enough, 0));
+        let given = ours.enough_slots(kept_evictions, bytes);
+        if given != expected {
+            return Err(format!(
+                "the L to plan with and the refusal: {given:?}, of the judge {expected:?}"
+            ));
+        }
         let before = ours.cache().to_vec();
         let opened = Function::open(Judge::of(kept_evictions), bytes);
         let expected = opened.as_ref().map_or_else(|refused| refused.0, |_| 0);

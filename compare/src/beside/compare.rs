@@ -1,5 +1,7 @@
 //! One job, answered by the judge of a setting and by ours.
 
+use std::collections::BTreeMap;
+
 use judge::answer::{self, Judge};
 use judge::generate::calls::NO_SETTINGS;
 use judge::plain::Reached;
@@ -15,6 +17,8 @@ pub struct Way {
     pub with_little_room: bool,
     /// Ours' answer is spoiled first, to see that it is found.
     pub spoiled: Option<Spoiled>,
+    /// Its L is planned anew.
+    pub planned: bool,
 }
 
 /// What of an answer is spoiled.
@@ -33,6 +37,8 @@ pub struct Outcome {
     pub edits: u64,
     pub text: String,
     pub reached: Reached,
+    /// Of a job with its L planned anew: how many slots it makes of each size.
+    pub slots_by_size: Option<BTreeMap<usize, usize>>,
 }
 
 /// What is not the same.
@@ -100,6 +106,7 @@ pub fn compare(
                         edits: decoded.edits,
                         text: judged.text,
                         reached: judged.reached,
+                        slots_by_size: None,
                     });
                 }
             }

@@ -52,6 +52,16 @@ unsafe extern "C" {
     #[link_name = "parallel_moves_made_4"]
     fn parallel_moves_made(cache: *const u16) -> u16;
 
+    #[link_name = "parallel_moves_enough_slots_4"]
+    fn parallel_moves_enough_slots(
+        kept_evictions: u32,
+        bytes: *const u8,
+        bytes_len: usize,
+        refusal: *mut u8,
+        target: *mut u16,
+        function: *mut u16,
+    ) -> u16;
+
     #[link_name = "parallel_moves_answer_4"]
     fn parallel_moves_answer(
         kept_evictions: u32,
@@ -216,6 +226,25 @@ impl Ours {
                 self.cache.pointer(),
             )
         }
+    }
+
+    /// The L to plan with for a function at a setting, and the refusal. A function
+    /// that was opened before is open no longer.
+    pub fn enough_slots(&mut self, kept_evictions: u32, bytes: &[u8]) -> (usize, u8) {
+        let mut refusal = 0x5a;
+        // SAFETY: each array is as long as the function says, and none lies on
+        // another.
+        let enough = unsafe {
+            parallel_moves_enough_slots(
+                kept_evictions,
+                bytes.as_ptr(),
+                bytes.len(),
+                &mut refusal,
+                self.target.pointer(),
+                self.function.pointer(),
+            )
+        };
+        (enough.into(), refusal)
     }
 
     /// Resolves a patch of the function that was opened last, into a list of

@@ -12,7 +12,28 @@ pub fn draft(job: &[u8]) -> Option<(Draft, &[u8])> {
     (draft.job() == written).then_some((draft, left_over))
 }
 
+/// The target and the function that a job begins with, as a draft without patches
+/// that writes these very bytes, and what follows them, if there is one. They need
+/// not be accepted.
+pub fn opening(job: &[u8]) -> Option<(Draft, &[u8])> {
+    let mut reader = Reader::new(job);
+    let draft = read_opening(&mut reader).ok()?;
+    let (written, rest) = job.split_at(reader.place());
+    (draft.opening() == written).then_some((draft, rest))
+}
+
 fn read(reader: &mut Reader) -> Result<Draft, Refused> {
+    let mut draft = read_opening(reader)?;
+    draft.patches = list(reader, |reader| {
+        Ok(Patch {
+            free: list(reader, number)?,
+            entries: list(reader, entry)?,
+        })
+    })?;
+    Ok(draft)
+}
+
+fn read_opening(reader: &mut Reader) -> Result<Draft, Refused> {
     let target = Target {
         units: number(reader)?,
         banks: list(reader, |reader| {
@@ -55,12 +76,7 @@ fn read(reader: &mut Reader) -> Result<Draft, Refused> {
             };
             Ok(Value { bank, cost, class })
         })?,
-        patches: list(reader, |reader| {
-            Ok(Patch {
-                free: list(reader, number)?,
-                entries: list(reader, entry)?,
-            })
-        })?,
+        patches: Vec::new(),
     })
 }
 
