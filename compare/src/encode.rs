@@ -4,6 +4,7 @@
 //! * `12` is a number, in its shortest form;
 //! * `0x8f` is that very byte, for jobs that are damaged on purpose;
 //! * `( 0 1 3 0 )*128` is what stands between the brackets, 128 times;
+//! * `@2+5` is between brackets 5, then 7, 9 and so on: 2 more each time;
 //! * `$name` is what `name` was defined as (in a file of trials);
 //! * `#` and the rest of its line are a comment.
 //!
@@ -12,12 +13,14 @@
 //! * `trial NAME`, then the job's words over any number of lines, then, if the
 //!   program is given arguments, a line `given` with them (`""` is an empty one),
 //!   then, if the positions matter, a line `met` with that of each patch, then a
-//!   line `prints`, then the lines printed, then a line `end`.
+//!   line `prints`, then the lines printed, then a line `end`. Of a long answer a
+//!   line `..` stands for all edits of a patch, which are then the judge's.
 
 use std::collections::BTreeMap;
 use std::fmt;
 use std::str::Lines;
 
+use crate::answer;
 use crate::number;
 
 /// A mistake in what was written.
@@ -62,10 +65,14 @@ pub fn trials(text: &str) -> Result<Vec<Trial>, Mistake> {
                 let printed = until(&mut lines, "end")?;
                 let (written, met) = split(&written, "\nmet ");
                 let (written, given) = split(written, "\ngiven ");
+                let name = rest.trim().to_owned();
+                let job = words(written, &definitions)?;
+                let given = given.map(|given| lines_of(given.split_whitespace().map(argument)));
+                let printed = filled(&name, setting(given.as_deref()), &job, &printed)?;
                 trials.push(Trial {
-                    name: rest.trim().to_owned(),
-                    job: words(written, &definitions)?,
-                    given: given.map(|given| lines_of(given.split_whitespace().map(argument))),
+                    name,
+                    job,
+                    given,
                     met: met.map(|met| lines_of(met.split_whitespace())),
                     printed,
                 });
@@ -120,31 +127,76 @@ fn without_comment(line: &str) -> &str {
     line.split('#').next().unwrap_or("")
 }
 
+/// What is printed for a trial, with the judge's edits where `..` stands.
+fn filled(name: &str, setting: Option<u32>, job: &[u8], written: &str) -> Result<String, Mistake> {
+    if !written.lines().any(|line| line == "..") {
+        return Ok(written.to_owned());
+    }
+    let judged = answer::text(setting.unwrap_or(0), job);
+    let is_edit = |line: &&str| line.starts_with(['M', 'R', 'S', 'L']);
+    let mut rest = judged.lines().peekable();
+    for line in written.lines() {
+        if line == ".." {
+            while rest.next_if(is_edit).is_some() {}
+        } else if rest.next() != Some(line) {
+            return Err(format!("{name}: the judge does not print {line}"));
+        }
+    }
+    match rest.next() {
+        None => Ok(judged),
+        Some(line) => Err(format!("{name}: the judge also prints {line}")),
+    }
+}
+
 fn words(text: &str, definitions: &Definitions) -> Result<Vec<u8>, Mistake> {
     let mut job = Vec::new();
-    let mut opened = None;
+    let mut opened: Option<Vec<&str>> = None;
     for word in text
         .lines()
         .flat_map(|l| without_comment(l).split_whitespace())
     {
         let unknown = || format!("not a word of a job: {word}");
         if word == "(" && opened.is_none() {
-            opened = Some(job.len());
+            opened = Some(Vec::new());
         } else if let Some(times) = word.strip_prefix(")*") {
-            let start = opened.take().ok_or_else(unknown)?;
-            let times: usize = times.parse().map_err(|_| unknown())?;
-            let repeated = job.split_off(start).repeat(times);
-            job.extend(repeated);
-        } else if let Some(name) = word.strip_prefix('$') {
-            job.extend(definitions.get(name).ok_or_else(unknown)?);
-        } else if let Some(byte) = word.strip_prefix("0x") {
-            job.push(u8::from_str_radix(byte, 16).map_err(|_| unknown())?);
+            let repeated = opened.take().ok_or_else(unknown)?;
+            let times: u32 = times.parse().map_err(|_| unknown())?;
+            for time in 0..times {
+                for &word in &repeated {
+                    put_word(&mut job, word, definitions, Some(time))?;
+                }
+            }
+        } else if let Some(repeated) = &mut opened {
+            repeated.push(word);
         } else {
-            number::put(&mut job, word.parse().map_err(|_| unknown())?);
+            put_word(&mut job, word, definitions, None)?;
         }
     }
-    if opened.is_some() {
-        return Err("a bracket is not closed".to_owned());
+    match opened {
+        Some(_) => Err("a bracket is not closed".to_owned()),
+        None => Ok(job),
     }
-    Ok(job)
+}
+
+/// Puts a word, between brackets the `time`-th time, counted from 0.
+fn put_word(
+    job: &mut Vec<u8>,
+    word: &str,
+    definitions: &Definitions,
+    time: Option<u32>,
+) -> Result<(), Mistake> {
+    let unknown = || format!("not a word of a job: {word}");
+    let number = |word: &str| word.parse::<u32>().map_err(|_| unknown());
+    if let Some(name) = word.strip_prefix('$') {
+        job.extend(definitions.get(name).ok_or_else(unknown)?);
+    } else if let Some(byte) = word.strip_prefix("0x") {
+        job.push(u8::from_str_radix(byte, 16).map_err(|_| unknown())?);
+    } else if let Some(rising) = word.strip_prefix('@') {
+        let (step, first) = rising.split_once('+').ok_or_else(unknown)?;
+        let time = time.ok_or_else(unknown)?;
+        number::put(job, number(first)? + time * number(step)?);
+    } else {
+        number::put(job, number(word)?);
+    }
+    Ok(())
 }

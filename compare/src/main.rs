@@ -37,7 +37,8 @@ compare generate SEED COUNT MODE [--dir FOLDER]
     SEED, COUNT and MODE give the same jobs. MODE is one of those below.
 compare encode
     Reads a job written in words on standard input and writes the job.
-    Words: 12 (a number), 0x8f (a byte), ( 0 1 3 0 )*128 (repeated), # comment.
+    Words: 12 (a number), 0x8f (a byte), ( 0 1 3 0 )*128 (repeated), in these
+    @2+5 (5, 7, 9 and so on), # comment.
 compare trials FILE FOLDER
     Writes NAME.job and NAME.out into the folder for each trial in the file,
     NAME.met for those that say which positions they meet, and NAME.given, an
