@@ -1,7 +1,7 @@
 /* Reads recorded calls (rust/tests/calls.txt) on standard input and makes each:
- * its edits, refusal, slots and position must be the recorded ones, and a
- * refused call must leave the list, the cache and the position as they were.
- * Prints how many there were. It is C and C++. */
+ * its edits, refusal, slots and position must be the recorded ones, and so must a
+ * function's L to plan with; a refused call must leave the list, the cache and the
+ * position as they were. Prints how many there were. It is C and C++. */
 #include <inttypes.h>
 #include <stdio.h>
 #include <stdlib.h>
@@ -58,12 +58,20 @@ static size_t read_numbers(uint32_t *into)
 static bool open_function(void)
 {
     uint64_t refusal = number();
+    uint64_t enough = number();
     uint32_t kept_evictions = PARALLEL_MOVES_AS(uint32_t, number());
     size_t length = count();
     for (size_t i = 0; i < length; i++) {
         bytes[i] = PARALLEL_MOVES_AS(uint8_t, number());
     }
     memcpy(cache, memory.cache, sizeof cache);
+    uint8_t given = 99;
+    if (parallel_moves_enough_slots_in(&memory, kept_evictions, bytes, length, &given) != enough) {
+        fail("another L to plan with");
+    }
+    if (given != refusal) {
+        fail("another refusal of a function whose L is asked for");
+    }
     if (parallel_moves_open_in(&memory, kept_evictions, bytes, length) != refusal) {
         fail("another refusal of a function");
     }

@@ -4,6 +4,7 @@
  * - libcalls_c.a, which `rt staticlib calls_c` builds, for calls patch by patch:
  *   parallel_moves_open_in with a target and a function, then
  *   parallel_moves_resolve_in with each patch, and parallel_moves_slots_made;
+ *   before them, for whoever lays out the frame, parallel_moves_enough_slots_in;
  * - libparallel_moves_c.a, which `rt staticlib parallel_moves_c` builds, for a
  *   whole job as bytes: parallel_moves_answer_in, and parallel_moves_text.
  * c/stamp writes parallel_moves_build.h beside them, which says which build they
@@ -34,7 +35,7 @@
 
 /* The version of the interface: of what each function is lent, and how long the
  * tables are. The names in the library end in it, so that a library of another
- * version does not link. */
+ * version does not link. A version may gain a function: what it has stays. */
 #define PARALLEL_MOVES_INTERFACE 4
 
 #define PARALLEL_MOVES_STRING_OF(text) #text
@@ -98,6 +99,23 @@ PARALLEL_MOVES_LOOK_AT_IT uint8_t parallel_moves_open(
     uint16_t function[PARALLEL_MOVES_FUNCTION],
     uint16_t cache[PARALLEL_MOVES_CACHE])
     PARALLEL_MOVES_SYMBOL("parallel_moves_open");
+
+/* The L to plan with: so many emergency slots are enough for a function, whatever
+ * patches it gets. `bytes` are a target and a function over it, with any L and with
+ * nothing behind them; `kept_evictions` is as for parallel_moves_open. Returns
+ * 128 + kept_evictions for each different slot size among the banks of the
+ * function's values, at most 1,040. Opened with it in the place of its L, the
+ * function never gets 17. *refusal is set to 0, or to the number that
+ * parallel_moves_open would return: look at it first, since then the result is 0,
+ * as it is for a function without values. The working tables are `target` and
+ * `function`: a function that was opened in them is open no longer. */
+uint16_t parallel_moves_enough_slots(
+    uint32_t kept_evictions,
+    const uint8_t *bytes, size_t bytes_length,
+    uint8_t *refusal,
+    uint16_t target[PARALLEL_MOVES_TARGET],
+    uint16_t function[PARALLEL_MOVES_FUNCTION])
+    PARALLEL_MOVES_SYMBOL("parallel_moves_enough_slots");
 
 /* Resolves a patch of an opened function. `free_units` are the units that are
  * free, rising; `numbers` are its entries, four to each, as
@@ -175,8 +193,8 @@ size_t parallel_moves_text(
     PARALLEL_MOVES_SYMBOL("parallel_moves_text");
 
 /* All tables, about half a megabyte: make one with calloc, and use it for as
- * many calls as you like, one at a time. It has one opened function at most;
- * after parallel_moves_answer_in it has none. `position` is that of the last
+ * many calls as you like, one at a time. It has one opened function at most; after
+ * parallel_moves_answer_in and parallel_moves_enough_slots_in it has none. `position` is that of the last
  * patch which parallel_moves_resolve_in resolved, 0 before the first. */
 struct parallel_moves_memory {
     uint64_t edits[PARALLEL_MOVES_EDITS];
@@ -203,6 +221,17 @@ PARALLEL_MOVES_LOOK_AT_IT static inline uint8_t parallel_moves_open_in(
     memory->position = 0;
     return parallel_moves_open(
         kept_evictions, bytes, bytes_length, memory->target, memory->function, memory->cache);
+}
+
+/* parallel_moves_enough_slots with the tables of `memory`, which has no opened
+ * function afterwards. */
+static inline uint16_t parallel_moves_enough_slots_in(
+    struct parallel_moves_memory *memory, uint32_t kept_evictions,
+    const uint8_t *bytes, size_t bytes_length,
+    uint8_t *refusal)
+{
+    return parallel_moves_enough_slots(
+        kept_evictions, bytes, bytes_length, refusal, memory->target, memory->function);
 }
 
 /* parallel_moves_resolve with the tables of `memory`, in which a function was

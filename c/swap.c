@@ -1,5 +1,5 @@
 /* Opens a function over a target and has two patches of it resolved, as a
- * compiler does. Prints the edits, and which build it is. */
+ * compiler does. Prints the L to plan with, the edits, and which build it is. */
 #include <stdio.h>
 #include <stdlib.h>
 
@@ -43,7 +43,13 @@ int main(void)
         return EXIT_FAILURE;
     }
     /* One register may be evicted at a time. */
-    uint8_t refusal = parallel_moves_open_in(memory, 1, target_and_function, sizeof target_and_function);
+    uint8_t refusal;
+    uint16_t enough = parallel_moves_enough_slots_in(
+        memory, 1, target_and_function, sizeof target_and_function, &refusal);
+    if (refusal == 0) {
+        printf("slots to plan with: %u\n", (unsigned)enough);
+        refusal = parallel_moves_open_in(memory, 1, target_and_function, sizeof target_and_function);
+    }
     for (size_t count = 0; refusal == 0 && count < 2; count++) {
         refusal = swap(memory, count);
     }

@@ -1,5 +1,5 @@
 //! Opens a function over a target and has two patches of it resolved, as a
-//! compiler does. Prints the edits, and which build it is.
+//! compiler does. Prints the L to plan with, the edits, and which build it is.
 
 use parallel_moves::{Allocation, BUILD, Edit, ParallelMoves, Patch, PhysReg, Refusal, Value};
 
@@ -14,6 +14,8 @@ const TARGET_AND_FUNCTION: [u8; 46] = [
 fn main() -> Result<(), Refusal> {
     let reg = |index| Allocation::reg(PhysReg::new(index));
     // One register may be evicted at a time.
+    let enough = ParallelMoves::enough_slots(1, &TARGET_AND_FUNCTION)?;
+    println!("slots to plan with: {enough}");
     let mut moves = ParallelMoves::open(1, &TARGET_AND_FUNCTION)?;
     let mut patch = Patch::new();
     let mut code: Vec<Edit> = Vec::new();

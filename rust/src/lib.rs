@@ -6,7 +6,9 @@
 //! answers each [`Patch`] of such moves with the [`Edits`] that carry it out in
 //! order, or with a [`Refusal`]. A [`Resolver`] does the same with a whole job,
 //! which is a target, a function and its patches as bytes. Either is told how many
-//! evictions are kept, 1 or 2: how many registers may be evicted at once.
+//! evictions are kept, 1 or 2: how many registers may be evicted at once. For whoever
+//! lays out the frame, [`ParallelMoves::enough_slots`] says how many emergency slots
+//! are enough for a function.
 //!
 //! The work is done by a library in which every function is proved to meet its
 //! contract; this crate lends it memory and takes its words apart.

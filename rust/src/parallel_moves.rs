@@ -5,7 +5,7 @@ use std::fmt;
 use crate::edit::Edits;
 use crate::patch::Patch;
 use crate::refusal::Refusal;
-use crate::sys::{Opened, Tables};
+use crate::sys::{self, Opened, Tables};
 
 /// As many words are enough for every patch's edits: 8 for each of 128 entries.
 pub const MOST_EDITS: usize = 1024;
@@ -86,6 +86,33 @@ impl ParallelMoves {
         )
     }
 
+    /// The L to plan with: so many emergency slots are enough for a function,
+    /// whatever patches it gets. The bytes are as for [`ParallelMoves::open`], with
+    /// any L. It is 128 + `kept_evictions` for each different slot size among the
+    /// banks of the function's values: at most 1,040, and 0 without values. Opened
+    /// with it in the place of its L, the function never gets
+    /// [`Refusal::OutOfSlots`].
+    ///
+    /// # Errors
+    ///
+    /// As [`ParallelMoves::open`].
+    ///
+    /// ```
+    /// use parallel_moves::{ParallelMoves, Refusal};
+    ///
+    /// // One register and one value; slots have 2^3 bytes, and none may be made.
+    /// let target_and_function = [
+    ///     1, 1, 3, 0, 1, 1, 0, 0, 1, 0, 2, 0, 1, 0, 0, 0, 0, 1, 0, 1, 0, // target
+    ///     1, 0, 0, 0, 0, // values and slots
+    /// ];
+    /// assert_eq!(ParallelMoves::enough_slots(1, &target_and_function), Ok(129));
+    /// assert_eq!(ParallelMoves::enough_slots(2, &target_and_function), Ok(130));
+    /// assert_eq!(ParallelMoves::enough_slots(3, &[]), Err(Refusal::NoSuchSetting));
+    /// ```
+    pub fn enough_slots(kept_evictions: u32, target_and_function: &[u8]) -> Result<u16, Refusal> {
+        sys::enough_slots(kept_evictions, target_and_function).map_err(refusal)
+    }
+
     /// The edits that carry a patch out.
     ///
     /// # Errors
@@ -141,8 +168,13 @@ fn open(
 ) -> Result<ParallelMoves, Refusal> {
     match tables.open(kept_evictions, bytes) {
         Ok(tables) => Ok(ParallelMoves { tables, list }),
-        Err(number) => Err(Refusal::of_number(number).expect("0 is no refusal")),
+        Err(number) => Err(refusal(number)),
     }
+}
+
+/// The refusal with a number, which is not 0.
+fn refusal(number: u8) -> Refusal {
+    Refusal::of_number(number).expect("0 is no refusal")
 }
 
 #[inline]

@@ -41,6 +41,16 @@ unsafe extern "C" {
         cache: &mut SlotCache,
     ) -> u8;
 
+    #[link_name = "parallel_moves_enough_slots_4"]
+    fn parallel_moves_enough_slots(
+        kept_evictions: u32,
+        bytes: *const u8,
+        bytes_length: usize,
+        refusal: &mut u8,
+        target: &mut RegInfo,
+        function: &mut Function,
+    ) -> u16;
+
     #[link_name = "parallel_moves_resolve_4"]
     fn parallel_moves_resolve(
         target: &RegInfo,
@@ -280,6 +290,30 @@ impl Opened {
 fn table<T: Copy + Default, const N: usize>() -> Box<[T; N]> {
     let table = vec![T::default(); N].into_boxed_slice();
     table.try_into().ok().expect("it has N items")
+}
+
+/// The L to plan with for a function with so many kept evictions; if it is refused, the
+/// number.
+pub(crate) fn enough_slots(kept_evictions: u32, bytes: &[u8]) -> Result<u16, u8> {
+    let mut refusal = 0;
+    // SAFETY: `bytes` is as long as the function is told, and each table has the
+    // length that it is declared with and is borrowed mutably. The function keeps
+    // no pointer.
+    let enough = unsafe {
+        parallel_moves_enough_slots(
+            kept_evictions,
+            bytes.as_ptr(),
+            bytes.len(),
+            &mut refusal,
+            &mut table(),
+            &mut table(),
+        )
+    };
+    if refusal == 0 {
+        Ok(enough)
+    } else {
+        Err(refusal)
+    }
 }
 
 /// Writes the text of an answer into `text`: its length. `None` if `text` is

@@ -14,6 +14,7 @@ const CALLS: &str = include_str!("../tests/calls.txt");
 enum Call {
     Open {
         refusal: u8,
+        enough: u16,
         kept_evictions: u32,
         bytes: Vec<u8>,
     },
@@ -36,6 +37,7 @@ fn calls() -> impl Iterator<Item = Call> {
         let call = match kind {
             "open" => Call::Open {
                 refusal,
+                enough: number(&mut words),
                 kept_evictions: number(&mut words),
                 bytes: list(&mut words),
             },
@@ -89,9 +91,14 @@ fn recorded_calls() {
         match call {
             Call::Open {
                 refusal,
+                enough,
                 kept_evictions,
                 bytes,
             } => {
+                // Functions are open while others are asked about.
+                let given = ParallelMoves::enough_slots(kept_evictions, &bytes);
+                let recorded = Refusal::of_number(refusal).map_or(Ok(enough), Err);
+                assert_eq!(given, recorded, "call {number}");
                 let opened = match moves.take() {
                     None => ParallelMoves::open(kept_evictions, &bytes),
                     Some(moves) => ParallelMoves::reopen(moves, kept_evictions, &bytes),

@@ -13,12 +13,13 @@ use common::root;
 /// Names of types and constants, and what they stand for.
 type Names = HashMap<String, String>;
 
-const FUNCTIONS: [&str; 5] = [
+const FUNCTIONS: [&str; 6] = [
     "parallel_moves_open",
     "parallel_moves_resolve",
     "parallel_moves_made",
     "parallel_moves_answer",
     "parallel_moves_text",
+    "parallel_moves_enough_slots",
 ];
 
 fn read(path: &str) -> String {
@@ -187,7 +188,7 @@ fn parameters_agree() {
     assert_eq!(
         recorded, declared,
         "a changed interface has a new version: count up PARALLEL_MOVES_INTERFACE and the names' \
-         endings, and put it into c/interface.txt"
+         endings, and put it into c/interface.txt; a function more is a line more there"
     );
 }
 
@@ -214,7 +215,11 @@ fn memory_agrees() {
     fields.sort();
     all.sort();
     assert_eq!(fields, all);
-    for function in ["parallel_moves_open", "parallel_moves_resolve"] {
+    for function in [
+        "parallel_moves_open",
+        "parallel_moves_enough_slots",
+        "parallel_moves_resolve",
+    ] {
         for table in tables(&text, function) {
             assert!(all.contains(&table), "{table}");
         }

@@ -6,7 +6,7 @@ use common::{answers, generated, text};
 use parallel_moves::Resolver;
 
 /// How many jobs are made in each mode.
-const MODES: [(&str, usize); 10] = [
+const MODES: [(&str, usize); 11] = [
     ("small", 5000),
     ("big", 500),
     ("shared", 2000),
@@ -17,6 +17,7 @@ const MODES: [(&str, usize); 10] = [
     ("refused", 5000),
     ("damaged", 5000),
     ("limits", 500),
+    ("fans", 500),
 ];
 
 #[test]
