@@ -153,10 +153,11 @@ fn add_patch(sizes: &mut BTreeMap<usize, usize>, edits: &[Named]) -> Result<(), 
 /// Whether a slot is named so near to an edit that it may have been in use when that
 /// one's was taken. Between taking a slot and the move or rebuild that names it,
 /// registers are brought back and evicted; a copy through a register is two moves, of
-/// which either may be the one.
+/// which either may be the one. To take a slot and evict into it is one step.
 fn near(edits: &[Named], at: usize, slot: usize) -> bool {
+    let scratch = !edits[at].evicts;
     let before = edits[..at].iter().rev().enumerate();
-    let before = before.take_while(|&(steps, edit)| steps == 0 || edit.evicts);
+    let before = before.take_while(|&(steps, edit)| scratch && (steps == 0 || edit.evicts));
     let mut others = 0;
     let after = edits[at..].iter().take_while(|edit| {
         let near = others < 2;
