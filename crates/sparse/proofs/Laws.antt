@@ -13,7 +13,7 @@ use lib.Arith.{lt-of-le-ne}
 use lib.Dec.{eqb}
 use borrow.Author.Tests.{eqb-true, eqb-false, eq-eqb, ne-eqb}
 use Rattle.entity.specs.Logic.{pick, or, has, twice}
-use Rattle.sparse.specs.Map.{countOf, keyAt, valueAt, mapFrom, mapOf, emptyMap, updated, keysFrom, keysOf, known, Linked, Absent, Placed, Emptied, Inserted}
+use Rattle.sparse.specs.Map.{countOf, keyAt, valueAt, mapFrom, mapOf, emptyMap, updated, keysFrom, keysOf, known, Linked, Absent, Placed, Emptied, Begins, Inserted, Same, Shortened}
 
 -- ---- maps
 pub updated-same : (f : ℕ → Option ℕ) (k v : ℕ) → updated f k v k ≡ some v
@@ -252,12 +252,62 @@ module _ (t u : List ℕ) (k v : ℕ) (o : Push t u k v) (ok : Linked t) (new : 
     map = rw (o .count, add-one (countOf t)) (fun-ext (λ x. push-at x (eqb x k) refl));
     keys = rw (o .count, add-one (countOf t), o .key, keys-same t u (countOf t) (o .keys));
     linked = push-linked;
+    begins = record { count = omega (arith, o .count); keys = o .keys; values = o .values };
   }
+
+-- ---- the keys that come first
+pub begins-all : (t : List ℕ) → Begins t t
+begins-all t = record { count = omega arith; keys = λ j h. refl; values = λ j h. refl }
+
+pub begins-on : (t u v : List ℕ) → Begins t u → Begins u v → Begins t v
+begins-on t u v a b =
+    record {
+      count = omega (arith, a .count, b .count);
+      keys = λ j h. b .keys j (omega (arith, a .count)) ∙ a .keys j h;
+      values = λ j h. b .values j (omega (arith, a .count)) ∙ a .values j h;
+    }
+
+-- where no more are counted, the map is theirs
+first-same : (t u : List ℕ) → countOf u ≡ countOf t → Begins t u → Linked u → Same t u
+unfolding mapOf keysOf
+first-same t u e b ok =
+    record {
+      map = rw e (fun-ext (λ x. map-same t u x (countOf t) (b .keys) (λ j h q. b .values j h)));
+      keys = rw e (keys-same t u (countOf t) (b .keys));
+      linked = ok;
+    }
 
 -- ---- the stores of the code
 module _ (t : List ℕ) (long : length t ≡ 6657) where
   pub forgotten : Emptied t (set t 6656 0)
   forgotten = emptied t (set t 6656 0) (getD-set-same t 6656 0 0 (omega arith)) refl
+
+  -- another count, not greater
+  module _ (n : ℕ) (ok : Linked t) (less : n ≤ countOf t) where
+    abbrev cut : List ℕ
+    cut = set t 6656 n
+
+    cut-count : countOf cut ≡ n
+    cut-count = getD-set-same t 6656 n 0 (omega arith)
+
+    cut-cell : (x : ℕ) → x < 6656 → getD cut x 0 ≡ getD t x 0
+    cut-cell x h = getD-set-other t 6656 x n 0 (λ e. omega arith)
+
+    cut-key : (j : ℕ) → j < n → keyAt cut j ≡ keyAt t j
+    cut-key j h = cut-cell (4608 + j * 2) (omega (arith, ok .few))
+
+    cut-linked : Linked cut
+    cut-linked = record { few = omega (arith, cut-count, ok .few); back = λ j h. (let l : j < n = omega (arith, cut-count, h) in let b = ok .back j (omega arith) in rw (cut-key j l) (b .0, cut-cell (keyAt t j) (omega (arith, b .0)) ∙ b .1)) }
+
+    pub shortened : Shortened t cut n
+    shortened u e b =
+        first-same u cut (cut-count ∙ sym e)
+        (record {
+          count = omega (arith, cut-count, e);
+          keys = λ j h. cut-key j (omega (arith, e)) ∙ b .keys j h;
+          values = λ j h. cut-cell (4609 + j * 2) (omega (arith, e, ok .few)) ∙ b .values j h;
+        })
+        cut-linked
 
   -- the value, the sparse cell, the key and the count of a new key, one after the other
   module _ (k v n : ℕ) (low : k < 4608) (room : n < 1024) where

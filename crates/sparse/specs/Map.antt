@@ -72,11 +72,28 @@ pub record Emptied (t u : List ℕ) : Type 0 where
   pub linked : Linked u
   pub rest : u ≡ set t 6656 0
 
+-- the keys of t come first in u, with their values
+pub record Begins (t u : List ℕ) : Type 0 where
+  pub count : countOf t ≤ countOf u
+  pub keys : (j : ℕ) → j < countOf t → keyAt u j ≡ keyAt t j
+  pub values : (j : ℕ) → j < countOf t → valueAt u j ≡ valueAt t j
+
 -- k, which was not there, put in at v: it comes last
 pub record Inserted (t u : List ℕ) (k v : ℕ) : Type 0 where
   pub map : mapOf u ≡ updated (mapOf t) k v
   pub keys : keysOf u ≡ keysOf t ++ (k ∷ [])
   pub linked : Linked u
+  pub begins : Begins t u
+
+-- the same map; cells that it does not read may differ
+pub record Same (t u : List ℕ) : Type 0 where
+  pub map : mapOf u ≡ mapOf t
+  pub keys : keysOf u ≡ keysOf t
+  pub linked : Linked u
+
+-- all but the first n keys forgotten: what was put in behind them is as if it never had been
+abbrev pub Shortened : List ℕ → List ℕ → ℕ → Type 0
+Shortened u u′ n = (t : List ℕ) → countOf t ≡ n → Begins t u → Same t u′
 
 -- what the enum of the code stands for
 abbrev pub foundOf : Found → Option ℕ

@@ -1,9 +1,9 @@
 // 01: "the writer of each unit". A sparse map from units to numbers, in one lent table that may hold anything before it is cleared.
 ghost use mathlib.Core.Path.{_≡_};
 ghost use mathlib.Core.Option.{none};
-ghost use Prim.Native.Nat.{_<_};
+ghost use Prim.Native.Nat.{_<_, _≤_};
 ghost use lib.ListN.{length, getD};
-ghost use Rattle.sparse.specs.Map.{mapOf, keysOf, foundOf, Linked, Placed, Emptied, Inserted};
+ghost use Rattle.sparse.specs.Map.{mapOf, keysOf, foundOf, Linked, Placed, Emptied, Inserted, Shortened};
 use entity::AllocationUnit;
 use entity::narrow;
 use entity::wide;
@@ -87,4 +87,13 @@ pub fn insert(t: &mut SparseMap, u: AllocationUnit, v: u16)
     t[k] = narrow(n);
     t[4608 + n * 2] = u.0;
     t[6656] = narrow(n + 1);
+}
+
+// Forgets all but the first n keys.
+pub fn shorten(t: &mut SparseMap, n: usize)
+    requires { ⌜ Linked (now t) × (n ≤ length (keysOf (now t))) ⌝ }
+    ensures { λ _. ⌜ Shortened (now (t .entry)) (now (t .exit)) n ⌝ }
+{
+    told(*t);
+    t[6656] = narrow(n);
 }
