@@ -10,7 +10,7 @@ use lib.ListN.{getD, length, length-append, length-map, List·getD-append, List�
 use borrow.Author.Tests.{eqb-true, eqb-false, eq-eqb, lt-ltb, lt-leb, le-leb}
 use Rattle.entity.specs.Logic.{pick, and, or, no, any, has}
 use Rattle.entity.specs.Place.{Place, slot, samePlace, placeAt, codeOf}
-use Rattle.entity.proofs.Laws.{and-true, any-has, has-getD, code-there}
+use Rattle.entity.proofs.Laws.{and-true, no-false, any-has, has-getD, code-there}
 use Rattle.reginfo.specs.RegInfo.{RegInfo, placeUnits, overlap, inClass, ofBank}
 use Rattle.reginfo.specs.Refused.{orElse, firstOf}
 use Rattle.reginfo.specs.Table.{regInfoOf}
@@ -20,14 +20,14 @@ use Rattle.rules.specs.Order.{KeptMove, Remat, noMove, writerFrom}
 use Rattle.rules.specs.Patch.{Entry, move, remat, Sorted, destinations, needsScratch, becomesRemat, sameMove, dropped, addRemat, add, namesPlace, overlapsEarlier, wouldBeKept, overlapsSource, entryConditions}
 use Rattle.rules.specs.Sorted.{SortedOk}
 use Rattle.rules.proofs.Accepted.{same-self, same-is, sorted-add}
-use Rattle.sparse.specs.Map.{mapOf, known}
+use Rattle.sparse.specs.Map.{mapOf, known, Same}
 use Rattle.entries.specs.Table.{moveAt, sortedOf, isMoveOf, keptMove, rebuiltAs, withMove, withRemat, withDropped}
 use Rattle.function.specs.Known.{Checked}
-use Rattle.entries.specs.Known.{Writable, NamedRemat, NamedMove, isWritten, Noted, Roomy, orRebuilt, writerOf, SameIndex, Tracked, PassedMove, EntriesOk}
-use Rattle.entries.specs.Answers.{IndexedAs, KeptAs, AddedAs, RebuiltAs}
+use Rattle.entries.specs.Known.{Writable, NamedRemat, NamedMove, isWritten, Roomy, orRebuilt, writerOf, SameIndex, Tracked, PassedMove, EntriesOk}
+use Rattle.entries.specs.Answers.{NotedNew, IndexedAs, KeptAs, AddedAs, RebuiltAs}
 use Rattle.entries.proofs.Lists.{both-ways, pick-none, any-true, any-where, any-only, meets-any}
 use Rattle.entries.proofs.Table.{kept-count, remats-count, scratch-count, entries-count, kept-is, low-same}
-use Rattle.entries.proofs.Writers.{known-none, known-from, overlaps-written, tracked-move, tracked-remat}
+use Rattle.entries.proofs.Writers.{known-none, known-from, overlaps-written, tracked-same, tracked-move, tracked-remat}
 use Rattle.entries.proofs.Fates.{writable}
 use Rattle.entries.proofs.Sources.{indexed-same, indexed-kept}
 
@@ -62,16 +62,26 @@ roomy t f e w ok less =
     }
 
 -- the index does not count
-pub roomy-low : (e e′ w : List ℕ) → Roomy e w → ((y : ℕ) → y < 1028 → getD e′ y 0 ≡ getD e y 0) → Roomy e′ w
-roomy-low e e′ w r low =
-    record { few = rw (low 1024 (omega arith), low 1025 (omega arith), low 1026 (omega arith)) (r .few); count = rw (low 1027 (omega arith)) (r .count); keys = r .keys; linked = r .linked }
+pub roomy-low : (e e′ w : List ℕ) → Roomy e w → ((y : ℕ) → y < 1028 → getD e′ y 0 ≡ getD e y 0) → (getD e′ 1024 0 + (getD e′ 1025 0 + getD e′ 1026 0) < 128) × (getD e′ 1027 0 < 128)
+roomy-low e e′ w r low = (rw (low 1024 (omega arith), low 1025 (omega arith), low 1026 (omega arith)) (r .few), rw (low 1027 (omega arith)) (r .count))
 
 -- a rebuild refused, and one taken
-pub rebuild-refused : (e w us : List ℕ) (b : Bool) (x : Remat) → any (isWritten w) us ≡ true → RebuiltAs e w e w us b x (some 12)
-rebuild-refused e w us b x h = record { is = rw h; yes = λ q. (let z : _≡_ {A = ℕ} 0 1 = cc in absurd (omega arith)); no = λ n q. (refl, refl) }
+no-true : (a : Bool) → no a ≡ true → a ≡ false
+no-true true e = sym e
+no-true false e = refl
 
-pub rebuild-taken : (e w e′ w′ us : List ℕ) (b : Bool) (x : Remat) → any (isWritten w) us ≡ false → (sortedOf e′ ≡ withRemat b x (sortedOf e)) × SameIndex e e′ → Noted w w′ us 128 → RebuiltAs e w e′ w′ us b x none
-rebuild-taken e w e′ w′ us b x h q n = record { is = rw h; yes = λ z. (q .0, n, q .1); no = λ m z. (let y : _≡_ {A = ℕ} 0 1 = cc in absurd (omega arith)) }
+-- what was noted tells whether a unit was written
+pub noted-not : (w w′ us : List ℕ) (x : ℕ) (r : Bool) → NotedNew w w′ us x r → r ≡ false → any (isWritten w) us ≡ true
+noted-not w w′ us x r n q = no-false (any (isWritten w) us) (sym (n .is) ∙ q)
+
+pub noted-new : (w w′ us : List ℕ) (x : ℕ) (r : Bool) → NotedNew w w′ us x r → r ≡ true → any (isWritten w) us ≡ false
+noted-new w w′ us x r n q = no-true (any (isWritten w) us) (sym (n .is) ∙ q)
+
+pub rebuild-refused : (e w w′ us : List ℕ) (b : Bool) (x : Remat) (r : Bool) → NotedNew w w′ us 128 r → r ≡ false → RebuiltAs e w e w′ us b x (some 12)
+rebuild-refused e w w′ us b x r n h = record { is = rw (noted-not w w′ us 128 r n h); yes = λ q. (let z : _≡_ {A = ℕ} 0 1 = cc in absurd (omega arith)); no = λ m q. (refl, n .no h) }
+
+pub rebuild-taken : (e w e′ w′ us : List ℕ) (b : Bool) (x : Remat) (r : Bool) → NotedNew w w′ us 128 r → r ≡ true → (sortedOf e′ ≡ withRemat b x (sortedOf e)) × SameIndex e e′ → RebuiltAs e w e′ w′ us b x none
+rebuild-taken e w e′ w′ us b x r n h q = record { is = rw (noted-new w w′ us 128 r n h); yes = λ z. (q .0, n .yes h, q .1); no = λ m z. (let y : _≡_ {A = ℕ} 0 1 = cc in absurd (omega arith)) }
 
 module _ (t : RegInfo) (f : Function) where
   -- the kept move that writes a unit
@@ -180,8 +190,11 @@ module _ (t f e w : List ℕ) (ok : Checked t f) (kept : EntriesOk t f e w) wher
     same-there = rw (kept .map) (at-writer (writerFrom T F (a .moves) 0 (a .moves) first) _ refl)
 
   -- a refused entry, and one that is taken
+  refused-with : (x : Entry) (n : ℕ) (w′ : List ℕ) → EntriesOk t f e w′ → firstOf (entryConditions T F a x) ≡ some n → AddedAs t f e w e w′ x (some n)
+  refused-with x n w′ k h = record { is = sym h; yes = λ q. (let z : _≡_ {A = ℕ} 0 1 = cc in absurd (omega arith)); no = λ m q. (refl, k) }
+
   refused-by : (x : Entry) (n : ℕ) → firstOf (entryConditions T F a x) ≡ some n → AddedAs t f e w e w x (some n)
-  refused-by x n h = record { is = sym h; yes = λ q. (let z : _≡_ {A = ℕ} 0 1 = cc in absurd (omega arith)); no = λ m q. (refl, refl, kept) }
+  refused-by x n h = refused-with x n w kept h
 
   -- 15 and 2
   pub refused-15 : (x : Entry) → 128 ≤ a .count → AddedAs t f e w e w x (some 15)
@@ -240,7 +253,7 @@ module _ (t f e w : List ℕ) (ok : Checked t f) (kept : EntriesOk t f e w) wher
             let ok = rw q at (sorted-add T F x a (kept .sorted) (given ∙ sym (done .is) ∙ z)) in
             let apart = overlaps-is (placeAt d) ∙ pick-none (any (isWritten w) (placeUnits T (placeAt d))) 12 (sym z ∙ done .is) in
             (m .0 ∙ sym q, rw (m .0) (tracked-remat T F a (placeAt d) apart e e′ w w′ kept less (writes .few) b v (m .1) ok (m .2))));
-        no = λ n z. (let q = done .no n z in rw (q .0, q .1) (refl, refl, kept));
+        no = λ n z. (let q = done .no n z in rw (q .0) (refl, tracked-same T F a e w w′ kept (q .1)));
       }
 
   -- an entry that asks for a rebuild
@@ -269,28 +282,30 @@ module _ (t f e w : List ℕ) (ok : Checked t f) (kept : EntriesOk t f e w) wher
       kept-conditions : firstOf (entryConditions T F a (move (placeAt s) (placeAt d) v)) ≡ orElse (and written (no there)) 12 (orElse (and (no there) (overlapsSource T a (placeAt s))) 21 none)
       kept-conditions = move-conditions T F a (placeAt s) (placeAt d) v p ∙ rw (overlaps-is (placeAt d), dropped-is, q)
 
-      pub refused-12 : written ≡ true → there ≡ false → AddedAs t f e w e w (move (placeAt s) (placeAt d) v) (some 12)
-      refused-12 h g = refused-by (move (placeAt s) (placeAt d) v) 12 (kept-conditions ∙ rw (h, g))
+      pub refused-12 : written ≡ true → there ≡ false → (w′ : List ℕ) → Same w w′ → AddedAs t f e w e w′ (move (placeAt s) (placeAt d) v) (some 12)
+      refused-12 h g w′ m = refused-with (move (placeAt s) (placeAt d) v) 12 w′ (tracked-same T F a e w w′ kept m) (kept-conditions ∙ rw (h, g))
 
       -- a move whose destination nothing writes
       new : written ≡ false → there ≡ false
       new h = rw (known-none (mapOf w (getD (placeUnits T (placeAt d)) 0 0)) (any-has (isWritten w) (placeUnits T (placeAt d)) _ h (has-getD (placeUnits T (placeAt d)) 0 (dest-writable .some))))
 
-      pub refused-21 : written ≡ false → (e′ : List ℕ) → IndexedAs T e e′ (placeAt s) true → AddedAs t f e w e′ w (move (placeAt s) (placeAt d) v) (some 21)
-      refused-21 h e′ i =
+      pub refused-21 : written ≡ false → (e′ w′ : List ℕ) → IndexedAs T e e′ (placeAt s) true → Same w w′ → AddedAs t f e w e′ w′ (move (placeAt s) (placeAt d) v) (some 21)
+      refused-21 h e′ w′ i m =
           let same = low-same e e′ (i .low) (omega (arith, kept .few, p .less, kept-count e)) (omega (arith, kept .few, p .less, remats-count e)) (omega (arith, kept .few, p .less, scratch-count e)) in
           record {
             is = sym (kept-conditions ∙ rw (h, new h, sym (i .is)));
             yes = λ q. (let z : _≡_ {A = ℕ} 0 1 = cc in absurd (omega arith));
-            no = λ m q. (same, refl, rw same record { sorted = kept .sorted; few = kept .few; most = kept .most; map = kept .map; linked = kept .linked; room = kept .room; indexed = i .no refl });
+            no = λ _ _. (same, rw same (tracked-same T F a e′ w w′ (record { sorted = kept .sorted; few = kept .few; most = kept .most; map = kept .map; linked = kept .linked; room = kept .room; indexed = i .no refl }) m));
           }
 
-      pub added-dropped : written ≡ true → there ≡ true → (e′ : List ℕ) → sortedOf e′ ≡ withDropped a → SameIndex e e′ → AddedAs t f e w e′ w (move (placeAt s) (placeAt d) v) none
+      pub added-dropped : written ≡ true → there ≡ true → (e′ w′ : List ℕ) → sortedOf e′ ≡ withDropped a → SameIndex e e′ → Same w w′ → AddedAs t f e w e′ w′ (move (placeAt s) (placeAt d) v) none
       unfolding add writerOf
-      added-dropped h g e′ done same =
+      added-dropped h g e′ w′ done same m =
           let is : add T F (move (placeAt s) (placeAt d) v) a ≡ withDropped a = rw (q, same-there s d v dest-writable, g) in
-          taken (move (placeAt s) (placeAt d) v) e′ w (kept-conditions ∙ rw (h, g)) (done ∙ sym is)
-          (λ o. rw is record { sorted = rw is at o; few = omega (arith, kept .few); most = omega (arith, p .less); map = kept .map; linked = kept .linked; room = kept .room; indexed = indexed-same T a (withDropped a) e e′ refl same (kept .indexed) })
+          taken (move (placeAt s) (placeAt d) v) e′ w′ (kept-conditions ∙ rw (h, g)) (done ∙ sym is)
+          (λ o. rw is
+          (tracked-same T F (withDropped a) e′ w w′
+          (record { sorted = rw is at o; few = omega (arith, kept .few); most = omega (arith, p .less); map = kept .map; linked = kept .linked; room = kept .room; indexed = indexed-same T a (withDropped a) e e′ refl same (kept .indexed) }) m))
 
       pub added-kept : written ≡ false → overlapsSource T a (placeAt s) ≡ false → (e′ w′ : List ℕ) → KeptAs T e w e′ w′ s d v → AddedAs t f e w e′ w′ (move (placeAt s) (placeAt d) v) none
       unfolding add

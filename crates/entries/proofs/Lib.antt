@@ -3,5 +3,6 @@ pub mod Table
 pub mod Fates
 pub mod Sources
 pub mod Writers
+pub mod Noting
 pub mod Adding
 pub mod Free

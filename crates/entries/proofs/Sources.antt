@@ -337,7 +337,7 @@ slot-indexed t e s so = record { is = sym (slot-clear t (sortedOf e) s (sources-
 -- ---- one entry more
 -- the index, then the stores of a kept move, one after the other
 pub kept-as : (t : RegInfo) (e e₁ e₂ w w′ : List ℕ) (s d v : ℕ) → KnownPlace t (placeAt s) → Sourced t e → IndexedAs t e e₁ (placeAt s) false
-    → e₂ ≡ countedOne (storedMove e₁ (getD e₁ 1024 0) s d v) → length e₂ ≡ 1541 → Noted w w′ (placeUnits t (placeAt d)) (getD e₁ 1024 0) → KeptAs t e w e₂ w′ s d v
+    → e₂ ≡ countedOne (storedMove e₁ (getD e₁ 1024 0) s d v) → length e₂ ≡ 1541 → Noted w w′ (placeUnits t (placeAt d)) (getD e 1024 0) → KeptAs t e w e₂ w′ s d v
 kept-as t e e₁ e₂ w w′ s d v known so i q long noted =
     let few : getD e₁ 1024 0 + (getD e₁ 1025 0 + getD e₁ 1026 0) < 128 = rw (i .low 1024 (omega arith), i .low 1025 (omega arith), i .low 1026 (omega arith)) (so .few) in
     let m : getD e₁ 1024 0 ≡ getD e 1024 0 = i .low 1024 (omega arith) in
@@ -351,7 +351,7 @@ kept-as t e e₁ e₂ w w′ s d v known so i q long noted =
     let told : SameIndex (sourceIndexed t e (placeAt s) (getD e 1024 0)) e₂ = rw (i .yes refl) at stayed in
     record {
       sorted = rw first at done;
-      noted = rw (kept-count e, ← m) noted;
+      noted = rw (kept-count e) noted;
       stamp = told 1540 (omega arith) ∙ source-stamp t e (placeAt s) (getD e 1024 0) known;
       told = λ u low on. told (1028 + u) (omega arith) ∙ rw (kept-count e) (source-told t e (placeAt s) (getD e 1024 0) u long₂ low on);
       others = λ u low off. told (1028 + u) (omega arith) ∙ source-others t e (placeAt s) (getD e 1024 0) u off;

@@ -16,7 +16,7 @@ use Rattle.function.specs.Function.{Function}
 use Rattle.rules.specs.Order.{KeptMove, Remat, writerFrom}
 use Rattle.rules.specs.Patch.{Sorted, nothingSorted, destinations, overlapsEarlier}
 use Rattle.rules.specs.Sorted.{SortedOk}
-use Rattle.sparse.specs.Map.{mapOf, known, updated, foundOf, emptyMap, Emptied}
+use Rattle.sparse.specs.Map.{mapOf, known, updated, foundOf, emptyMap, Emptied, Same}
 use Rattle.sparse.specs.declared.Found.{Found}
 use Rattle.entries.specs.Table.{withMove, withRemat}
 use Rattle.entries.specs.Known.{noted, Noted, orRebuilt, rebuilds, writerOf, places, Indexed, SameIndex, Tracked}
@@ -161,7 +161,7 @@ pub noted-step : (g : ℕ → Option ℕ) (us : List ℕ) (x j : ℕ) → j < le
 unfolding noted
 noted-step g us x j h = ap (λ (l : List ℕ). noted g l x) (drop-step us j 0 h)
 
--- a unit that had no writer gets one, and those behind it have none yet
+-- a unit that had no writer gets one: of those behind it as many have one as before
 any-updated : (g : ℕ → Option ℕ) (u x : ℕ) (l : List ℕ) → has u l ≡ false → any (λ v. known (updated g u x v)) l ≡ any (λ v. known (g v)) l
 unfolding any has updated
 any-updated g u x [] h = refl
@@ -169,11 +169,14 @@ any-updated g u x (v ∷ l) h =
     let p = or-false (eqb u v) (has u l) h in
     rw (ne-eqb v u (λ q. eqb-false u v (p .0) (sym q)), any-updated g u x l (p .1))
 
-pub unwritten-step : (g : ℕ → Option ℕ) (us : List ℕ) (x j : ℕ) → twice us ≡ false → j < length us → any (λ u. known (g u)) (drop j us) ≡ false
-    → (g (getD us j 0) ≡ none) × (any (λ u. known (updated g (getD us j 0) x u)) (drop (j + 1) us) ≡ false)
-unwritten-step g us x j once h e =
-    let p = or-false (known (g (getD us j 0))) (any (λ u. known (g u)) (drop (j + 1) us)) (sym (any-step (λ u. known (g u)) us j 0 h) ∙ e) in
-    (known-none (g (getD us j 0)) (p .0), any-updated g (getD us j 0) x (drop (j + 1) us) (twice-at us j once h) ∙ p .1)
+pub new-step : (g : ℕ → Option ℕ) (us : List ℕ) (x j : ℕ) → twice us ≡ false → j < length us → known (g (getD us j 0)) ≡ false
+    → any (λ u. known (g u)) (drop j us) ≡ any (λ u. known (updated g (getD us j 0) x u)) (drop (j + 1) us)
+new-step g us x j once h e = any-step (λ u. known (g u)) us j 0 h ∙ rw e (sym (any-updated g (getD us j 0) x (drop (j + 1) us) (twice-at us j once h)))
+
+-- the same map tracks the same entries
+pub tracked-same : (t : RegInfo) (f : Function) (a : Sorted) (e w w′ : List ℕ) → Tracked t f a e w → Same w w′ → Tracked t f a e w′
+tracked-same t f a e w w′ k s =
+    record { sorted = k .sorted; few = k .few; most = k .most; map = s .map ∙ k .map; linked = s .linked; room = rw (s .keys) (k .room); indexed = k .indexed }
 
 -- no entry and no writer
 pub tracked-none : (t : RegInfo) (f : Function) (a : Sorted) (e v w : List ℕ) → a ≡ nothingSorted → Emptied v w → Tracked t f a e w

@@ -5,7 +5,7 @@ use mathlib.Core.Bool.{Bool, true, false}
 use mathlib.Core.List.{List}
 use mathlib.Core.Option.{Option, none, some}
 use lib.ListN.{getD, length}
-use Rattle.entity.specs.Logic.{pick, any, has}
+use Rattle.entity.specs.Logic.{pick, no, any, has}
 use Rattle.entity.specs.Place.{Place, placeAt}
 use Rattle.reginfo.specs.RegInfo.{RegInfo, placeUnits}
 use Rattle.reginfo.specs.Refused.{firstOf}
@@ -13,6 +13,7 @@ use Rattle.reginfo.specs.Table.{regInfoOf}
 use Rattle.function.specs.Table.{functionOf}
 use Rattle.rules.specs.Order.{Remat}
 use Rattle.rules.specs.Patch.{Entry, overlapsSource, entryConditions, add}
+use Rattle.sparse.specs.Map.{Same}
 use Rattle.entries.specs.declared.Added as A
 use Rattle.entries.specs.declared.Added.{Added}
 use Rattle.entries.specs.declared.Fate as F
@@ -34,8 +35,14 @@ rebuiltOf (F.the-variants.Rebuilt b) = some b
 pub record AddedAs (t f e w e′ w′ : List ℕ) (x : Entry) (r : Option ℕ) : Type 0 where
   pub is : r ≡ firstOf (entryConditions (regInfoOf t) (functionOf f) (sortedOf e) x)
   pub yes : r ≡ none → (sortedOf e′ ≡ add (regInfoOf t) (functionOf f) x (sortedOf e)) × EntriesOk t f e′ w′
-  -- what it stands for is as it was, and entries can still be added; of its cells only those of the index may differ
-  pub no : (n : ℕ) → r ≡ some n → (sortedOf e′ ≡ sortedOf e) × (w′ ≡ w) × EntriesOk t f e′ w′
+  -- what the tables stand for is as it was, and entries can still be added; cells of the index, and cells that the map does not read, may differ
+  pub no : (n : ℕ) → r ≡ some n → (sortedOf e′ ≡ sortedOf e) × EntriesOk t f e′ w′
+
+-- x noted as the writer of each of the units us, unless one of them has a writer
+pub record NotedNew (w w′ us : List ℕ) (x : ℕ) (r : Bool) : Type 0 where
+  pub is : r ≡ no (any (isWritten w) us)
+  pub yes : r ≡ true → Noted w w′ us x
+  pub no : r ≡ false → Same w w′
 
 -- a source put into the index for the move that is kept next, unless 21 holds of it
 pub record IndexedAs (t : RegInfo) (e e′ : List ℕ) (p : Place) (o : Bool) : Type 0 where
@@ -56,4 +63,4 @@ pub record KeptAs (t : RegInfo) (e w e′ w′ : List ℕ) (s d v : ℕ) : Type 
 pub record RebuiltAs (e w e′ w′ us : List ℕ) (b : Bool) (x : Remat) (r : Option ℕ) : Type 0 where
   pub is : r ≡ pick (any (isWritten w) us) (some 12) none
   pub yes : r ≡ none → (sortedOf e′ ≡ withRemat b x (sortedOf e)) × Noted w w′ us 128 × SameIndex e e′
-  pub no : (n : ℕ) → r ≡ some n → (e′ ≡ e) × (w′ ≡ w)
+  pub no : (n : ℕ) → r ≡ some n → (e′ ≡ e) × Same w w′

@@ -17,7 +17,7 @@ use Rattle.rules.specs.Order.{KeptMove, Remat, noMove, writerFrom}
 use Rattle.rules.specs.Patch.{Sorted, namesPlace}
 use Rattle.rules.specs.Sorted.{SortedOk}
 use Rattle.small_set.specs.Set.{setOf}
-use Rattle.sparse.specs.Map.{mapOf, keysOf, known, updated, Linked}
+use Rattle.sparse.specs.Map.{mapOf, keysOf, known, updated, Linked, Begins}
 use Rattle.entries.specs.Table.{sortedOf, stampOf}
 
 -- a place whose units can be looked up
@@ -41,6 +41,7 @@ pub record Noted (w w′ us : List ℕ) (x : ℕ) : Type 0 where
   pub map : mapOf w′ ≡ noted (mapOf w) us x
   pub few : length (keysOf w′) ≤ length (keysOf w) + length us
   pub linked : Linked w′
+  pub begins : Begins w w′
 
 -- room for one entry more
 pub record Roomy (e w : List ℕ) : Type 0 where

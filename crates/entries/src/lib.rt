@@ -38,8 +38,8 @@ ghost use Rattle.small_set.specs.Set.{setOf};
 ghost use Rattle.sparse.specs.Map.{mapOf, keysOf, Linked};
 ghost use Rattle.entries.specs.Table.{sortedOf, countedOne, storedMove, storedRemat, stampOf, isMove, isMoveOf, keptMove, rebuiltAs, withMove, withRemat};
 ghost use Rattle.function.specs.Known.{Checked};
-ghost use Rattle.entries.specs.Known.{Writable, isWritten, Noted, Roomy, isFree, lastClashes, clashesAt, SourcedAt, Sourced, SameIndex, NamedRemat, NamedMove, PassedMove, EntriesOk};
-ghost use Rattle.entries.specs.Answers.{addedOf, rebuiltOf, IndexedAs, AddedAs, RebuiltAs};
+ghost use Rattle.entries.specs.Known.{Writable, isWritten, Roomy, isFree, lastClashes, clashesAt, SourcedAt, Sourced, SameIndex, NamedRemat, NamedMove, PassedMove, EntriesOk};
+ghost use Rattle.entries.specs.Answers.{addedOf, rebuiltOf, NotedNew, IndexedAs, AddedAs, RebuiltAs};
 
 pub type Entries = [u16; 1541];
 
@@ -86,33 +86,24 @@ fn has_writer(w: &SparseMap, u: AllocationUnit) -> bool
     }
 }
 
-// Whether an entry so far writes a unit of the place.
-fn is_written(t: &RegInfo, w: &SparseMap, p: Allocation) -> bool
-    requires { ⌜ Linked (now w) × Writable (regInfoOf (now t)) (placeAt (p .0)) ⌝ }
-    ensures { λ r. ⌜ r ≡ any (isWritten (now (w .entry))) (placeUnits (regInfoOf (now (t .entry))) (placeAt (p .0))) ⌝ }
+// Notes x as the writer of each unit of the place and answers true, unless a unit has a writer: then nothing is noted.
+fn note_writes(t: &RegInfo, w: &mut SparseMap, p: Allocation, x: u16) -> bool
+    requires { ⌜ Linked (now w) × Writable (regInfoOf (now t)) (placeAt (p .0)) × (length (keysOf (now w)) ≤ 1016) ⌝ }
+    ensures { λ r. ⌜ NotedNew (now (w .entry)) (now (w .exit)) (placeUnits (regInfoOf (now (t .entry))) (placeAt (p .0))) x r ⌝ }
 {
+    let before = sparse::len(w);
     let n = reginfo::num_place_units(t, p);
     let mut j: usize = 0;
     while j < n {
-        if has_writer(w, reginfo::place_unit(t, p, j)) {
-            return true;
+        let u = reginfo::place_unit(t, p, j);
+        if has_writer(w, u) {
+            sparse::shorten(w, before);
+            return false;
         }
+        sparse::insert(w, u, x);
         j += 1;
     }
-    false
-}
-
-// Notes x as the writer of each unit of the place, none of which has one.
-fn note_writes(t: &RegInfo, w: &mut SparseMap, p: Allocation, x: u16)
-    requires { ⌜ Linked (now w) × Writable (regInfoOf (now t)) (placeAt (p .0)) × (length (keysOf (now w)) ≤ 1016) × (any (isWritten (now w)) (placeUnits (regInfoOf (now t)) (placeAt (p .0))) ≡ false) ⌝ }
-    ensures { λ _. ⌜ Noted (now (w .entry)) (now (w .exit)) (placeUnits (regInfoOf (now (t .entry))) (placeAt (p .0))) x ⌝ }
-{
-    let n = reginfo::num_place_units(t, p);
-    let mut j: usize = 0;
-    while j < n {
-        sparse::insert(w, reginfo::place_unit(t, p, j), x);
-        j += 1;
-    }
+    true
 }
 
 // Whether m is a kept move with this source, destination and value.
@@ -254,22 +245,13 @@ fn index_source(t: &RegInfo, e: &mut Entries, source: Allocation) -> bool
     }
 }
 
-// Keeps a move that the index tells.
-fn keep(
-    t: &RegInfo,
-    e: &mut Entries,
-    w: &mut SparseMap,
-    source: Allocation,
-    dest: Allocation,
-    v: Value,
-)
-    requires { ⌜ Roomy (now e) (now w) × Writable (regInfoOf (now t)) (placeAt (dest .0)) × (any (isWritten (now w)) (placeUnits (regInfoOf (now t)) (placeAt (dest .0))) ≡ false) ⌝ }
-    ensures { λ _. ⌜ (now (e .exit) ≡ countedOne (storedMove (now (e .entry)) (getD (now (e .entry)) 1024 0) (source .0) (dest .0) (v .0))) × (length (now (e .exit)) ≡ 1541) × Noted (now (w .entry)) (now (w .exit)) (placeUnits (regInfoOf (now (t .entry))) (placeAt (dest .0))) (getD (now (e .entry)) 1024 0) ⌝ }
+// Keeps a move whose writes are noted and that the index tells.
+fn keep(e: &mut Entries, source: Allocation, dest: Allocation, v: Value)
+    requires { ⌜ (getD (now e) 1024 0 + (getD (now e) 1025 0 + getD (now e) 1026 0) < 128) × (getD (now e) 1027 0 < 128) ⌝ }
+    ensures { λ _. ⌜ (now (e .exit) ≡ countedOne (storedMove (now (e .entry)) (getD (now (e .entry)) 1024 0) (source .0) (dest .0) (v .0))) × (length (now (e .exit)) ≡ 1541) ⌝ }
 {
-    let m = e[1024];
     store_move(e, source, dest, v);
     count_entry(e);
-    note_writes(t, w, dest, m);
 }
 
 // Puts a rebuild into the table.
@@ -298,12 +280,11 @@ fn rebuild(
     requires { ⌜ Roomy (now e) (now w) × Writable (regInfoOf (now t)) (placeAt (dest .0)) ⌝ }
     ensures { λ r. ⌜ RebuiltAs (now (e .entry)) (now (w .entry)) (now (e .exit)) (now (w .exit)) (placeUnits (regInfoOf (now (t .entry))) (placeAt (dest .0))) scratch (rebuiltAs (dest .0) (v .0)) (addedOf r) ⌝ }
 {
-    if is_written(t, w, dest) {
-        return Added::Refused(12);
+    if note_writes(t, w, dest, 128) {
+        put_remat(e, scratch, dest, v);
+        return Added::Yes;
     }
-    put_remat(e, scratch, dest, v);
-    note_writes(t, w, dest, 128);
-    Added::Yes
+    Added::Refused(12)
 }
 
 // What becomes of a move.
@@ -334,6 +315,36 @@ fn move_fate(t: &RegInfo, f: &Function, source: Allocation, dest: Allocation, v:
     }
 }
 
+// Keeps or drops a move that is not rebuilt and not refused before 12.
+fn place_kept(
+    t: &RegInfo,
+    f: &Function,
+    e: &mut Entries,
+    w: &mut SparseMap,
+    source: Allocation,
+    dest: Allocation,
+    v: Value,
+) -> Added
+    requires { ⌜ Checked (now t) (now f) × EntriesOk (now t) (now f) (now e) (now w) × PassedMove (regInfoOf (now t)) (functionOf (now f)) (sortedOf (now e)) (placeAt (source .0)) (placeAt (dest .0)) (v .0) × (becomesRemat (regInfoOf (now t)) (functionOf (now f)) (placeAt (source .0)) (placeAt (dest .0)) (v .0) ≡ false) ⌝ }
+    ensures { λ r. ⌜ AddedAs (now (t .entry)) (now (f .entry)) (now (e .entry)) (now (w .entry)) (now (e .exit)) (now (w .exit)) (move (placeAt (source .0)) (placeAt (dest .0)) (v .0)) (addedOf r) ⌝ }
+{
+    let before = sparse::len(w);
+    let m = e[1024];
+    if note_writes(t, w, dest, m) {
+        if index_source(t, e, source) {
+            sparse::shorten(w, before);
+            return Added::Refused(21);
+        }
+        keep(e, source, dest, v);
+        return Added::Yes;
+    }
+    if is_dropped(t, e, w, source, dest, v) {
+        count_entry(e);
+        return Added::Yes;
+    }
+    Added::Refused(12)
+}
+
 // Keeps, rebuilds or drops a move that is not refused before 12.
 fn place_move(
     t: &RegInfo,
@@ -348,20 +359,7 @@ fn place_move(
     ensures { λ r. ⌜ AddedAs (now (t .entry)) (now (f .entry)) (now (e .entry)) (now (w .entry)) (now (e .exit)) (now (w .exit)) (move (placeAt (source .0)) (placeAt (dest .0)) (v .0)) (addedOf r) ⌝ }
 {
     match move_fate(t, f, source, dest, v) {
-        Fate::Kept => {
-            if !is_written(t, w, dest) {
-                if index_source(t, e, source) {
-                    return Added::Refused(21);
-                }
-                keep(t, e, w, source, dest, v);
-                return Added::Yes;
-            }
-            if is_dropped(t, e, w, source, dest, v) {
-                count_entry(e);
-                return Added::Yes;
-            }
-            Added::Refused(12)
-        }
+        Fate::Kept => place_kept(t, f, e, w, source, dest, v),
         Fate::Rebuilt(scratch) => rebuild(t, e, w, scratch, dest, v),
     }
 }
