@@ -46,7 +46,7 @@ past-from s at next kept (Refused k) a b h = tt
 -- a part, and what is read after it
 module _ (t f s e w : List ℕ) (at : ℕ) {A : Type 0} (first : List ℕ → Read A) (then-read : A → List ℕ → Read Entry) where
   pub part-refused : (k : ℕ) → refused k ≡ first (drop at s) → EntryAt t f s e w (λ l. then (first l) then-read) at e w (Refused k)
-  part-refused k h = record { reads = rw (← h); past = tt; no = λ _ _. (refl, refl) }
+  part-refused k h = record { reads = rw (← h); past = tt; no = λ _ _. refl }
 
   pub part-read : (x : A) (next : ℕ) (e′ w′ : List ℕ) (r : Next) → got x (drop next s) ≡ first (drop at s) → (at < next) × (next ≤ length s) → EntryAt t f s e w (then-read x) next e′ w′ r → EntryAt t f s e w (λ l. then (first l) then-read) at e′ w′ r
   part-read x next e′ w′ r h on g = record { reads = rw (← h) (g .reads); past = past-from s at next (EntriesOk t f e′ w′) r (on .0) (on .1) (g .past); no = g .no }
@@ -57,7 +57,7 @@ pub entry-added : (t f s e w e′ w′ : List ℕ) (at next v : ℕ) (first : Li
 entry-added t f s e w e′ w′ at next v first make none h on added =
     let y = added .yes refl in
     record { reads = rw (← h, ← added .is, y .0); past = (omega (arith, on .0), λ _. on .1, y .1); no = λ k q. absurd (let z : _≡_ {A = ℕ} 0 1 = cc in omega arith) }
-entry-added t f s e w e′ w′ at next v first make (some k) h on added = record { reads = rw (← h, ← added .is); past = tt; no = λ _ _. (let z = added .no k refl in (z .0, z .1)) }
+entry-added t f s e w e′ w′ at next v first make (some k) h on added = record { reads = rw (← h, ← added .is); past = tt; no = λ _ _. added .no k refl .0 }
 
 -- an entry by its first number
 module _ (t f s e w : List ℕ) (at : ℕ) where
@@ -78,4 +78,4 @@ module _ (t f s e w : List ℕ) (at : ℕ) where
 
   pub entry-refused : (k : ℕ) → refused k ≡ below 2 (drop at s) → EntryAt t f s e w (entry (regInfoOf t) (functionOf f)) at e w (Refused k)
   unfolding entry
-  entry-refused k h = record { reads = rw (← h); past = tt; no = λ _ _. (refl, refl) }
+  entry-refused k h = record { reads = rw (← h); past = tt; no = λ _ _. refl }

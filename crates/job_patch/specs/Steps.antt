@@ -47,7 +47,7 @@ addedAt (some k) next = Refused k
 pub record EntryAt (t f s e w : List ℕ) (d : List ℕ → Read Entry) (at : ℕ) (e′ w′ : List ℕ) (r : Next) : Type 0 where
   pub reads : nextOf s (sortedOf e′) r ≡ adding (regInfoOf t) (functionOf f) (sortedOf e) (d (drop at s))
   pub past : Past s at (EntriesOk t f e′ w′) r
-  pub no : (k : ℕ) → r ≡ Refused k → (sortedOf e′ ≡ sortedOf e) × (w′ ≡ w)
+  pub no : (k : ℕ) → r ≡ Refused k → sortedOf e′ ≡ sortedOf e
 
 -- a patch as the tables hold it: the set has its free units, and the table of entries what they became
 pub record Holds (t f : List ℕ) (free : List Bool) (e w : List ℕ) (p : Patch) : Type 0 where

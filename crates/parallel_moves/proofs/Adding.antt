@@ -85,7 +85,7 @@ module _ (t f e : List ℕ) (numbers : List ℕ) where
     entry = entryOf (getD numbers at 0) (getD numbers (at + 1) 0) (getD numbers (at + 2) 0) (getD numbers (at + 3) 0)
 
     same-tables : (e″ w″ : List ℕ) (n : ℕ) (x : Entry) → AddedAs t f e′ w′ e″ w″ x (some n) → EntriesOk t f e″ w″
-    same-tables e″ w″ n x one = one .no n refl .2
+    same-tables e″ w″ n x one = one .no n refl .1
 
     -- no entry is left
     ended : entriesOf (drop at numbers) ≡ [] → AllAdded t f e e′ w′ (entriesOf numbers) none
