@@ -68,9 +68,12 @@ module _ (t f : List ℕ) where
         → ((c′ : Cache) → Claim t f l (x .cache) c′ → cacheOf (x .cache) ≡ c′ → (es′ : List Edit) → Sizes (asked t f l) es′ c′ → SizesClaim t f (map patched l) es′ (x .cache))
         → SizesClaim t f (patched x ∷ map patched l) es cache
     sizes-step (not-free n e k a b) h same es g on =
-        let g′ : Sizes (asked t f l) es c = rw e at g in
-        (rw same (first-between t f (asked t f l) es c g′), [], refused-handed t f (patched x) cache n k b,
-         on c (rw (turned t f x c n e) at h) (ap cacheOf b ∙ same) (es ++ []) (rw (append-nil es) g′))
+        let g′ : Sizes (asked t f l) es c = rw e at g in (
+          rw same (first-between t f (asked t f l) es c g′),
+          [],
+          refused-handed t f (patched x) cache n k b,
+          on c (rw (turned t f x c n e) at h) (ap cacheOf b ∙ same) (es ++ []) (rw (append-nil es) g′),
+        )
     sizes-step (called e o) h same es g on =
         let g′ = rw e at g in
         let r = patch.ruled t f (patched x) c in
