@@ -104,7 +104,7 @@ pub fn rows() -> Vec<Row> {
 }
 
 /// A job of one patch of so many entries.
-fn entries_job(kind: Kind, count: usize, place: Places, free: Option<usize>) -> Draft {
+pub fn entries_job(kind: Kind, count: usize, place: Places, free: Option<usize>) -> Draft {
     job(target(131, 131), 130, 130, patch(kind, count, place, free))
 }
 

@@ -22,6 +22,7 @@ mod growth;
 mod jobs;
 mod ours;
 mod pairs;
+mod shapes;
 mod stack;
 mod theirs;
 mod time;
@@ -33,11 +34,12 @@ fn main() {
     match words[..] {
         ["times"] => times::print(),
         ["growth"] => growth::print(),
+        ["shapes"] => shapes::print(),
         ["stack"] => stack::print(),
         ["count"] => counts::count(),
         ["counts", folder] => counts::print(folder),
         _ => {
-            eprintln!("usage: bench times | growth | stack | count | counts FOLDER");
+            eprintln!("usage: bench times | growth | shapes | stack | count | counts FOLDER");
             std::process::exit(2);
         }
     }
