@@ -113,6 +113,10 @@ pub fn resolve_available(
     if let Added::Refused(n) = entries::refusal(t, f, e, w, available, list.len()) {
         return Resolved::Refused(n);
     }
+    if rebuilds::only_remats(e) {
+        let n = rebuilds::hand_out(t, e, list);
+        return Resolved::Edits(n, 0);
+    }
     let k = run(
         t,
         f,

@@ -1,3 +1,4 @@
 pub mod Known
 pub mod Direct
 pub mod Rebuilt
+pub mod Handing

@@ -1,19 +1,22 @@
 -- What the rebuilds of a patch ask, and what they leave.
-use Prim.Native.Nat.{ℕ, _+_, _*_, _<_, _≤_}
+use Prim.Native.Nat.{ℕ, zero, suc, _+_, _*_, _<_, _≤_}
 use mathlib.Core.Path.{_≡_}
 use mathlib.Core.Bool.{Bool, false}
-use mathlib.Core.List.{List}
+use mathlib.Core.List.{List, [], _∷_}
 use mathlib.Core.Option.{Option, some}
+use lib.Dec.{eqb}
 use lib.ListN.{length, getD}
+use Rattle.entity.specs.Logic.{and}
 use Rattle.entity.specs.Place.{Place, codeOf}
 use Rattle.reginfo.specs.RegInfo.{RegInfo, spillslotSize}
 use Rattle.reginfo.specs.Known.{KnownPlace}
 use Rattle.function.specs.Function.{Function}
 use Rattle.function.specs.Known.{Checked}
 use Rattle.function.specs.Table.{functionOf}
-use Rattle.rules.specs.Edit.{andThen, Rematerialize}
+use Rattle.rules.specs.Edit.{Edit, andThen, Rematerialize}
 use Rattle.rules.specs.Scratch as rules
 use Rattle.rules.specs.Order.{Remat, remats}
+use Rattle.rules.specs.Patch.{Sorted}
 use Rattle.rules.specs.Sorted.{RematOk}
 use Rattle.edit.specs.Buffer.{countOf, Written}
 use Rattle.scratch.specs.declared.ScratchAllocator.{ScratchAllocator}
@@ -44,6 +47,15 @@ pub record Rematted (t : List ℕ) (l : List Remat) (k : ScratchAllocator) (edit
   pub count : countOf edits′ ≡ countOf edits + length l
   pub written : Written edits → Written edits′
   pub is : (f cache slots : List ℕ) → allocatorOf k′ edits′ available′ slots cache ≡ remats (T t) (F f) l (allocatorOf k edits available slots cache)
+
+-- no kept move, and no rebuild with scratch
+abbrev pub onlyRemats : Sorted → Bool
+onlyRemats a = and (eqb (length (a .moves)) 0) (eqb (length (a .rematsWithScratch)) 0)
+
+-- the edits of the first n rebuilds, the last one first
+unfoldable pub lastFirst : List Remat → ℕ → List Edit
+lastFirst l zero = []
+lastFirst l (suc n) = Rematerialize (getD l n noRebuild .dest) (getD l n noRebuild .value) ∷ lastFirst l n
 
 module _ (t : RegInfo) (f : Function) where
   -- a rebuild whose scratch is found "emits scratch to destination [..], then the rebuild into the scratch, and puts a slot scratch back.

@@ -14,9 +14,9 @@ use slots::Slots;
 use small_set::RegUnitSet;
 ghost use mathlib.Core.Path.{_≡_};
 ghost use mathlib.Core.Bool.{true, false};
-ghost use mathlib.Core.List.{[], _∷_};
+ghost use mathlib.Core.List.{[], _∷_, _++_, map};
 ghost use Prim.Native.Nat.{_+_, _*_, _<_, _≤_};
-ghost use lib.ListN.{length, getD};
+ghost use lib.ListN.{length, getD, drop};
 ghost use Rattle.entity.specs.Place.{placeAt};
 ghost use Rattle.function.specs.Function.{rematCost, rematClass, canRematerialize};
 ghost use Rattle.function.specs.Table.{functionOf};
@@ -25,11 +25,12 @@ ghost use Rattle.rules.specs.Edit.{each};
 ghost use Rattle.rules.specs.Order.{rematWithScratch};
 ghost use Rattle.rules.specs.Sorted.{RematOk};
 ghost use Rattle.edit.specs.Buffer.{countOf};
-ghost use Rattle.entries.specs.Table.{rebuiltAs};
+ghost use Rattle.entries.specs.Table.{rebuiltAs, sortedOf};
 ghost use Rattle.scratch.specs.State.{T, F, Fits, Movable};
 ghost use Rattle.scratch.specs.Contracts.{tables};
 ghost use Rattle.visits.specs.Marks.{rematsOf, rematsWithScratchOf, noRebuild};
-ghost use Rattle.rebuilds.specs.Rebuilds.{RematsFit, RematsOk, Rematted, throughScratch, Through, Rebuilt};
+ghost use Rattle.edit.specs.Word.{wordOf};
+ghost use Rattle.rebuilds.specs.Rebuilds.{RematsFit, RematsOk, Rematted, throughScratch, Through, Rebuilt, onlyRemats, lastFirst};
 
 // The rebuild class of a value that can be rebuilt.
 fn remat_class(f: &Function, v: Value) -> RegClass
@@ -169,4 +170,32 @@ pub fn remats_with_scratch(
         i += 1;
     }
     q
+}
+
+// Whether a patch has rebuilds without scratch only.
+pub fn only_remats(e: &Entries) -> bool
+    ensures { λ r. ⌜ r ≡ onlyRemats (sortedOf (now (e .entry))) ⌝ }
+{
+    if visits::num_kept(e) == 0 {
+        return visits::num_remats_with_scratch(e) == 0;
+    }
+    false
+}
+
+// The words of the rebuilds without scratch, the last one first; what stands past them stays as it is.
+pub fn hand_out(t: &RegInfo, e: &Entries, list: &mut [u64]) -> usize
+    requires { ⌜ RematsFit (now t) (rematsOf (now e)) × (length (rematsOf (now e)) ≤ length (now list)) ⌝ }
+    ensures { λ n. ⌜ (n ≡ length (rematsOf (now (e .entry)))) × (now (list .exit) ≡ map wordOf (lastFirst (rematsOf (now (e .entry))) (length (rematsOf (now (e .entry))))) ++ drop (length (rematsOf (now (e .entry)))) (now (list .entry))) ⌝ }
+{
+    let n = visits::num_remats(e);
+    let mut at = 0;
+    let mut left = n;
+    while 0 < left {
+        left -= 1;
+        let to = visits::remat_dest(e, left);
+        let v = visits::remat_value(e, left);
+        list[at] = edit::remat_word(to, v);
+        at += 1;
+    }
+    n
 }
