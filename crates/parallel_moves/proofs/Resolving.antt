@@ -2,7 +2,7 @@
 use Prim.Native.Nat.{ℕ, _+_, _<_, _≤_}
 use mathlib.Core.Path.{_≡_, refl, sym, subst, _∙_}
 use mathlib.Core.Bool.{Bool, true, false}
-use mathlib.Core.List.{List, [], _++_}
+use mathlib.Core.List.{List, [], _++_, map}
 use mathlib.Core.Option.{Option, none, some}
 use mathlib.Core.Logic.{inl}
 use native.Mathlib.Omega.{arith}
@@ -25,6 +25,7 @@ use Rattle.rules.proofs.Limit.{by-limit}
 use Rattle.machine.specs.Slots.{InStacks}
 use Rattle.machine.proofs.Bound.{run-few}
 use Rattle.machine.proofs.Slots.{slots-empty, run-stacks, stack-few}
+use Rattle.edit.specs.Word.{wordOf}
 use Rattle.edit.specs.Buffer.{countOf, wordsOf, editsOf}
 use Rattle.edit.proofs.Laws.{length-edits, all-in-range}
 use Rattle.slots.specs.Stacks.{cacheOf, metOf}
@@ -36,7 +37,9 @@ use Rattle.scratch.proofs.Bounds.{stocked}
 use Rattle.entries.specs.Table.{sortedOf}
 use Rattle.entries.specs.Known.{EntriesOk}
 use Rattle.scratch.proofs.Unlimited.{all-placed}
-use Rattle.rebuilds.proofs.Known.{same-ok}
+use Rattle.rebuilds.specs.Rebuilds.{onlyRemats, lastFirst}
+use Rattle.rebuilds.proofs.Known.{same-ok, remats-fit}
+use Rattle.rebuilds.proofs.Handing.{length-last, last-in-range, only-run}
 use Rattle.closing.proofs.Known.{given}
 use Rattle.parallel_moves.specs.declared.Resolved as R
 use Rattle.parallel_moves.specs.declared.Resolved.{Resolved}
@@ -77,14 +80,30 @@ module _ (t f cache e w list : List ℕ) (known : Checked t f) (ok : EntriesOk t
   unfolding resolveSorted
   turned-away n h p q = let is = h p q in rw (← is) (refl, refl, refl)
 
-  module _ (passed : (p : Patch) → Same p → none ≡ conditions p) (k : ScratchAllocator) (x : Tables) (ran : Ran t f cache e free k x) where
-    abbrev some-patch : Patch
-    some-patch = record { free = freeOf free; entries = [] }
+  abbrev some-patch : Patch
+  some-patch = record { free = freeOf free; entries = [] }
 
+  module _ (passed : (p : Patch) → Same p → none ≡ conditions p) where
     bounded : bound (sortedOf e) ≤ length list
     unfolding patchConditions
     bounded = ltb-false (length list) (bound (sortedOf e)) (first-none _ (sym (passed some-patch (free-is free))) 2 (omega arith))
 
+    -- there is room for the rebuilds without scratch
+    pub remats-room : length (sortedOf e .remats) ≤ length list
+    remats-room = omega (arith, bounded)
+
+    -- a patch that has nothing else
+    pub gives-remats : onlyRemats (sortedOf e) ≡ true → (n : ℕ) (list′ : List ℕ)
+        → (n ≡ length (sortedOf e .remats)) × (list′ ≡ map wordOf (lastFirst (sortedOf e .remats) (length (sortedOf e .remats))) ++ drop (length (sortedOf e .remats)) list)
+        → (p : Patch) → Same p → Gives f (answered p) (R.the-variants.Edits n 0) list list′ cache cache
+    unfolding resolveSorted
+    gives-remats only n list′ out p q =
+        let rs = sortedOf e .remats in
+        let len = length-last rs (length rs) in
+        rw (← passed p q, only-run (T t) (functionOf f) p (sortedOf e) (cacheOf cache) only)
+        (refl, out .0 ∙ sym len, rw len (out .1), last-in-range rs t (remats-fit t f known e w ok) (length rs) (omega arith), refl, cached, refl)
+
+  module _ (passed : (p : Patch) → Same p → none ≡ conditions p) (k : ScratchAllocator) (x : Tables) (ran : Ran t f cache e free k x) where
     few-edits : countOf (x .edits) ≤ bound (sortedOf e)
     few-edits =
         omega (
@@ -103,7 +122,7 @@ module _ (t f cache e w list : List ℕ) (known : Checked t f) (ok : EntriesOk t
     can-hand-over =
         record {
           few = omega (arith, ran .fits .few);
-          room = omega (arith, few-edits, bounded);
+          room = omega (arith, few-edits, bounded passed);
           put = stocked (ran .fits) .put;
           untouched = ran .fits .untouched;
           deep = λ h z l. omega (arith, stack-few (functionOf f) (cacheIn k (x .slots) cache) (in-stacks h) z, low-limit (T t) (functionOf f) (known .function));
