@@ -1,13 +1,13 @@
 -- The free units of a call, one after the other, and the call behind them.
 use Prim.Native.Nat.{ℕ, _+_, _<_, _≤_}
 use mathlib.Core.Path.{_≡_, refl, sym, _∙_}
-use mathlib.Core.Bool.{Bool}
-use mathlib.Core.List.{List, _∷_}
+use mathlib.Core.Bool.{Bool, false}
+use mathlib.Core.List.{List, [], _∷_}
 use mathlib.Core.Option.{none, some}
 use native.Mathlib.Omega.{arith}
-use lib.Dec.{eqb}
+use lib.Dec.{eqb, ltb}
 use lib.ListN.{length, getD, drop, drop-of-length-le}
-use borrow.Author.Tests.{lt-ltb, le-ltb}
+use borrow.Author.Tests.{lt-ltb, le-ltb, ltb-false}
 use Rattle.entity.specs.Logic.{or, has}
 use Rattle.entity.proofs.Laws.{drop-step}
 use Rattle.reginfo.specs.Table.{regInfoOf}
@@ -62,6 +62,15 @@ module _ (units : ℕ) (us : List ℕ) where
   freeing-end least at set h l =
       let end = drop-of-length-le us {i = at} l in
       record { is = sym (h .first ∙ rw end); has-all = λ _ u. h .has-all u ∙ rw end (or-none (setOf set u)) }
+
+-- where none is listed, none is in the set
+pub none-listed : (us : List ℕ) → ltb 0 (length us) ≡ false → us ≡ []
+none-listed [] q = refl
+none-listed (u ∷ us) q = absurd (omega (arith, ltb-false 0 (length (u ∷ us)) q))
+
+pub none-given : (units : ℕ) (us : List ℕ) (set : List Bool) → FreeTaken units us none set → us ≡ [] → (u : ℕ) → setOf set u ≡ false
+unfolding has
+none-given units us set h e u = sym (h .has-all refl u) ∙ rw e refl
 
 -- the call: refused for its free units, or that of its patch
 module _ (t f us numbers list cache : List ℕ) (set : List Bool) where

@@ -15,6 +15,9 @@ use slots::Slots;
 use small_set::RegUnitSet;
 use sparse::SparseMap;
 use visits::Marks;
+ghost use mathlib.Core.Path.{_≡_};
+ghost use mathlib.Core.Bool.{false};
+ghost use mathlib.Core.List.{[]};
 ghost use lib.ListN.{length};
 ghost use Rattle.entity.specs.Logic.{Anything};
 ghost use Rattle.reginfo.specs.Refused.{Accepted};
@@ -93,6 +96,13 @@ fn take_free(t: &RegInfo, free: &[u32], available: &mut RegUnitSet) -> Added
     Added::Yes
 }
 
+// Whether a free unit is given.
+fn some_given(free: &[u32]) -> bool
+    ensures { λ r. ⌜ (r ≡ false → now (free .entry) ≡ []) ⌝ }
+{
+    0 < free.len()
+}
+
 // Resolves a patch of free units, rising, and of entries as numbers, four to an entry. Asked is that the target and the function are open,
 // and the cache is as `open` or the last call left it: "nothing else writes the cache between calls".
 pub fn resolve(
@@ -119,12 +129,14 @@ pub fn resolve(
     if let Added::Refused(k) = take_free(t, free, available) {
         return Resolved::Refused(k);
     }
+    let given = some_given(free);
     parallel_moves::resolve_patch(
         t,
         f,
         numbers,
         cache,
         list,
+        given,
         e,
         w,
         available,

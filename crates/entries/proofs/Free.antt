@@ -8,7 +8,7 @@ use native.Mathlib.Omega.{arith}
 use lib.Dec.{ltb}
 use lib.ListN.{getD, List·getD-eq-default}
 use borrow.Author.Tests.{ltb-true, ltb-false, lt-ltb}
-use Rattle.entity.specs.Logic.{pick, any, has, meets}
+use Rattle.entity.specs.Logic.{pick, and, or, any, has, meets}
 use Rattle.entity.specs.Place.{Place, reg, slot, regUnit, slotUnit, unitAt}
 use Rattle.entity.proofs.Laws.{and-true, has-where, has-getD}
 use Rattle.reginfo.specs.RegInfo.{Reg, RegInfo, noReg, numRegs, regUnits, placeUnits}
@@ -47,6 +47,16 @@ meets-both l m u h k = let w = has-where u l h in meets-any l m ∙ any-true (λ
 
 any-has-true : (p : ℕ → Bool) (l : List ℕ) (u : ℕ) → has u l ≡ true → p u ≡ true → any p l ≡ true
 any-has-true p l u h k = let w = has-where u l h in any-true p l (w .0) 0 (w .1) (rw (w .2) k)
+
+-- where no unit is free, none of a list is
+pub none-free : (set : List Bool) (l : List ℕ) → ((u : ℕ) → setOf set u ≡ false) → any (isFree set) l ≡ false
+unfolding any
+none-free set [] h = refl
+none-free set (u ∷ l) h = rw (h u, none-free set l h) (neither (ltb u 512))
+  where
+    neither : (b : Bool) → or (and b false) false ≡ false
+    neither true = refl
+    neither false = refl
 
 -- the keys are the units of the destinations
 pub key-written : (t : RegInfo) (f : Function) (a : Sorted) (e w : List ℕ) → Tracked t f a e w → (u : ℕ) → has u (keysOf w) ≡ any (λ d. has u (placeUnits t d)) (destinations a)

@@ -524,11 +524,14 @@ fn is_free(free: &RegUnitSet, u: AllocationUnit) -> bool
     }
 }
 
-// 13: whether a free unit is a destination's: one that has a writer.
-fn free_destination(w: &SparseMap, free: &RegUnitSet) -> bool
-    requires { ⌜ Linked (now w) ⌝ }
+// 13: whether a free unit is a destination's: one that has a writer. Where no unit is free, no key is looked at.
+fn free_destination(w: &SparseMap, free: &RegUnitSet, given: bool) -> bool
+    requires { ⌜ Linked (now w) × (given ≡ false → (u : ℕ) → setOf (now free) u ≡ false) ⌝ }
     ensures { λ r. ⌜ r ≡ any (isFree (now (free .entry))) (keysOf (now (w .entry))) ⌝ }
 {
+    if !given {
+        return false;
+    }
     let n = sparse::len(w);
     let mut j: usize = 0;
     while j < n {
@@ -591,19 +594,21 @@ fn edit_bound(e: &Entries) -> usize
     8 * kept + (5 * scratch + remats)
 }
 
-// 13, 14, 16: the number by which the patch is refused, of which `free` are the free units, where the lent list has `room`.
+// 13, 14, 16: the number by which the patch is refused, of which `free` are the free units, where the lent list has `room`. Asked is of
+// `given` only: if it is false, no unit is free.
 pub fn refusal(
     t: &RegInfo,
     f: &Function,
     e: &Entries,
     w: &SparseMap,
     free: &RegUnitSet,
+    given: bool,
     room: usize,
 ) -> Added
-    requires { ⌜ Checked (now t) (now f) × EntriesOk (now t) (now f) (now e) (now w) ⌝ }
+    requires { ⌜ Checked (now t) (now f) × EntriesOk (now t) (now f) (now e) (now w) × (given ≡ false → (u : ℕ) → setOf (now free) u ≡ false) ⌝ }
     ensures { λ r. ⌜ ((p : Patch) → ((u : ℕ) → has u (p .free) ≡ setOf (now (free .entry)) u) → addedOf r ≡ firstOf (patchConditions (regInfoOf (now (t .entry))) (functionOf (now (f .entry))) p room (sortedOf (now (e .entry))))) ⌝ }
 {
-    if free_destination(w, free) {
+    if free_destination(w, free, given) {
         return Added::Refused(13);
     }
     if last_overlaps(t, f, e) {

@@ -14,9 +14,12 @@ use slots::Slots;
 use small_set::RegUnitSet;
 use sparse::SparseMap;
 use visits::Marks;
-ghost use Prim.Native.Nat.{_+_, _≤_};
+ghost use mathlib.Core.Path.{_≡_};
+ghost use mathlib.Core.Bool.{false};
+ghost use Prim.Native.Nat.{ℕ, _+_, _≤_};
 ghost use lib.ListN.{length, getD};
 ghost use Rattle.entity.specs.Logic.{Anything};
+ghost use Rattle.small_set.specs.Set.{setOf};
 ghost use Rattle.function.specs.Known.{Checked};
 ghost use Rattle.function.specs.Table.{functionOf};
 ghost use Rattle.rules.specs.Patch as rules;
@@ -90,7 +93,7 @@ fn run(
 }
 
 // Resolves a patch that was built of entries and whose free units are the set `available`: its edits go to the front of the lent list. On a
-// refusal the list and the cache are left as they were. What the other working tables hold does not matter.
+// refusal the list and the cache are left as they were. If `given` is false, no unit is free. What the other working tables hold does not matter.
 pub fn resolve_available(
     t: &RegInfo,
     f: &Function,
@@ -98,6 +101,7 @@ pub fn resolve_available(
     w: &SparseMap,
     cache: &mut SlotCache,
     list: &mut [u64],
+    given: bool,
     available: &mut RegUnitSet,
     sources: &mut RegUnitSet,
     edits: &mut Edits,
@@ -106,11 +110,11 @@ pub fn resolve_available(
     marks: &mut Marks,
     c: &mut Carried,
 ) -> Resolved
-    requires { ⌜ Checked (now t) (now f) × EntriesOk (now t) (now f) (now e) (now w) × CacheOk (now f) (now cache) ⌝ }
+    requires { ⌜ Checked (now t) (now f) × EntriesOk (now t) (now f) (now e) (now w) × CacheOk (now f) (now cache) × (given ≡ false → (u : ℕ) → setOf (now available) u ≡ false) ⌝ }
     ensures { λ r. ⌜ Resolves (now (t .entry)) (now (f .entry)) (now (available .entry)) (now (e .entry)) r (now (list .entry)) (now (list .exit)) (now (cache .entry)) (now (cache .exit)) ⌝ }
     ensures { λ _. ⌜ Anything (now (available .exit)) × Anything (now (sources .exit)) × Anything (now (edits .exit)) × Anything (now (slots .exit)) × Anything (now (d .exit)) × Anything (now (marks .exit)) × Anything (now (c .exit)) ⌝ }
 {
-    if let Added::Refused(n) = entries::refusal(t, f, e, w, available, list.len()) {
+    if let Added::Refused(n) = entries::refusal(t, f, e, w, available, given, list.len()) {
         return Resolved::Refused(n);
     }
     if rebuilds::only_remats(e) {
@@ -163,6 +167,7 @@ pub fn resolve(
         w,
         cache,
         list,
+        true,
         available,
         sources,
         edits,
@@ -248,13 +253,14 @@ pub fn add_entries(
 }
 
 // Resolves a patch whose free units are the set `available` and whose entries are given as numbers, four to an entry: 0 source destination
-// value, or 1 destination value and a number that is not read.
+// value, or 1 destination value and a number that is not read. If `given` is false, no unit is free.
 pub fn resolve_patch(
     t: &RegInfo,
     f: &Function,
     numbers: &[u32],
     cache: &mut SlotCache,
     list: &mut [u64],
+    given: bool,
     e: &mut Entries,
     w: &mut SparseMap,
     available: &mut RegUnitSet,
@@ -265,7 +271,7 @@ pub fn resolve_patch(
     marks: &mut Marks,
     c: &mut Carried,
 ) -> Resolved
-    requires { ⌜ Checked (now t) (now f) × CacheOk (now f) (now cache) ⌝ }
+    requires { ⌜ Checked (now t) (now f) × CacheOk (now f) (now cache) × (given ≡ false → (u : ℕ) → setOf (now available) u ≡ false) ⌝ }
     ensures { λ r. ⌜ ResolvesPatch (now (t .entry)) (now (f .entry)) (now (available .entry)) (now (numbers .entry)) r (now (list .entry)) (now (list .exit)) (now (cache .entry)) (now (cache .exit)) ⌝ }
     ensures { λ _. ⌜ Anything (now (e .exit)) × Anything (now (w .exit)) × Anything (now (available .exit)) × Anything (now (sources .exit)) × Anything (now (edits .exit)) × Anything (now (slots .exit)) × Anything (now (d .exit)) × Anything (now (marks .exit)) × Anything (now (c .exit)) ⌝ }
 {
@@ -280,6 +286,7 @@ pub fn resolve_patch(
         w,
         cache,
         list,
+        given,
         available,
         sources,
         edits,

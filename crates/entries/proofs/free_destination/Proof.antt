@@ -1,22 +1,27 @@
--- `free_destination` meets its contract: whether a key is free from the start equals whether one is from here.
+-- `free_destination` meets its contract: whether a key is free from the start equals whether one is from here; none is where no unit is.
 use Prim.Native.Nat.{_≤_, _-_}
 use mathlib.Core.Path.{_≡_, refl, sym, ap, _∙_}
 use mathlib.Core.Bool.{true, false}
 use native.Mathlib.Omega.{arith}
 use lib.ListN.{getD, length, drop, drop-of-length-le}
+use borrow.Author.Tests.{not-true}
 use Rattle.entity.specs.Logic.{any}
 use Rattle.sparse.specs.Map.{keysOf}
 use Rattle.entries.specs.Known.{isFree}
 use Rattle.entries.proofs.Lists.{any-step}
+use Rattle.entries.proofs.Free.{none-free}
 use borrow.Author.Needs.{needs}
 use Rattle.entries.proofs.free_destination.Statement.{statement}
 use Rattle.entries.proofs.free_destination.Tie as tie
 
 abbrev Inv-loop : tie.InvT-loop
-Inv-loop w free n j₀ j = (any (isFree free) (keysOf w) ≡ any (isFree free) (drop j (keysOf w))) × (j ≤ length (keysOf w)) × (n ≡ length (keysOf w))
+Inv-loop w free given n j₀ j = (any (isFree free) (keysOf w) ≡ any (isFree free) (drop j (keysOf w))) × (j ≤ length (keysOf w)) × (n ≡ length (keysOf w))
 
 abbrev μ-loop : tie.MeasureT-loop
-μ-loop w free n j₀ j = length (keysOf w) - j
+μ-loop w free given n j₀ j = length (keysOf w) - j
+
+returns : tie.Need-returns Inv-loop μ-loop
+returns c = sym (none-free (c .before .args .free .now) (keysOf (c .before .args .w .now)) (c .before .pre .1 (not-true _ (c .if1 .taken))))
 
 len-requires : tie.Need-len-requires Inv-loop μ-loop
 len-requires c κs = search needs
@@ -25,16 +30,16 @@ loop-holds : tie.Need-loop-holds Inv-loop μ-loop
 loop-holds c = (refl, omega arith, c .len .ensures)
 
 key-at-requires : tie.Need-key-at-requires Inv-loop μ-loop
-key-at-requires c κs = (c .before .before .before .pre, omega arith)
+key-at-requires c κs = (c .before .before .before .before .pre .0, omega arith)
 
 is-free-requires : tie.Need-is-free-requires Inv-loop μ-loop
 is-free-requires c κs = search needs
 
-returns : tie.Need-returns Inv-loop μ-loop
-returns c =
-    let s = c .before .before .before .before .before .before in
+returns-2 : tie.Need-returns-2 Inv-loop μ-loop
+returns-2 c =
+    let s = c .before .before .before .before .before .before .before in
     let l = c .before .before .before .before .loop in
-    let h : isFree (s .args .free .now) (getD (keysOf (s .args .w .now)) (l .j) 0) ≡ true = rw (← c .before .before .key-at .ensures) (sym (c .before .is-free .ensures) ∙ c .if1 .taken) in
+    let h : isFree (s .args .free .now) (getD (keysOf (s .args .w .now)) (l .j) 0) ≡ true = rw (← c .before .before .key-at .ensures) (sym (c .before .is-free .ensures) ∙ c .if2 .taken) in
     sym (l .inv .0 ∙ any-step (isFree (s .args .free .now)) (keysOf (s .args .w .now)) (l .j) 0 (omega arith) ∙ rw h)
 
 add-j : tie.Need-add-j Inv-loop μ-loop
@@ -45,15 +50,15 @@ loop-less c = search needs
 
 loop-again : tie.Need-loop-again Inv-loop μ-loop
 loop-again c =
-    let s = c .before .before .before .before .before .before in
+    let s = c .before .before .before .before .before .before .before in
     let l = c .before .before .before .before .loop in
-    let h : isFree (s .args .free .now) (getD (keysOf (s .args .w .now)) (l .j) 0) ≡ false = rw (← c .before .before .key-at .ensures) (sym (c .before .is-free .ensures) ∙ c .if1 .left) in
+    let h : isFree (s .args .free .now) (getD (keysOf (s .args .w .now)) (l .j) 0) ≡ false = rw (← c .before .before .key-at .ensures) (sym (c .before .is-free .ensures) ∙ c .if2 .left) in
     (l .inv .0 ∙ any-step (isFree (s .args .free .now)) (keysOf (s .args .w .now)) (l .j) 0 (omega arith) ∙ rw h, omega arith, l .inv .2)
 
-returns-2 : tie.Need-returns-2 Inv-loop μ-loop
+returns-3 : tie.Need-returns-3 Inv-loop μ-loop
 unfolding any
-returns-2 c =
-    let s = c .before .before .before in
+returns-3 c =
+    let s = c .before .before .before .before in
     let l = c .before .loop in
     sym (l .inv .0 ∙ ap (any (isFree (s .args .free .now))) (drop-of-length-le (keysOf (s .args .w .now)) {i = l .j} (omega arith)))
 
@@ -63,12 +68,13 @@ free-destination-spec =
     (tie.spec
     Inv-loop
     μ-loop
+    returns
     len-requires
     loop-holds
     key-at-requires
     is-free-requires
-    returns
+    returns-2
     add-j
     loop-less
     loop-again
-    returns-2)
+    returns-3)

@@ -41,7 +41,7 @@ returns-2 c =
     (λ p q. gives-remats (a .t .now) (a .f .now) (a .cache .now) (a .e .now) (a .w .now) (a .list .now) (pre .0) (pre .1) (pre .2) (a .available .now) (λ p q. rw (c .before .before .before .before .before .before .enum-told .given .1) at (c .before .before .before .before .before .before .before .before .refusal .ensures p q)) (sym (c .before .before .before .before .before .only-remats .ensures) ∙ c .before .before .before .before .if1 .taken) _ _ (c .before .before .hand-out .ensures) p q, search needs)
 
 run-requires : tie.Need-run-requires
-run-requires c κs = c .before .before .before .before .before .before .before .before .before .before .before .before .before .before .before .pre
+run-requires c κs = let pre = c .before .before .before .before .before .before .before .before .before .before .before .before .before .before .before .pre in (pre .0, pre .1, pre .2)
 
 hand-over-requires : tie.Need-hand-over-requires
 hand-over-requires c κs =

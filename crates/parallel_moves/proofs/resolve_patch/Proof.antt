@@ -24,7 +24,7 @@ enum-told : tie.Need-enum-told
 enum-told c = search needs
 
 resolve-available-requires : tie.Need-resolve-available-requires
-resolve-available-requires c κs = let pre = c .before .before .before .before .before .before .before .before .before .before .before .before .before .before .before .before .before .before .before .before .before .pre in (pre .0, c .before .before .before .before .before .before .before .before .before .before .before .before .before .add-entries .ensures .ok, pre .1)
+resolve-available-requires c κs = let pre = c .before .before .before .before .before .before .before .before .before .before .before .before .before .before .before .before .before .before .before .before .before .pre in (pre .0, c .before .before .before .before .before .before .before .before .before .before .before .before .before .add-entries .ensures .ok, pre .1, pre .2)
 
 same-length : tie.Need-same-length
 same-length c = search needs
