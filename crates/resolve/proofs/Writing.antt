@@ -4,7 +4,7 @@ use mathlib.Core.Path.{_≡_, refl, sym}
 use mathlib.Core.Bool.{Bool, true, false, not}
 use native.Mathlib.Omega.{arith}
 
-pub less : (a b n m : ℕ) → a < b → n ≤ 65536 → a * 65537 + n < b * 65537 + m
+pub less : (a b n m : ℕ) → a < b → n ≤ 86016 → a * 86017 + n < b * 86017 + m
 less a b n m h q = omega arith
 
 pub not-yet : (b : Bool) → not b ≡ true → b ≡ false

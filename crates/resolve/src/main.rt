@@ -181,7 +181,8 @@ fn write_piece(kept_evictions: u32, s: &[u8], out: &[u8], p: Progress) -> Write
     Write::Failed
 }
 
-// Writes what is left of the text of the job s with this setting: whenever the next patch may not fit behind what the buffer holds, and at the end.
+// Writes what is left of the text of the job s with this setting: whenever the next patch may not fit behind what the buffer holds, and at the end. A
+// text of at most 65,536 bytes is one write.
 fn write_text(
     kept_evictions: u32,
     t: &RegInfo,
@@ -202,13 +203,13 @@ fn write_text(
     c: &mut Carried,
     out: &mut [u8],
 ) -> Written
-    requires { ⌜ Stands «kept_evictions» (now t) (now f) (now s) (now cache) (now out) from × (length (now out) ≡ 65536) ⌝ }
+    requires { ⌜ Stands «kept_evictions» (now t) (now f) (now s) (now cache) (now out) from × (length (now out) ≡ 86016) ⌝ }
     ensures { λ r. ⌜ AllWritten «kept_evictions» (now (s .entry)) r ⌝ }
     ensures { λ _. ⌜ Anything (now (cache .exit)) × Anything (now (list .exit)) × Anything (now (free .exit)) × Anything (now (e .exit)) × Anything (now (w .exit)) × Anything (now (available .exit)) × Anything (now (sources .exit)) × Anything (now (edits .exit)) × Anything (now (slots .exit)) × Anything (now (d .exit)) × Anything (now (marks .exit)) × Anything (now (c .exit)) × Anything (now (out .exit)) ⌝ }
 {
     let mut p = from;
     while !p.ended {
-        if p.held <= 45056 {
+        if p.held <= 65536 {
             p = job_text::next(
                 t,
                 f,
@@ -261,7 +262,7 @@ fn answer(
     c: &mut Carried,
     out: &mut [u8],
 ) -> Written
-    requires { ⌜ length (now out) ≡ 65536 ⌝ }
+    requires { ⌜ length (now out) ≡ 86016 ⌝ }
     ensures { λ r. ⌜ AllWritten «kept_evictions» (now (s .entry)) r ⌝ }
     ensures { λ _. ⌜ Anything (now (t .exit)) × Anything (now (f .exit)) × Anything (now (cache .exit)) × Anything (now (list .exit)) × Anything (now (free .exit)) × Anything (now (e .exit)) × Anything (now (w .exit)) × Anything (now (available .exit)) × Anything (now (sources .exit)) × Anything (now (edits .exit)) × Anything (now (slots .exit)) × Anything (now (d .exit)) × Anything (now (marks .exit)) × Anything (now (c .exit)) × Anything (now (out .exit)) ⌝ }
 {
@@ -305,7 +306,7 @@ fn main() {
     let mut d = [0u16; 12288];
     let mut marks = [0u8; 129];
     let mut c = [0u16; 2049];
-    let mut out = [0u8; 65536];
+    let mut out = [0u8; 86016];
     let length = os::arg(1, &mut arg);
     let kept_evictions = setting_from(os::arg_count(), &arg[..length]);
     let Got::Bytes(n) = read_all(&mut job) else {

@@ -16,11 +16,11 @@ use Rattle.resolve.proofs.write_piece.Reads as write-piece-reads
 
 abbrev Inv-loop : tie.InvT-loop
 Inv-loop kept t f s cache₀ list₀ free₀ e₀ w₀ available₀ sources₀ edits₀ slots₀ d₀ marks₀ c₀ out₀ p₀ cache list free e w available sources edits slots d marks c out p =
-    Stands kept t f s cache out p × (length out ≡ 65536)
+    Stands kept t f s cache out p × (length out ≡ 86016)
 
 abbrev μ-loop : tie.MeasureT-loop
 μ-loop kept t f s cache₀ list₀ free₀ e₀ w₀ available₀ sources₀ edits₀ slots₀ d₀ marks₀ c₀ out₀ p₀ cache list free e w available sources edits slots d marks c out p =
-    toGo p * 65537 + p .held
+    toGo p * 86017 + p .held
 
 loop-holds : tie.Need-loop-holds Inv-loop μ-loop
 loop-holds c = c .before .before .pre
