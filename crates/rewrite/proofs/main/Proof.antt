@@ -1,0 +1,137 @@
+-- `main` meets its contract: no count is above that of the records.
+use Prim.Native.Nat.{_-_, _≤_}
+use mathlib.Core.Logic.{⊎-elim}
+use native.Mathlib.Omega.{arith}
+use borrow.Author.Needs.{needs}
+use Rattle.rewrite.proofs.main.Statement.{statement}
+use Rattle.rewrite.proofs.main.Tie as tie
+
+abbrev Inv-loop : tie.InvT-loop
+Inv-loop k₀ same₀ refused₀ others₀ t5 t6 t7 t8 k same refused others = (same ≤ k) × (refused ≤ k) × (others ≤ k)
+
+abbrev μ-loop : tie.MeasureT-loop
+μ-loop k₀ same₀ refused₀ others₀ t5 t6 t7 t8 k same refused others = 100000 - k
+
+loop-holds : tie.Need-loop-holds Inv-loop μ-loop
+loop-holds c = (omega arith, omega arith, omega arith)
+
+rewrite-next-requires : tie.Need-rewrite-next-requires Inv-loop μ-loop
+rewrite-next-requires c κs =
+    let loop-test = c .loop-test in
+    loop-test .taken
+
+enum-told : tie.Need-enum-told Inv-loop μ-loop
+enum-told c = search needs
+
+add-same : tie.Need-add-same Inv-loop μ-loop
+add-same c =
+    let loop = c .before .before .before .before .loop in
+    let loop-test = c .before .before .before .loop-test in
+    omega (arith, loop .inv .0, loop .inv .1, loop .inv .2, loop-test .taken)
+
+enum-told-2 : tie.Need-enum-told-2 Inv-loop μ-loop
+enum-told-2 c = search needs
+
+add-refused : tie.Need-add-refused Inv-loop μ-loop
+add-refused c =
+    let loop = c .before .before .before .before .loop in
+    let loop-test = c .before .before .before .loop-test in
+    omega (arith, loop .inv .0, loop .inv .1, loop .inv .2, loop-test .taken)
+
+enum-told-3 : tie.Need-enum-told-3 Inv-loop μ-loop
+enum-told-3 c = search needs
+
+add-others : tie.Need-add-others Inv-loop μ-loop
+add-others c =
+    let loop = c .before .before .before .before .loop in
+    let loop-test = c .before .before .before .loop-test in
+    omega (arith, loop .inv .0, loop .inv .1, loop .inv .2, loop-test .taken)
+
+enum-told-4 : tie.Need-enum-told-4 Inv-loop μ-loop
+enum-told-4 c = search needs
+
+slice-aggregate-say : tie.Need-slice-aggregate-say Inv-loop μ-loop
+slice-aggregate-say c = search needs
+
+add-say : tie.Need-add-say Inv-loop μ-loop
+add-say c = search needs
+
+slice-aggregate-say-2 : tie.Need-slice-aggregate-say-2 Inv-loop μ-loop
+slice-aggregate-say-2 c = search needs
+
+say-requires : tie.Need-say-requires Inv-loop μ-loop
+say-requires c κs = search needs
+
+returns : tie.Need-returns Inv-loop μ-loop
+returns c = tt
+
+enum-told-5 : tie.Need-enum-told-5 Inv-loop μ-loop
+enum-told-5 c = search needs
+
+tell-requires : tie.Need-tell-requires Inv-loop μ-loop
+tell-requires c κs = search needs
+
+returns-2 : tie.Need-returns-2 Inv-loop μ-loop
+returns-2 c = tt
+
+add-k : tie.Need-add-k Inv-loop μ-loop
+add-k c =
+    let loop = c .before .before .before .loop in
+    let loop-test = c .before .before .loop-test in
+    omega (arith, loop .inv .0, loop .inv .1, loop .inv .2, loop-test .taken)
+
+loop-less : tie.Need-loop-less Inv-loop μ-loop
+loop-less c =
+    let loop = c .before .before .before .loop in
+    let loop-test = c .before .before .loop-test in
+    omega (arith, loop .inv .0, loop .inv .1, loop .inv .2, loop-test .taken)
+
+loop-again : tie.Need-loop-again Inv-loop μ-loop
+loop-again c =
+    let loop = c .before .before .before .loop in
+    let match = c .match in
+    let i = loop .inv in
+    ⊎-elim (λ w. (omega arith, omega arith, omega arith)) (⊎-elim (λ w. (omega arith, omega arith, omega arith)) (λ w. (omega arith, omega arith, omega arith))) (match .came)
+
+slice-aggregate-say-3 : tie.Need-slice-aggregate-say-3 Inv-loop μ-loop
+slice-aggregate-say-3 c = search needs
+
+slice-aggregate-say-4 : tie.Need-slice-aggregate-say-4 Inv-loop μ-loop
+slice-aggregate-say-4 c = search needs
+
+say-requires-2 : tie.Need-say-requires-2 Inv-loop μ-loop
+say-requires-2 c κs = search needs
+
+returns-3 : tie.Need-returns-3 Inv-loop μ-loop
+returns-3 c = tt
+
+pub main-spec : {M : Type 1} → statement M
+main-spec =
+    tie.close
+    (tie.spec
+    Inv-loop
+    μ-loop
+    loop-holds
+    rewrite-next-requires
+    enum-told
+    add-same
+    enum-told-2
+    add-refused
+    enum-told-3
+    add-others
+    enum-told-4
+    slice-aggregate-say
+    add-say
+    slice-aggregate-say-2
+    say-requires
+    returns
+    enum-told-5
+    tell-requires
+    returns-2
+    add-k
+    loop-less
+    loop-again
+    slice-aggregate-say-3
+    slice-aggregate-say-4
+    say-requires-2
+    returns-3)

@@ -1,0 +1,201 @@
+// 02 a: "any accepted job read and written again has its old bytes". Each job of the records on standard input is written anew, from the numbers that
+// its bytes are, and held against the job, byte for byte. Where the writer refuses it, its number is held against the recorded text's.
+use job_writer::Written;
+use number::Number;
+use records::Record;
+ghost use mathlib.Core.Path.{_≡_};
+ghost use Prim.Native.Nat.{_<_, _≤_};
+ghost use lib.Dec.{eqb};
+ghost use lib.ListN.{length};
+ghost use Rattle.entity.specs.Logic.{or};
+ghost use Rattle.job_numbers.specs.Numbers.{written};
+ghost use Rattle.job_writer.specs.Steps.{WrittenAs};
+ghost use Rattle.rewrite.specs.Rewritten.{DecodedAs, tellsOf, Compared, Rewritten};
+
+// How many numbers the bytes are, or that they are not all numbers.
+enum Decoded {
+    Numbers(usize),
+    Not,
+}
+
+// What became of a job: its own bytes, the recorded refusal, no numbers, or anything else; or there is none.
+enum Outcome {
+    Same,
+    Refused,
+    NoNumbers,
+    Differs,
+    End,
+}
+
+// Does nothing: a call tells how many numbers are passed.
+fn told(numbers: [u32; 16384]) -> bool
+    ensures { λ _. ⌜ length numbers ≡ 16384 ⌝ }
+{
+    true
+}
+
+// The numbers that the bytes are, put at the front of the lent ones.
+fn decode(s: &[u8], numbers: &mut [u32; 16384]) -> Decoded
+    requires { ⌜ length (now s) ≤ 16384 ⌝ }
+    ensures { λ r. ⌜ DecodedAs (now (s .entry)) (now (numbers .exit)) r ⌝ }
+{
+    told(*numbers);
+    let mut at = 0;
+    let mut n = 0;
+    while at < s.len() {
+        match number::read(s, at) {
+            Number::Refused(_) => return Decoded::Not,
+            Number::Is(x, next) => {
+                numbers[n] = x;
+                n += 1;
+                at = next;
+            }
+        }
+    }
+    Decoded::Numbers(n)
+}
+
+// Whether the text's last line is that of refusal k.
+fn tells(text: &[u8], k: u8) -> bool
+    ensures { λ r. ⌜ r ≡ tellsOf (now (text .entry)) k ⌝ }
+{
+    let mut line = [0u8; 32];
+    let m = print::put_refused(&mut line, 0, k as usize);
+    if text.len() < m {
+        return false;
+    }
+    let from = text.len() - m;
+    records::same(&text[from..], &line[..m])
+}
+
+// The number of the refusal that a text ends with, or 0.
+fn recorded(text: &[u8]) -> u8
+    ensures { λ r. ⌜ r < 23 ⌝ }
+{
+    let mut k: u8 = 1;
+    while k < 23 {
+        if tells(text, k) {
+            return k;
+        }
+        k += 1;
+    }
+    0
+}
+
+// Whether the reader's number k, or 0, agrees with the recorded one: 17 and 22 are not the reader's, and come before what follows them.
+fn agrees(told: u8, k: u8) -> bool
+    ensures { λ r. ⌜ r ≡ or (eqb told 17) (or (eqb told 22) (eqb told k)) ⌝ }
+{
+    if told == 17 {
+        return true;
+    }
+    if told == 22 {
+        return true;
+    }
+    told == k
+}
+
+// The numbers written into the lent bytes.
+fn write(numbers: &[u32], out: &mut [u8]) -> Written
+    ensures { λ r. ⌜ WrittenAs (written (now (numbers .entry)) (length (now (out .entry)))) (now (out .entry)) (now (out .exit)) r ⌝ }
+{
+    let mut work = [0u8; 65536];
+    let mut t = [0u16; 107520];
+    let mut f = [0u16; 16388];
+    let mut free = [false; 512];
+    let mut e = [0u16; 1541];
+    let mut w = [0u16; 6657];
+    job_writer::write_numbers(
+        numbers,
+        out,
+        &mut work,
+        &mut t,
+        &mut f,
+        &mut free,
+        &mut e,
+        &mut w,
+    )
+}
+
+// What becomes of a job that is these numbers, where a refusal was recorded, or 0.
+fn compare(job: &[u8], recorded: u8, numbers: &[u32]) -> Outcome
+    ensures { λ r. ⌜ Compared (now (job .entry)) (now (numbers .entry)) recorded r ⌝ }
+{
+    let mut out = [0u8; 16384];
+    match write(numbers, &mut out) {
+        Written::Refused(k) => {
+            if agrees(recorded, k) {
+                return Outcome::Refused;
+            }
+            Outcome::Differs
+        }
+        Written::Bytes(n) => {
+            if !agrees(recorded, 0) {
+                return Outcome::Differs;
+            }
+            if records::same(job, &out[..n]) {
+                return Outcome::Same;
+            }
+            Outcome::Differs
+        }
+    }
+}
+
+// What becomes of a job.
+fn rewrite(job: &[u8], text: &[u8]) -> Outcome
+    requires { ⌜ length (now job) ≤ 16384 ⌝ }
+    ensures { λ r. ⌜ Rewritten (now (job .entry)) r ⌝ }
+{
+    let mut numbers = [0u32; 16384];
+    match decode(job, &mut numbers) {
+        Decoded::Not => Outcome::NoNumbers,
+        Decoded::Numbers(n) => compare(job, recorded(text), &numbers[..n]),
+    }
+}
+
+// The record after the first k.
+fn rewrite_next(k: u64) -> Outcome
+    requires { ⌜ k < 100000 ⌝ }
+{
+    let mut job = [0u8; 16384];
+    let mut text = [0u8; 65536];
+    match records::read_record(&mut job, &mut text) {
+        Record::End => Outcome::End,
+        Record::Cut => {
+            records::say(b"record ", k + 1, b" is cut off or too long\n");
+            Outcome::Differs
+        }
+        Record::Is(_, n, m) => rewrite(&job[..n], &text[..m]),
+    }
+}
+
+// What became of all jobs.
+fn tell(same: u64, refused: u64, others: u64) {
+    records::say(b"", same, b" jobs written, all with their bytes\n");
+    records::say(b"", refused, b" refused, all with the reader's number\n");
+    records::say(b"", others, b" are no numbers\n");
+}
+
+fn main() {
+    let mut k: u64 = 0;
+    let mut same: u64 = 0;
+    let mut refused: u64 = 0;
+    let mut others: u64 = 0;
+    while k < 100000 {
+        match rewrite_next(k) {
+            Outcome::Same => same += 1,
+            Outcome::Refused => refused += 1,
+            Outcome::NoNumbers => others += 1,
+            Outcome::Differs => {
+                records::say(b"job ", k + 1, b" differs\n");
+                return;
+            }
+            Outcome::End => {
+                tell(same, refused, others);
+                return;
+            }
+        }
+        k += 1;
+    }
+    records::say(b"stopped after ", k, b" jobs\n");
+}
