@@ -30,6 +30,7 @@ trials = record {
   no-slot = refl;
   resolving-stops = refl;
   reading-goes-on = refl;
+  free-destination = refl;
   dropped-too = refl;
   two-bytes = refl;
   ends-early = refl;

@@ -4,6 +4,7 @@ use mathlib.Core.Path.{_≡_}
 use mathlib.Core.List.{List, [], _∷_, _++_}
 use mathlib.Core.Option.{some}
 use Rattle.function.specs.Function.{Function}
+use Rattle.rules.specs.Patch.{Patch}
 use Rattle.rules.specs.Trials.{doubled, fixed, whole, half}
 use Rattle.number.specs.Read.{got}
 use Rattle.job_target.specs.Trials.{swapGiven}
@@ -35,6 +36,9 @@ farSlot slots place = swapGiven ++ (2 ∷ (slots ++ (1 ∷ 0 ∷ 0 ∷ 0 ∷ 0 �
 abbrev pub withClass : ℕ → Function
 withClass class = record { values = record { bank = 0; cost = 0; class = class } ∷ []; slots = 0; limit = 1; kept = 1 }
 
+abbrev pub nothingMoved : Patch
+nothingMoved = record { free = []; entries = [] }
+
 -- unit 4 free, r6 to r7 of v2, r0 to r4 of v0
 abbrev pub halfOfASource : List ℕ
 halfOfASource =
@@ -54,6 +58,8 @@ pub record Trials : Type 0 where
   pub no-slot : written noSlot 57 ≡ wrote noSlot
   pub resolving-stops : job 1 noSlotThen12 .refusal ≡ some 17
   pub reading-goes-on : written noSlotThen12 100 ≡ notWritten 12
+  -- a patch's own tests that reading has
+  pub free-destination : written (jobWith 1 (1 ∷ 0 ∷ swapEntries)) 100 ≡ notWritten 13
   -- a dropped move is part of the job
   pub dropped-too : written twiceTheSame 100 ≡ wrote twiceTheSame
   pub two-bytes : written (farSlot (300 ∷ []) (400 ∷ [])) 100 ≡ wrote (farSlot (172 ∷ 2 ∷ []) (144 ∷ 3 ∷ []))
@@ -64,5 +70,5 @@ pub record Trials : Type 0 where
   -- no class is written, and none is read back
   pub no-class : functionNumbers (withClass 7) ≡ functionNumbers (withClass 0)
   pub class-0 :
-      readJob (bytesOf (targetNumbers targets.swapFull ++ (functionNumbers (withClass 7) ++ patchesNumbers (record { free = []; entries = [] } ∷ []))))
-      ≡ got (record { target = targets.swapFull; function = withClass 0; patches = record { free = []; entries = [] } ∷ [] }) []
+      readJob (bytesOf (targetNumbers targets.swapFull ++ (functionNumbers (withClass 7) ++ patchesNumbers (nothingMoved ∷ []))))
+      ≡ got (record { target = targets.swapFull; function = withClass 0; patches = nothingMoved ∷ [] }) []
