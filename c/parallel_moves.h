@@ -1,12 +1,14 @@
 /* Parallel moves over registers that share units, resolved in-process.
  *
- * For C11 and C++. Link what is used of target/staticlib, or both:
+ * For C11 and C++. Link what is used of target/staticlib, or all:
  * - libcalls_c.a, which `rt staticlib calls_c` builds, for calls patch by patch:
  *   parallel_moves_open_in with a target and a function, then
  *   parallel_moves_resolve_in with each patch, and parallel_moves_slots_made;
  *   before them, for whoever lays out the frame, parallel_moves_enough_slots_in;
  * - libparallel_moves_c.a, which `rt staticlib parallel_moves_c` builds, for a
- *   whole job as bytes: parallel_moves_answer_in, and parallel_moves_text.
+ *   whole job as bytes: parallel_moves_answer_in, and parallel_moves_text;
+ * - libjob_writer_c.a, which `rt staticlib job_writer_c` builds, for the bytes of a
+ *   job from its numbers: parallel_moves_write_in.
  * c/stamp writes parallel_moves_build.h beside them, which says which build they
  * are. docs/JOB.md has the format of a job, and every refusal with its cause and
  * cure.
@@ -192,6 +194,28 @@ size_t parallel_moves_text(
     uint8_t *text, size_t text_length)
     PARALLEL_MOVES_SYMBOL("parallel_moves_text");
 
+/* Writes a job: `numbers` are all of it, target, function and patches, in the order
+ * of docs/JOB.md. Returns how many bytes it has, at the front of `bytes`, each number
+ * in its shortest form; the bytes past them are left alone. *refusal is set to 0, or
+ * to the number of the refusal: look at it first, since then the result is 0, and no
+ * byte is written. The number is the one that reading these bytes to their end would
+ * give, 2 before all else for more than PARALLEL_MOVES_MOST_BYTES of them, else 1 to
+ * 15 or 21; then 18, where `bytes_length` is less than the job has. As many as
+ * PARALLEL_MOVES_MOST_BYTES are enough for every job. 16 and 17 are matters of
+ * resolving: a job that is written may still be refused by 17. The working tables
+ * are `work` to `writers`. */
+size_t parallel_moves_write(
+    const uint32_t *numbers, size_t numbers_length,
+    uint8_t *bytes, size_t bytes_length,
+    uint8_t *refusal,
+    uint8_t work[PARALLEL_MOVES_MOST_BYTES],
+    uint16_t target[PARALLEL_MOVES_TARGET],
+    uint16_t function[PARALLEL_MOVES_FUNCTION],
+    bool available[PARALLEL_MOVES_UNITS],
+    uint16_t entries[PARALLEL_MOVES_ENTRIES],
+    uint16_t writers[PARALLEL_MOVES_WRITERS])
+    PARALLEL_MOVES_SYMBOL("parallel_moves_write");
+
 /* All tables, about half a megabyte: make one with calloc, and use it for as
  * many calls as you like, one at a time. It has one opened function at most; after
  * parallel_moves_answer_in and parallel_moves_enough_slots_in it has none. `position` is that of the last
@@ -296,6 +320,32 @@ static inline size_t parallel_moves_answer_in(
         memory->free_units, memory->entries, memory->writers,
         memory->available, memory->sources, memory->edits, memory->slots,
         memory->diverted, memory->marks, memory->carried);
+}
+
+/* The tables of parallel_moves_write, about a third of a megabyte: make one with
+ * calloc, and use it for as many calls as you like, one at a time. They are apart from
+ * those of struct parallel_moves_memory, so that a function which is opened there stays
+ * so while jobs are written. */
+struct parallel_moves_writer {
+    uint16_t target[PARALLEL_MOVES_TARGET];
+    uint16_t function[PARALLEL_MOVES_FUNCTION];
+    uint16_t entries[PARALLEL_MOVES_ENTRIES];
+    uint16_t writers[PARALLEL_MOVES_WRITERS];
+    bool available[PARALLEL_MOVES_UNITS];
+    uint8_t work[PARALLEL_MOVES_MOST_BYTES];
+};
+
+/* parallel_moves_write with the tables of `writer`. */
+static inline size_t parallel_moves_write_in(
+    struct parallel_moves_writer *writer,
+    const uint32_t *numbers, size_t numbers_length,
+    uint8_t *bytes, size_t bytes_length,
+    uint8_t *refusal)
+{
+    return parallel_moves_write(
+        numbers, numbers_length, bytes, bytes_length, refusal,
+        writer->work, writer->target, writer->function, writer->available,
+        writer->entries, writer->writers);
 }
 
 /* A word is a patch's head, ((position * 2^16 + made) * 2^16 + count) * 8, or an

@@ -1,6 +1,6 @@
 //! Says where the static library is, from the folder that the environment names
 //! or from the one that the repository builds it in, and which build it is. It is
-//! two archives, and is needed only when a program is linked.
+//! several archives, and is needed only when a program is linked.
 
 use std::env;
 use std::fs;
@@ -10,8 +10,9 @@ use std::process::Command;
 /// Names the folder of the library by its whole path, where it is another than
 /// the repository's.
 const VARIABLE: &str = "PARALLEL_MOVES_LIB_DIR";
-/// What is linked: whole jobs, and calls patch by patch.
-const LIBRARIES: [&str; 2] = ["parallel_moves_c", "calls_c"];
+/// What is linked: whole jobs, calls patch by patch, and jobs written. `c/stamp` has their
+/// sums in this order.
+const LIBRARIES: &[&str] = &["parallel_moves_c", "calls_c", "job_writer_c"];
 /// What `c/stamp` writes beside the library.
 const STAMP: &str = "parallel_moves_build.h";
 
@@ -25,7 +26,8 @@ fn main() {
             root.join("target/staticlib")
         }
     };
-    let archives = LIBRARIES.map(|name| folder.join(format!("lib{name}.a")));
+    let archive = |name: &&str| folder.join(format!("lib{name}.a"));
+    let archives: Vec<PathBuf> = LIBRARIES.iter().map(archive).collect();
     let stamp = folder.join(STAMP);
     println!("cargo::rerun-if-changed=build.rs");
     println!("cargo::rerun-if-changed=src/sys.rs");

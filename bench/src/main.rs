@@ -27,19 +27,21 @@ mod stack;
 mod theirs;
 mod time;
 mod times;
+mod writing;
 
 fn main() {
     let words: Vec<String> = std::env::args().skip(1).collect();
     let words: Vec<&str> = words.iter().map(String::as_str).collect();
     match words[..] {
         ["times"] => times::print(),
+        ["writing"] => writing::print(),
         ["growth"] => growth::print(),
         ["shapes"] => shapes::print(),
         ["stack"] => stack::print(),
         ["count"] => counts::count(),
         ["counts", folder] => counts::print(folder),
         _ => {
-            eprintln!("usage: bench times | growth | shapes | stack | count | counts FOLDER");
+            eprintln!("usage: bench times | writing | growth | shapes | stack | count | counts FOLDER");
             std::process::exit(2);
         }
     }

@@ -4,6 +4,7 @@ use crate::draft::{self, Draft, Patch, Place};
 
 #[link(name = "parallel_moves_c", kind = "static")]
 #[link(name = "calls_c", kind = "static")]
+#[link(name = "job_writer_c", kind = "static")]
 unsafe extern "C" {
     #[link_name = "parallel_moves_open_4"]
     fn parallel_moves_open(
@@ -61,10 +62,28 @@ unsafe extern "C" {
         marks: *mut u8,
         carried: *mut u16,
     ) -> usize;
+
+    #[link_name = "parallel_moves_write_4"]
+    fn parallel_moves_write(
+        numbers: *const u32,
+        numbers_len: usize,
+        bytes: *mut u8,
+        bytes_len: usize,
+        refusal: *mut u8,
+        work: *mut u8,
+        target: *mut u16,
+        function: *mut u16,
+        available: *mut u8,
+        entries: *mut u16,
+        writers: *mut u16,
+    ) -> usize;
 }
 
 /// The original keeps one eviction.
 const KEPT_EVICTIONS: u32 = 1;
+
+/// The bytes of the longest job.
+const MOST_BYTES: usize = 65_536;
 
 /// The words of the longest answer.
 const MOST_WORDS: usize = 2 * 65_536 + 1024;
@@ -101,6 +120,8 @@ pub struct Memory {
     diverted: Vec<u16>,
     marks: Vec<u8>,
     carried: Vec<u16>,
+    written: Vec<u8>,
+    work: Vec<u8>,
 }
 
 impl Memory {
@@ -119,7 +140,14 @@ impl Memory {
             diverted: vec![0xa5a5; 12_288],
             marks: vec![0xa5; 129],
             carried: vec![0xa5a5; 2049],
+            written: vec![0; MOST_BYTES],
+            work: vec![0; MOST_BYTES],
         }
+    }
+
+    /// The first bytes of the job that was written last.
+    pub fn written(&self, count: usize) -> &[u8] {
+        &self.written[..count]
     }
 
     /// The first words of the last job's answer.
@@ -270,6 +298,30 @@ pub extern "C" fn timed_ours_job(bytes: *const u8, len: usize, memory: &mut Memo
             memory.diverted.as_mut_ptr(),
             memory.marks.as_mut_ptr(),
             memory.carried.as_mut_ptr(),
+        )
+    };
+    if refusal == 0 { count } else { 0 }
+}
+
+/// Writes a job from its numbers: how many bytes it has; none if it is refused.
+#[inline(never)]
+#[unsafe(no_mangle)]
+pub extern "C" fn timed_ours_write(numbers: *const u32, len: usize, memory: &mut Memory) -> usize {
+    let mut refusal = 0;
+    // SAFETY: each array is as long as the function says, the flags are 0 or 1.
+    let count = unsafe {
+        parallel_moves_write(
+            numbers,
+            len,
+            memory.written.as_mut_ptr(),
+            MOST_BYTES,
+            &mut refusal,
+            memory.work.as_mut_ptr(),
+            memory.tables.target.as_mut_ptr(),
+            memory.tables.function.as_mut_ptr(),
+            memory.available.as_mut_ptr(),
+            memory.entries.as_mut_ptr(),
+            memory.writers.as_mut_ptr(),
         )
     };
     if refusal == 0 { count } else { 0 }

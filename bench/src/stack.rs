@@ -6,7 +6,7 @@ use std::arch::asm;
 use crate::draft::{Draft, Place};
 use crate::growth::{Kind, Places, job, patch, target};
 use crate::jobs::{self, Row};
-use crate::ours::{Job, Memory, timed_ours_job, timed_ours_patch};
+use crate::ours::{Job, Memory, timed_ours_job, timed_ours_patch, timed_ours_write};
 
 /// How much is filled, and how near to the caller.
 const FILLED: usize = 1 << 20;
@@ -44,8 +44,8 @@ fn measure(call: &mut dyn FnMut()) -> usize {
     }
 }
 
-/// Stack of a whole job, and of resolving its patches.
-fn of(draft: &Draft) -> (usize, usize) {
+/// Stack of a whole job, of resolving its patches, and of writing it.
+fn of(draft: &Draft) -> [usize; 3] {
     let run = || {
         let mut memory = Memory::new();
         let mut opened = Job::open(draft);
@@ -62,7 +62,12 @@ fn of(draft: &Draft) -> (usize, usize) {
             });
             resolve = resolve.max(took);
         }
-        (whole, resolve)
+        let numbers: Vec<u32> = draft.fields().iter().map(|field| field.number).collect();
+        let write = measure(&mut || {
+            count = timed_ours_write(numbers.as_ptr(), numbers.len(), &mut memory);
+        });
+        assert_eq!(memory.written(count), bytes, "other bytes are written");
+        [whole, resolve, write]
     };
     std::thread::scope(|scope| {
         std::thread::Builder::new()
@@ -76,14 +81,19 @@ fn of(draft: &Draft) -> (usize, usize) {
 
 pub fn print() {
     println!("Bytes of stack that a call takes, with its arguments.\n");
-    println!("| jobs | `parallel_moves_answer` | `parallel_moves_resolve` |\n|---|---|---|");
-    let mut most = (0, 0);
+    println!(
+        "| jobs | `parallel_moves_answer` | `parallel_moves_resolve` | `parallel_moves_write` |"
+    );
+    println!("|---|---|---|---|");
+    let mut most = [0; 3];
     let mut line = |name: &str, jobs: &[Draft]| {
         let all: Vec<_> = jobs.iter().map(of).collect();
-        let whole = all.iter().map(|taken| taken.0).max().unwrap_or(0);
-        let resolve = all.iter().map(|taken| taken.1).max().unwrap_or(0);
-        println!("| {name} | {whole} | {resolve} |");
-        most = (most.0.max(whole), most.1.max(resolve));
+        let of_kind = |kind: usize| all.iter().map(|taken| taken[kind]).max().unwrap_or(0);
+        let [whole, resolve, write] = [0, 1, 2].map(of_kind);
+        println!("| {name} | {whole} | {resolve} | {write} |");
+        for (most, taken) in most.iter_mut().zip([whole, resolve, write]) {
+            *most = taken.max(*most);
+        }
     };
     let places: [(&str, Places); 2] = [("registers", Place::Register), ("slots", Place::Slot)];
     for (sort, place) in places {
@@ -100,5 +110,5 @@ pub fn print() {
     for Row { target, size, jobs } in jobs::rows() {
         line(&format!("{target}, {size} entries"), &jobs);
     }
-    println!("| most | {} | {} |", most.0, most.1);
+    println!("| most | {} | {} | {} |", most[0], most[1], most[2]);
 }

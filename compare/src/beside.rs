@@ -13,6 +13,8 @@ mod parse;
 mod planned;
 #[path = "beside/reduce.rs"]
 mod reduce;
+#[path = "beside/rewrite.rs"]
+mod rewrite;
 #[path = "beside/tasks.rs"]
 mod tasks;
 
@@ -42,6 +44,9 @@ beside run SEED COUNT [OPTION..]
 beside damaged FOLDER [OPTION..]
     Compares twenty-two good jobs, some of them trials of the folder, with each byte
     changed in every way, and cut off everywhere.
+beside rewrite SEED COUNT [OPTION..]
+    Takes COUNT such jobs apart into their numbers and has ours write these: it must
+    give the job's own bytes, or the number of reading alone.
 beside calls SEED COUNT [OPTION..]
     Compares COUNT calls that open a function or give it a patch, about a tenth
     of them refused. The same SEED and COUNT give the same calls.
@@ -69,6 +74,7 @@ fn main() -> ExitCode {
     answer::silence_panics();
     let outcome = match arguments[..] {
         ["run", seed, count, ref options @ ..] => run(seed, count, options),
+        ["rewrite", seed, count, ref options @ ..] => rewrite_all(seed, count, options),
         ["damaged", folder, ref options @ ..] => damaged(Path::new(folder), options),
         ["calls", seed, count, ref options @ ..] => compare_calls(seed, count, options),
         ["answer", ref given @ ..] => answer_one(given),
@@ -92,6 +98,16 @@ fn run(seed: &str, count: &str, options: &[&str]) -> Ended {
     let seed = seed.parse().map_err(|_| "SEED is not a number")?;
     let count = count.parse().map_err(|_| "COUNT is not a number")?;
     let options = Options::read(options)?;
+    compare_all(&tasks::generated(seed, count), &options)
+}
+
+fn rewrite_all(seed: &str, count: &str, options: &[&str]) -> Ended {
+    let seed = seed.parse().map_err(|_| "SEED is not a number")?;
+    let count = count.parse().map_err(|_| "COUNT is not a number")?;
+    let mut options = Options::read(options)?;
+    // There is no setting in writing.
+    options.settings.truncate(1);
+    options.rewritten = true;
     compare_all(&tasks::generated(seed, count), &options)
 }
 
@@ -250,6 +266,7 @@ struct Options {
     threads: usize,
     settings: Vec<u32>,
     planned: bool,
+    rewritten: bool,
     difference: Option<PathBuf>,
     /// Of which job, counted from 0, something is spoiled.
     spoiled: Option<(Spoiled, usize)>,
@@ -261,6 +278,7 @@ impl Options {
             threads: thread::available_parallelism().map_or(1, |n| n.get()),
             settings: answer::SETTINGS.to_vec(),
             planned: false,
+            rewritten: false,
             difference: None,
             spoiled: None,
         };
@@ -311,6 +329,7 @@ impl Options {
                 .spoiled
                 .and_then(|(what, at)| (at == number).then_some(what)),
             planned: self.planned,
+            rewritten: self.rewritten,
         }
     }
 }
@@ -388,6 +407,23 @@ impl Counts {
         }
         for (&mode, &(jobs, most)) in &other.planned {
             self.add_planned(mode, jobs, most);
+        }
+    }
+
+    /// Of jobs that were written again.
+    fn print_rewritten(&self) {
+        println!("jobs {}", self.jobs);
+        for (refusal, count) in &self.by_refusal {
+            match refusal {
+                0 => println!("  written: {count}"),
+                _ => println!("  refused no. {refusal}: {count}"),
+            }
+        }
+        println!("patches written {}", self.patches);
+        println!("entries written {}", self.edits);
+        println!("jobs by mode");
+        for (mode, [jobs, ..]) in &self.by_mode {
+            println!("  {mode}: {jobs}");
         }
     }
 
@@ -514,9 +550,10 @@ fn compare_one(
     job: &[u8],
     way: Way,
 ) -> Result<Outcome, Box<Difference>> {
-    match way.planned {
-        true => planned::compare(ours, kept_evictions, job, way),
-        false => compare::compare(ours, kept_evictions, job, way),
+    match (way.rewritten, way.planned) {
+        (true, _) => rewrite::compare(ours, job, way),
+        (_, true) => planned::compare(ours, kept_evictions, job, way),
+        (_, false) => compare::compare(ours, kept_evictions, job, way),
     }
 }
 
@@ -561,8 +598,13 @@ fn compare_all(tasks: &[Task], options: &Options) -> Ended {
     match found {
         None if done == (options.settings.len() * jobs) as u64 => {
             for (setting, counts) in &counts {
-                println!("setting {setting}");
-                counts.print();
+                match options.rewritten {
+                    true => counts.print_rewritten(),
+                    false => {
+                        println!("setting {setting}");
+                        counts.print();
+                    }
+                }
             }
             println!("no difference");
             Ok(ExitCode::SUCCESS)
@@ -580,7 +622,9 @@ fn report(task: &Task, found: Found, options: &Options) -> Result<(), Box<dyn Er
     println!("DIFFERENCE");
     println!("at {}", task.job_name(found.index));
     let kept_evictions = found.kept_evictions;
-    println!("setting {kept_evictions}");
+    if !options.rewritten {
+        println!("setting {kept_evictions}");
+    }
     let length = found.job.len();
     let mut ours = Ours::new();
     let small = thread::scope(|scope| {

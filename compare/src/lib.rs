@@ -11,6 +11,7 @@ pub mod generate;
 pub mod number;
 pub mod plain;
 pub mod random;
+pub mod reading;
 pub mod replay;
 pub mod tally;
 pub mod target;

@@ -15,10 +15,10 @@ use judge::enough::{Miscount, miscounted};
 use judge::number::{Reader, Refused};
 use judge::plain::Slip;
 use judge::target::{Register, Target};
-use judge::{answer, words};
+use judge::{answer, reading, words};
 
 /// The faults, each in some answers only.
-const FAULTS: [&str; 47] = [
+const FAULTS: [&str; 56] = [
     "order",        // two edits change places in a patch with four or more
     "place",        // a copy into slot 3 goes to slot 1
     "made",         // a slot too many is counted from the second patch on
@@ -66,6 +66,15 @@ const FAULTS: [&str; 47] = [
     "enough-kept",  // it is 129 for each size at setting 2 too
     "enough-over",  // bytes left over are accepted
     "enough-bytes", // 22 comes after the tests of the target and the function
+    "write-over",   // of writing: 65,536 bytes are too many
+    "write-length", // 2 for the length comes after the numbers of reading
+    "write-17",     // 17 is given, as resolving gives it
+    "write-12",     // 12 for 13
+    "write-21",     // 21 is not given
+    "write-left",   // numbers left over are accepted
+    "write-18",     // 18 comes before the numbers of reading
+    "write-copied", // the bytes that there is room for are written before 18 is given
+    "write-past",   // a byte past the job is written
 ];
 
 /// The judge that stands behind the library's place.
@@ -379,6 +388,66 @@ pub unsafe extern "C" fn parallel_moves_enough_slots(
     }
     unsafe { *refusal = found.map_or_else(|refused| refused.0, |_| 0) };
     found.map_or(0, |enough| enough as u16)
+}
+
+/// The number that a job is refused by when it is written, or 0, before 18.
+fn write_number(bytes: &[u8]) -> u8 {
+    let read = |bytes: &[u8]| reading::read(bytes).map_or_else(|refused| refused.0, |_| 0);
+    let number = read(bytes);
+    match (fault(), number) {
+        ("write-over", _) if bytes.len() == answer::MOST_BYTES => 2,
+        // What follows the first 65,536 bytes does not matter for these.
+        ("write-length", 2) if bytes.len() > answer::MOST_BYTES => {
+            match read(&bytes[..answer::MOST_BYTES]) {
+                0 | 1 | 8 => 2,
+                number => number,
+            }
+        }
+        ("write-17", _) => match words_of(&answer::text(1, bytes), &[]) {
+            (_, 17) => 17,
+            _ => number,
+        },
+        ("write-12", 13) => 12,
+        ("write-21", 21) | ("write-left", 8) => 0,
+        _ => number,
+    }
+}
+
+/// # Safety
+/// As the library's.
+#[unsafe(export_name = "parallel_moves_write_4")]
+pub unsafe extern "C" fn parallel_moves_write(
+    numbers: *const u32,
+    numbers_len: usize,
+    bytes: *mut u8,
+    bytes_len: usize,
+    refusal: *mut u8,
+    _work: *mut u8,
+    _target: *mut u16,
+    _function: *mut u16,
+    _available: *mut u8,
+    _entries: *mut u16,
+    _writers: *mut u16,
+) -> usize {
+    let numbers = unsafe { slice::from_raw_parts(numbers, numbers_len) };
+    let lent = unsafe { slice::from_raw_parts_mut(bytes, bytes_len) };
+    let job = reading::bytes(numbers);
+    let mut number = write_number(&job);
+    if job.len() > bytes_len && (number == 0 || fault() == "write-18") {
+        number = 18;
+    }
+    unsafe { *refusal = number };
+    if number != 0 {
+        if (fault(), number) == ("write-copied", 18) {
+            lent.copy_from_slice(&job[..bytes_len]);
+        }
+        return 0;
+    }
+    lent[..job.len()].copy_from_slice(&job);
+    if fault() == "write-past" && job.len() < bytes_len {
+        lent[job.len()] = 0;
+    }
+    job.len()
 }
 
 /// Whether two moves of a call have equal sources and other values.

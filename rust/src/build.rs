@@ -1,7 +1,7 @@
 //! Which build this is.
 
 /// Tells builds apart, in one line: the crate's version, the version of the
-/// interface, the SHA-256 sums of the static library's two archives, the kit and
+/// interface, the SHA-256 sum of each of the static library's archives, the kit and
 /// the sum of the logic that proved it, and the commit of the checkout that it
 /// was made in, with `+changes` if that had any.
 ///

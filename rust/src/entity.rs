@@ -64,6 +64,12 @@ entity_def! {
 
     /// A value of the function.
     entity Value("%");
+
+    /// A bank of the target: registers of one width, and memory registers beside them.
+    entity RegBank("bank");
+
+    /// A class of the target: registers of one bank, and slots if it includes them.
+    entity RegClass("class");
 }
 
 /// A place, to be matched on.

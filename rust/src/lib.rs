@@ -10,6 +10,11 @@
 //! lays out the frame, [`ParallelMoves::enough_slots`] says how many emergency slots
 //! are enough for a function.
 //!
+//! A [`JobBuilder`] makes these bytes in the words of the trade, and says which register,
+//! class, value or entry is refused; [`write()`] and [`JobWriter`] make them of numbers, and
+//! [`text`] of a readable text, which it also prints of them. The program `parallel-moves`
+//! does the last two on the command line.
+//!
 //! The work is done by a library in which every function is proved to meet its
 //! contract; this crate lends it memory and takes its words apart.
 //! `docs/JOB.md` of the repository says what a target, a function and a patch
@@ -33,15 +38,17 @@
 //! # Building
 //!
 //! The static library is linked when a program is: from `target/staticlib` of
-//! the repository, where `rt staticlib parallel_moves_c` and `rt staticlib
-//! calls_c` make its two archives, or from the folder that
+//! the repository, where `rt staticlib` makes its archives `parallel_moves_c`,
+//! `calls_c` and `job_writer_c`, or from the folder that
 //! `PARALLEL_MOVES_LIB_DIR` names. `cargo check` and `cargo doc` do without it.
 //! [`BUILD`] tells builds apart.
 
 mod answer;
 mod build;
+mod builder;
 mod edit;
 mod entity;
+mod locate;
 mod parallel_moves;
 mod patch;
 mod refusal;
@@ -49,17 +56,25 @@ mod resolver;
 mod sys;
 #[cfg(test)]
 mod tests;
+pub mod text;
+mod writer;
 
 pub use answer::{Answer, Patches, RefusedJob, ResolvedPatch};
 pub use build::BUILD;
+pub use builder::{BuildError, Class, FunctionBuilder, JobBuilder, Part, RematCost, TargetBuilder};
 pub use edit::{Edit, Edits, Iter};
-pub use entity::{Allocation, AllocationKind, PhysReg, RegUnit, SpillSlot, Value};
+pub use entity::{
+    Allocation, AllocationKind, PhysReg, RegBank, RegClass, RegUnit, SpillSlot, Value,
+};
 pub use parallel_moves::{MOST_EDITS, ParallelMoves};
 pub use patch::Patch;
 pub use refusal::{Refusal, Unnamed};
 pub use resolver::Resolver;
+pub use writer::{JobWriter, write};
 
-/// The snippets of the repository's README are compiled with the tests.
+/// The snippets of the repository's README and of its paper on jobs are compiled with the
+/// tests.
 #[cfg(doctest)]
 #[doc = include_str!("../../README.md")]
-struct Readme;
+#[doc = include_str!("../../docs/JOB.md")]
+struct Papers;

@@ -44,6 +44,14 @@ impl Patch {
         }
     }
 
+    /// A patch without free units and entries, which is given memory as it grows.
+    pub(crate) fn empty() -> Self {
+        Patch {
+            free: Vec::new(),
+            entries: Vec::new(),
+        }
+    }
+
     /// Starts anew, without free units and entries. This is the original's
     /// `new_parallel_move`.
     #[inline]
@@ -78,6 +86,44 @@ impl Patch {
     #[inline]
     pub fn add_remat(&mut self, dest: Allocation, value: Value) {
         self.entries.push([1, dest.code, value.0, 0]);
+    }
+
+    /// Calls units free, in whatever order and however often: what they hold before the
+    /// patch is not needed.
+    ///
+    /// ```
+    /// use parallel_moves::{Patch, PhysReg, Value};
+    ///
+    /// let [r0, r1] = [0, 1].map(PhysReg::new);
+    /// let mut patch = Patch::new();
+    /// patch.free(&[4, 2]).free(&[4]).move_(r0, r1, Value::new(0));
+    /// let words = "Patch { free: [unit2, unit4], entries: [\"r0 to r1, %0\"] }";
+    /// assert_eq!(format!("{patch:?}"), words);
+    /// ```
+    pub fn free(&mut self, units: &[u32]) -> &mut Self {
+        self.free.extend(units.iter().map(|&unit| RegUnit(unit)));
+        self.free.sort_unstable();
+        self.free.dedup();
+        self
+    }
+
+    /// Adds a move, as [`Patch::add_move`] does.
+    #[inline]
+    pub fn move_(
+        &mut self,
+        from: impl Into<Allocation>,
+        to: impl Into<Allocation>,
+        value: Value,
+    ) -> &mut Self {
+        self.add_move(from.into(), to.into(), value);
+        self
+    }
+
+    /// Adds a rebuild, as [`Patch::add_remat`] does.
+    #[inline]
+    pub fn rebuild(&mut self, to: impl Into<Allocation>, value: Value) -> &mut Self {
+        self.add_remat(to.into(), value);
+        self
     }
 
     /// How many entries were added.

@@ -73,6 +73,7 @@ refusals! {
     15 TooManyEntries: "a patch has more than 128 entries";
     16 ListTooShort: "the lent list is too short for the patch's edits";
     17 OutOfSlots: "an emergency slot is needed, none of its size is at hand, and no more may be made";
+    18 BytesTooFew: "the lent bytes are fewer than the job has";
     21 OverlappingSources: "a move's source overlaps that of an earlier move without being equal to it, and both moves are kept";
     22 NoSuchSetting: "the number of kept evictions is neither 1 nor 2";
 }
@@ -111,8 +112,8 @@ mod tests {
 
     #[test]
     fn each_has_words_of_its_own() {
-        assert!((1..=17).chain([21, 22]).eq(NAMED.iter().copied()));
-        let words: Vec<&str> = (1..=18)
+        assert!((1..=18).chain([21, 22]).eq(NAMED.iter().copied()));
+        let words: Vec<&str> = (1..=19)
             .chain([21, 22])
             .map(|number| Refusal::of_number(number).unwrap().words())
             .collect();

@@ -27,6 +27,8 @@ type Diverted = [u16; 12_288];
 type Marks = [u8; 129];
 /// The values that moves still carry.
 type Carried = [u16; 2049];
+/// The bytes of a job in the making.
+type Work = [u8; 65_536];
 
 // A slice goes as a pointer and a length; an array, or one number, goes as a
 // pointer, which a reference is here.
@@ -108,6 +110,21 @@ unsafe extern "C" {
         refusal: u8,
         text: *mut u8,
         text_length: usize,
+    ) -> usize;
+
+    #[link_name = "parallel_moves_write_4"]
+    fn parallel_moves_write(
+        numbers: *const u32,
+        numbers_length: usize,
+        bytes: *mut u8,
+        bytes_length: usize,
+        refusal: &mut u8,
+        work: &mut Work,
+        target: &mut RegInfo,
+        function: &mut Function,
+        available: &mut RegUnitSet,
+        entries: &mut Entries,
+        writers: &mut SparseMap,
     ) -> usize;
 }
 
@@ -283,6 +300,55 @@ impl Opened {
     #[cfg(test)]
     pub(crate) fn cache(&self) -> &[u16] {
         &self.0.cache[..]
+    }
+}
+
+/// The tables of writing, which is apart from opened functions.
+pub(crate) struct WriterTables {
+    work: Box<Work>,
+    target: Box<RegInfo>,
+    function: Box<Function>,
+    available: Box<RegUnitSet>,
+    entries: Box<Entries>,
+    writers: Box<SparseMap>,
+}
+
+impl WriterTables {
+    pub(crate) fn new() -> Self {
+        WriterTables {
+            work: table(),
+            target: table(),
+            function: table(),
+            available: table(),
+            entries: table(),
+            writers: table(),
+        }
+    }
+
+    /// Writes the job of numbers to the front of `bytes`: how many bytes it has, and
+    /// the refusal's number or 0. What the tables hold does not matter.
+    pub(crate) fn write(&mut self, numbers: &[u32], bytes: &mut [u8]) -> (usize, u8) {
+        let mut refusal = 0;
+        // SAFETY: `numbers` and `bytes` are as long as the function is told, and
+        // each table has the length that it is declared with. `bytes` and the tables
+        // are borrowed mutably, so that nothing else reads or writes them. The
+        // function keeps no pointer.
+        let count = unsafe {
+            parallel_moves_write(
+                numbers.as_ptr(),
+                numbers.len(),
+                bytes.as_mut_ptr(),
+                bytes.len(),
+                &mut refusal,
+                &mut self.work,
+                &mut self.target,
+                &mut self.function,
+                &mut self.available,
+                &mut self.entries,
+                &mut self.writers,
+            )
+        };
+        (count, refusal)
     }
 }
 

@@ -13,13 +13,16 @@ use common::root;
 /// Names of types and constants, and what they stand for.
 type Names = HashMap<String, String>;
 
-const FUNCTIONS: [&str; 6] = [
+const LIBRARIES: &[&str] = &["parallel_moves_c", "calls_c", "job_writer_c"];
+
+const FUNCTIONS: &[&str] = &[
     "parallel_moves_open",
     "parallel_moves_resolve",
     "parallel_moves_made",
     "parallel_moves_answer",
     "parallel_moves_text",
     "parallel_moves_enough_slots",
+    "parallel_moves_write",
 ];
 
 fn read(path: &str) -> String {
@@ -92,9 +95,8 @@ fn library(function: &str) -> Vec<String> {
         let path = entry.unwrap().path().join("src/lib.rt");
         types(&fs::read_to_string(path).unwrap_or_default(), &mut names);
     }
-    let libraries = ["parallel_moves_c", "calls_c"];
-    let text = libraries.map(|library| read(&format!("crates/{library}/src/lib.rt")));
-    let text = text.concat();
+    let text = |library: &&str| read(&format!("crates/{library}/src/lib.rt"));
+    let text: String = LIBRARIES.iter().map(text).collect();
     let start = format!("fn {function}_{}(", interface());
     let (_, declared) = text
         .split_once(&start)
@@ -177,7 +179,7 @@ fn c(function: &str) -> Vec<String> {
 #[test]
 fn parameters_agree() {
     let mut declared = String::new();
-    for function in FUNCTIONS {
+    for &function in FUNCTIONS {
         let library = library(function);
         assert_eq!(rust(function), library, "rust/src/sys.rs, {function}");
         assert_eq!(c(function), library, "c/parallel_moves.h, {function}");
@@ -199,22 +201,28 @@ fn tables<'a>(header: &'a str, function: &str) -> Vec<&'a str> {
     tables.map(|t| t.trim_start_matches("const ")).collect()
 }
 
-/// The struct's tables are those of the functions; beside them it has the
+/// The fields of a struct, sorted.
+fn fields<'a>(header: &'a str, name: &str) -> Vec<&'a str> {
+    let body = between(header, &format!("struct {name} {{"), "}");
+    let fields = body.split(';').map(str::trim);
+    let mut fields: Vec<&str> = fields.filter(|field| !field.is_empty()).collect();
+    fields.sort();
+    fields
+}
+
+/// The structs' tables are those of the functions; beside them the one has the
 /// position.
 #[test]
 fn memory_agrees() {
     let text = read("c/parallel_moves.h");
-    let body = between(&text, "struct parallel_moves_memory {", "}");
-    let mut fields: Vec<&str> = body
-        .split(';')
-        .map(str::trim)
-        .filter(|f| !f.is_empty())
-        .collect();
     let mut all = tables(&text, "parallel_moves_answer");
-    fields.retain(|field| *field != "uint16_t position");
-    fields.sort();
+    let mut fields_of_memory = fields(&text, "parallel_moves_memory");
+    fields_of_memory.retain(|field| *field != "uint16_t position");
     all.sort();
-    assert_eq!(fields, all);
+    assert_eq!(fields_of_memory, all);
+    let mut of_writing = tables(&text, "parallel_moves_write");
+    of_writing.sort();
+    assert_eq!(fields(&text, "parallel_moves_writer"), of_writing);
     for function in [
         "parallel_moves_open",
         "parallel_moves_enough_slots",
@@ -223,6 +231,37 @@ fn memory_agrees() {
         for table in tables(&text, function) {
             assert!(all.contains(&table), "{table}");
         }
+    }
+}
+
+/// Every file that says which archives the library has names the same, in one order.
+#[test]
+fn archives_agree() {
+    let build: Vec<String> = LIBRARIES.iter().map(|name| format!("{name:?}")).collect();
+    let rust = read("rust/build.rs");
+    assert_eq!(
+        between(&rust, "LIBRARIES: &[&str] = &[", "];"),
+        build.join(", ")
+    );
+    let listed = format!("libraries=({})", LIBRARIES.join(" "));
+    for file in ["rust/test", "bench/run", "compare/link"] {
+        assert!(read(file).contains(&listed), "{file}");
+    }
+    let stamp = read("c/stamp");
+    let stamped = between(&stamp, "libraries=(", ")").split(' ');
+    let stamped: Vec<&str> = stamped
+        .map(|pair| pair.split_once(':').unwrap().1)
+        .collect();
+    assert_eq!(stamped, LIBRARIES);
+    for name in LIBRARIES {
+        for file in ["bench/src/ours.rs", "compare/src/beside/ours.rs"] {
+            assert!(
+                read(file).contains(&format!("link(name = {name:?}, kind")),
+                "{file}"
+            );
+        }
+        assert!(read("c/parallel_moves.h").contains(&format!("lib{name}.a")));
+        assert!(read("c/test").contains(&format!("lib{name}.a")));
     }
 }
 

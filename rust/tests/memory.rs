@@ -6,7 +6,8 @@ use std::thread;
 
 use common::{deep_chain, jobs, kept_evictions, many_swaps, printed, text, text_of};
 use parallel_moves::{
-    Answer, Edit, ParallelMoves, Patch, PhysReg, Refusal, RefusedJob, Resolver, Value,
+    Answer, BuildError, Edit, JobBuilder, JobWriter, ParallelMoves, Patch, PhysReg, Refusal,
+    RefusedJob, Resolver, Value,
 };
 
 /// The list of words is enlarged, and the answer is whole.
@@ -45,6 +46,21 @@ fn small_stack() {
     assert!(patch.edits().iter().eq(edits));
 }
 
+/// So does writing.
+#[test]
+fn small_stack_of_writing() {
+    for job in [deep_chain(), many_swaps()] {
+        let numbers = JobBuilder::from_bytes(&job).unwrap().numbers();
+        let written = thread::Builder::new()
+            .stack_size(64 * 1024)
+            .spawn(move || JobWriter::new().write(&numbers))
+            .unwrap()
+            .join()
+            .unwrap();
+        assert_eq!(written, Ok(job));
+    }
+}
+
 /// After a long answer a short one is short.
 #[test]
 fn short_after_long() {
@@ -67,6 +83,9 @@ fn goes_between_threads() {
     is_send_and_sync::<RefusedJob>();
     is_send_and_sync::<Edit>();
     is_send_and_sync::<Refusal>();
+    is_send_and_sync::<JobWriter>();
+    is_send_and_sync::<JobBuilder>();
+    is_send_and_sync::<BuildError>();
 }
 
 /// Resolvers at work at the same time do not disturb each other.

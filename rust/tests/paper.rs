@@ -112,6 +112,29 @@ fn swap_full_stop_by_stop() {
     assert!(!rows.next().unwrap().starts_with('|'));
 }
 
+/// Every refusal has a row with its cause and cure, and the crate has a name for it.
+#[test]
+fn refusals_have_rows() {
+    let paper = paper();
+    let (_, rest) = paper
+        .split_once("| no. | cause | cure |\n|---|---|---|\n")
+        .unwrap();
+    let rows = rest.lines().take_while(|line| line.starts_with('|'));
+    let rows: Vec<Vec<&str>> = rows
+        .map(|row| row.trim_matches('|').split(" | ").map(str::trim).collect())
+        .collect();
+    let numbers: Vec<u8> = rows.iter().map(|row| row[0].parse().unwrap()).collect();
+    let named = fs::read_to_string(root().join("rust/src/refusal.rs")).unwrap();
+    let (_, named) = named.split_once("\nrefusals! {\n").unwrap();
+    let named = named.lines().take_while(|line| *line != "}");
+    let named = named.map(|line| line.split_whitespace().next().unwrap().parse().unwrap());
+    assert_eq!(numbers, named.collect::<Vec<u8>>());
+    for row in rows {
+        assert_eq!(row.len(), 3, "{row:?}");
+        assert!(row.iter().all(|cell| !cell.is_empty()), "{row:?}");
+    }
+}
+
 /// The two wrong splits lose a value, as the paper says.
 #[test]
 fn wrong_splits_lose_a_value() {

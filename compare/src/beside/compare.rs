@@ -19,6 +19,8 @@ pub struct Way {
     pub spoiled: Option<Spoiled>,
     /// Its L is planned anew.
     pub planned: bool,
+    /// It is written again, and not answered.
+    pub rewritten: bool,
 }
 
 /// What of an answer is spoiled.

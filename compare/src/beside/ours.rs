@@ -14,6 +14,7 @@ extern crate stub;
 
 #[cfg_attr(not(stub), link(name = "parallel_moves_c", kind = "static"))]
 #[cfg_attr(not(stub), link(name = "calls_c", kind = "static"))]
+#[cfg_attr(not(stub), link(name = "job_writer_c", kind = "static"))]
 unsafe extern "C" {
     #[link_name = "parallel_moves_open_4"]
     fn parallel_moves_open(
@@ -93,6 +94,21 @@ unsafe extern "C" {
         text: *mut u8,
         text_len: usize,
     ) -> usize;
+
+    #[link_name = "parallel_moves_write_4"]
+    fn parallel_moves_write(
+        numbers: *const u32,
+        numbers_len: usize,
+        bytes: *mut u8,
+        bytes_len: usize,
+        refusal: *mut u8,
+        work: *mut u8,
+        target: *mut u16,
+        function: *mut u16,
+        available: *mut u8,
+        entries: *mut u16,
+        writers: *mut u16,
+    ) -> usize;
 }
 
 /// An array that is lent, and past its end some that is not.
@@ -130,6 +146,11 @@ impl<T: Copy + PartialEq> Lent<T> {
     }
 }
 
+/// What a lent byte is before a job is written.
+fn not_written(at: usize) -> u8 {
+    (at % 253) as u8 ^ 0x96
+}
+
 /// Ours, with memory that is used again for each job.
 pub struct Ours {
     words: Lent<u64>,
@@ -151,6 +172,9 @@ pub struct Ours {
     carried: Lent<u16>,
     /// What the list was last filled with.
     filled: u64,
+    /// Jobs that are written, and what is worked in for them.
+    written: Vec<u8>,
+    work: Lent<u8>,
 }
 
 impl Ours {
@@ -176,6 +200,8 @@ impl Ours {
             marks: Lent::new(129, [0xa5, 1]),
             carried: shorts(2049),
             filled: 0,
+            written: Vec::new(),
+            work: Lent::new(MOST_BYTES, [0x5a, 0xa5]),
         }
     }
 
@@ -335,6 +361,49 @@ impl Ours {
         }
     }
 
+    /// Writes the job of numbers into so many lent bytes: how many it has, and the
+    /// refusal. The tables are used again as they are.
+    pub fn write(&mut self, numbers: &[u32], room: usize) -> (usize, u8) {
+        let mut refusal = 0x5a;
+        self.written.clear();
+        self.written.extend((0..room + WATCHED).map(not_written));
+        // SAFETY: each array is as long as the function says, the flags are 0 or 1, and
+        // none lies on another.
+        let count = unsafe {
+            parallel_moves_write(
+                numbers.as_ptr(),
+                numbers.len(),
+                self.written.as_mut_ptr(),
+                room,
+                &mut refusal,
+                self.work.pointer(),
+                self.target.pointer(),
+                self.function.pointer(),
+                self.available.pointer(),
+                self.entries.pointer(),
+                self.writers.pointer(),
+            )
+        };
+        (count, refusal)
+    }
+
+    /// Spoils the last byte that was written, if there is one.
+    pub fn spoil_written(&mut self, count: usize) -> bool {
+        let last = self.written[..count].last_mut();
+        last.map(|byte| *byte ^= 1).is_some()
+    }
+
+    /// The first of the bytes that were lent last.
+    pub fn written(&self, count: usize) -> Option<&[u8]> {
+        self.written.get(..count)
+    }
+
+    /// Whether they are as before from `count` on, and so is what lies past their end.
+    pub fn is_left_alone(&self, count: usize) -> bool {
+        let mut rest = self.written.iter().enumerate().skip(count);
+        rest.all(|(at, &byte)| byte == not_written(at))
+    }
+
     /// Whether nothing was written past the end of an array.
     pub fn kept_to_its_own(&self) -> bool {
         let shorts = [
@@ -349,6 +418,7 @@ impl Ours {
         ];
         let longs = [&self.words, &self.list, &self.edits];
         let bytes = [
+            &self.work,
             &self.text,
             &self.free_units,
             &self.available,
