@@ -45,7 +45,7 @@ fn check_patch(
 {
     match job_patch::read_patch(t, f, s, at, free, e, w) {
         Next::Refused(k) => Next::Refused(k),
-        Next::At(next) => match entries::refusal(t, f, e, w, free, 1024) {
+        Next::At(next) => match entries::refusal(t, f, e, w, free, true, 1024) {
             Added::Refused(k) => Next::Refused(k),
             Added::Yes => Next::At(next),
         },
