@@ -19,6 +19,8 @@ use Rattle.rules.specs.Scratch.{Cache, ScratchAllocator, emptyCache}
 use Rattle.rules.specs.Patch.{Entry, Patch, Sorted, nothingSorted, answerOf, unlessRefused, namesPlace, entryConditions, add, sorted, patchConditions, run, resolveSorted, resolve}
 use Rattle.rules.specs.Refusals.{ranOut}
 use Rattle.parallel_moves.proofs.First.{orThen, first-append}
+use Rattle.price.specs.declared.Prices.{Prices}
+use Rattle.price.specs.Price.{inRange}
 use Rattle.number.specs.Read.{Read, got, refused, then}
 use Rattle.number.specs.Number.{number, encoded}
 use Rattle.number.proofs.Laws.{only-form, read-back}
@@ -26,9 +28,10 @@ use Rattle.reading.specs.Reading.{tested, below, between, times, distinct}
 use Rattle.job_target.specs.Target.{bank, reg, class, classes, target}
 use Rattle.job_function.specs.Reads.{rebuilt, value, valued, function}
 use Rattle.job_patch.specs.Patches.{unlessGiven, rising, place, entry, entries, patch}
-use Rattle.job.specs.Job.{Answers, afterRead, afterCall, leftOver, afterTarget, header, opening, patches, job}
+use Rattle.job.specs.Job.{Header, Answers, afterRead, afterCall, leftOver, afterTarget, header, opening, patches, job}
 use Rattle.job.specs.Conditions.{afterGot, unread, inNumber, inTested, inTimes, inDistinct, inBank, inReg, inClass, inClasses, inTarget, ofTarget, inRebuilt, inValue, inFunction, inRising, afterResolved, inPlace, inEntry, inEntries, inPatch, ofCall, inPatches, inOpening, jobConditions, Refusals, NoNumber}
-use Rattle.job.proofs.Exactly.{refusalOf, Exactly, nothing, after, made, unless, passing, given, either, number-exactly, tested-exactly, times-exactly, distinct-exactly, rising-exactly}
+use Rattle.job.specs.Priced.{unlessOutside, openingIf, openingPriced, jobPriced, inOpeningPriced, conditionsPriced, RefusalsPriced}
+use Rattle.job.proofs.Exactly.{refusalOf, Exactly, nothing, after, made, unless, within, passing, given, either, number-exactly, tested-exactly, times-exactly, distinct-exactly, rising-exactly}
 use Rattle.job.proofs.WasRead.{entry-named, settled, patch-called}
 use Rattle.job.proofs.ReadTarget.{target-read}
 
@@ -192,15 +195,19 @@ target-settled : (t : RegInfo) → outsideLimits t ≡ false → listedTwice t �
 unfolding targetRefusal ofTarget firstOf
 target-settled t p q = rw (p, q)
 
-rules-exactly : (t : RegInfo) (kept : ℕ) (r : List ℕ) → targetRefusal t ≡ firstOf (ofTarget t)
-    → Exactly (unlessGiven (targetRefusal t) (afterTarget t kept r))
-    (ofTarget t ++ (inFunction t r ++ afterGot (function t kept r) (λ f q. inTested (λ x. and (leb 1 x) (leb x 1024)) q)))
+abbrev behindRules : RegInfo → (kept : ℕ) → List ℕ → List Condition
+behindRules t kept r = inFunction t r ++ afterGot (function t kept r) (λ f q. inTested (λ x. and (leb 1 x) (leb x 1024)) q)
+
+behind-exactly : (t : RegInfo) (kept : ℕ) (r : List ℕ) → Exactly (afterTarget t kept r) (behindRules t kept r)
 unfolding afterTarget
-rules-exactly t kept r e =
-    rw e
-    (given (ofTarget t) _ _
-    (after (function t kept r) (inFunction t r) _ _ (function-exactly t kept r)
-    (λ f q e. made (between 1 1024 q) (inTested (λ x. and (leb 1 x) (leb x 1024)) q) _ (tested-exactly _ q))))
+behind-exactly t kept r =
+    after (function t kept r) (inFunction t r) _ _ (function-exactly t kept r)
+    (λ f q e. made (between 1 1024 q) (inTested (λ x. and (leb 1 x) (leb x 1024)) q) _ (tested-exactly _ q))
+
+-- the rules of a target that was read, then what stands behind it
+rules-exactly : (l : List ℕ) (t : RegInfo) (r : List ℕ) → target l ≡ got t r → (d : Read Header) (cs : List Condition) → Exactly d cs
+    → Exactly (unlessGiven (targetRefusal t) d) (ofTarget t ++ cs)
+rules-exactly l t r e d cs on = let w = target-read l t r e in rw (target-settled t (w .0) (w .1)) (given (ofTarget t) d cs on)
 
 opening-exactly : (kept : ℕ) (l : List ℕ) → Exactly (opening kept l) (inOpening kept l)
 unfolding opening inOpening header
@@ -208,12 +215,27 @@ opening-exactly kept l =
     unless (no (isSetting kept)) 22 _ _
     (λ _. unless (ltb 65536 (length l)) 2 _ _
     (λ _. after (target l) (inTarget l) _ _ (target-exactly l)
-    (λ t r e. let w = target-read l t r e in rules-exactly t kept r (target-settled t (w .0) (w .1)))))
+    (λ t r e. rules-exactly l t r e (afterTarget t kept r) (behindRules t kept r) (behind-exactly t kept r))))
+
+priced-exactly : (p : Prices) (kept : ℕ) (l : List ℕ) → Exactly (openingPriced p kept l) (inOpeningPriced p kept l)
+unfolding openingIf inOpeningPriced
+priced-exactly p kept l =
+    unless (no (isSetting kept)) 22 _ _
+    (λ _. unless (ltb 65536 (length l)) 2 _ _
+    (λ _. after (target l) (inTarget l) _ _ (target-exactly l)
+    (λ t r e. rules-exactly l t r e (unlessOutside (inRange p) (afterTarget t kept r)) (cond 19 (no (inRange p)) ∷ behindRules t kept r)
+    (within (inRange p) 19 (afterTarget t kept r) (behindRules t kept r) (behind-exactly t kept r)))))
 
 job-exactly : (kept : ℕ) (l : List ℕ) → firstOf (jobConditions kept l) ≡ job kept l .refusal
 unfolding job jobConditions
 job-exactly kept l =
     answered (opening kept l) (inOpening kept l) _ _ (opening-exactly kept l)
+    (λ h r e. patches-exactly (h .target) (h .function) (h .patches) emptyCache r)
+
+job-priced-exactly : (p : Prices) (kept : ℕ) (l : List ℕ) → firstOf (conditionsPriced p kept l) ≡ jobPriced p kept l .refusal
+unfolding jobPriced conditionsPriced
+job-priced-exactly p kept l =
+    answered (openingPriced p kept l) (inOpeningPriced p kept l) _ _ (priced-exactly p kept l)
     (λ h r e. patches-exactly (h .target) (h .function) (h .patches) emptyCache r)
 
 -- for every setting and every list of bytes
@@ -223,6 +245,15 @@ refusals kept l =
     record {
       given = λ n. (λ g. first-given (jobConditions kept l) n (e ∙ g), λ g. sym e ∙ given-first (jobConditions kept l) n g);
       taken = (λ g. first-none (jobConditions kept l) (e ∙ g), λ h. sym e ∙ none-first (jobConditions kept l) h);
+    }
+
+-- with prices too
+pub refusals-priced : (p : Prices) (kept : ℕ) (l : List ℕ) → RefusalsPriced p kept l
+refusals-priced p kept l =
+    let e = job-priced-exactly p kept l in
+    record {
+      given = λ n. (λ g. first-given (conditionsPriced p kept l) n (e ∙ g), λ g. sym e ∙ given-first (conditionsPriced p kept l) n g);
+      taken = (λ g. first-none (conditionsPriced p kept l) (e ∙ g), λ h. sym e ∙ none-first (conditionsPriced p kept l) h);
     }
 
 pub no-number : NoNumber

@@ -54,6 +54,12 @@ unfolding firstOf
 unless true k d cs e = refl
 unless false k d cs e = e refl
 
+-- a test before a part
+pub within : {A : Type 0} (b : Bool) (k : ℕ) (d : Read A) (cs : List Condition) → Exactly d cs → Exactly (pick b d (refused k)) (cond k (no b) ∷ cs)
+unfolding firstOf
+within true k d cs e = e
+within false k d cs e = refl
+
 -- a test of what was read
 pub passing : {A : Type 0} (b : Bool) (k : ℕ) (x : A) (r : List ℕ) → Exactly (pick b (got x r) (refused k)) (cond k (no b) ∷ [])
 unfolding firstOf

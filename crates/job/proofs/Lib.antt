@@ -8,3 +8,4 @@ pub mod ReadTarget
 pub mod Trials
 pub mod Room
 pub mod Enough
+pub mod Priced

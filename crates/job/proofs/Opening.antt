@@ -31,6 +31,7 @@ use Rattle.job_function.specs.Answer.{FunctionRead}
 use Rattle.job_function.proofs.Accepted.{read-accepted}
 use Rattle.job_patch.specs.Patches.{unlessGiven}
 use Rattle.job.specs.Job.{Opened, Header, afterTarget, header, withFunction, beginning, opening}
+use Rattle.job.specs.Priced.{unlessOutside, beginningIf, openingIf}
 use Rattle.job.specs.Steps.{BegunAt, HeaderAt}
 
 -- a setting fits in a cell of the table
@@ -45,68 +46,88 @@ function-read kept set s t f at (X.At next) ok index h =
     let known : Checked t f = record { target = ok; indexed = index; function = read-accepted (regInfoOf t) kept set (drop at s) (functionOf f) (drop next s) (sym (h .reads)) .0 } in
     rw (← h .reads) (next, refl, refl, h .onward .1, refl, refl, known)
 
--- a target that is refused, and one that is not
-module _ (kept : ℕ) (s t t′ f : List ℕ) (at : ℕ) where
-  pub target-refused : (k : ℕ) → some k ≡ targetRefusal (regInfoOf t) → BegunAt s (unlessGiven (targetRefusal (regInfoOf t)) (withFunction (regInfoOf t) kept (drop at s))) (X.Refused k) t′ f
+-- a target that is refused, and one that is not; `ok` tells whether the prices are in their range
+module _ (ok : Bool) (kept : ℕ) (s t t′ f : List ℕ) (at : ℕ) where
+  abbrev behind : Read Opened
+  behind = unlessGiven (targetRefusal (regInfoOf t)) (unlessOutside ok (withFunction (regInfoOf t) kept (drop at s)))
+
+  pub target-refused : (k : ℕ) → some k ≡ targetRefusal (regInfoOf t) → BegunAt s behind (X.Refused k) t′ f
   target-refused k h = rw (← h) (refl, tt, tt)
 
-  pub target-taken : isSetting kept ≡ true → (r : Next) → none ≡ targetRefusal (regInfoOf t) → regInfoOf t′ ≡ regInfoOf t → Indexed t′ → FunctionRead t′ kept s at f r
-      → BegunAt s (unlessGiven (targetRefusal (regInfoOf t)) (withFunction (regInfoOf t) kept (drop at s))) r t′ f
-  target-taken set r h e index g =
+  pub prices-refused : ok ≡ false → none ≡ targetRefusal (regInfoOf t) → BegunAt s behind (X.Refused 19) t′ f
+  prices-refused out h = rw (← h, out) (refl, tt, tt)
+
+  pub target-taken : ok ≡ true → isSetting kept ≡ true → (r : Next) → none ≡ targetRefusal (regInfoOf t) → regInfoOf t′ ≡ regInfoOf t → Indexed t′ → FunctionRead t′ kept s at f r
+      → BegunAt s behind r t′ f
+  target-taken within set r h e index g =
       let ok : Accepted (regInfoOf t′) = rw e (sym h) in
       let h′ = rw e at (function-read kept set s t′ f at r ok index g) in
-      rw (← h) h′
+      rw (← h, within) h′
 
-module _ (kept : ℕ) (s t f : List ℕ) where
-  pub other-setting : no (isSetting kept) ≡ true → BegunAt s (beginning kept s) (X.Refused 22) t f
-  unfolding beginning
+module _ (ok : Bool) (kept : ℕ) (s t f : List ℕ) where
+  pub other-setting : no (isSetting kept) ≡ true → BegunAt s (beginningIf ok kept s) (X.Refused 22) t f
+  unfolding beginningIf
   other-setting set = rw set (refl, tt, tt)
 
   module _ (set : isSetting kept ≡ true) where
-    pub too-long : 65536 < length s → BegunAt s (beginning kept s) (X.Refused 2) t f
-    unfolding beginning
+    pub too-long : 65536 < length s → BegunAt s (beginningIf ok kept s) (X.Refused 2) t f
+    unfolding beginningIf
     too-long h = rw (set, lt-ltb 65536 (length s) h) (refl, tt, tt)
 
-    pub beginning-refused : (k : ℕ) → length s ≤ 65536 → TargetAt s 0 t (X.Refused k) → BegunAt s (beginning kept s) (X.Refused k) t f
-    unfolding beginning
+    pub beginning-refused : (k : ℕ) → length s ≤ 65536 → TargetAt s 0 t (X.Refused k) → BegunAt s (beginningIf ok kept s) (X.Refused k) t f
+    unfolding beginningIf
     beginning-refused k l h = rw (set, le-ltb 65536 (length s) l, ← h .reads) (refl, tt, tt)
 
-    pub beginning-read : (t′ : List ℕ) (next : ℕ) (r : Next) → length s ≤ 65536 → TargetAt s 0 t (X.At next) → BegunAt s (unlessGiven (targetRefusal (regInfoOf t)) (withFunction (regInfoOf t) kept (drop next s))) r t′ f → BegunAt s (beginning kept s) r t′ f
-    unfolding beginning
+    pub beginning-read : (t′ : List ℕ) (next : ℕ) (r : Next) → length s ≤ 65536 → TargetAt s 0 t (X.At next) → BegunAt s (unlessGiven (targetRefusal (regInfoOf t)) (unlessOutside ok (withFunction (regInfoOf t) kept (drop next s)))) r t′ f → BegunAt s (beginningIf ok kept s) r t′ f
+    unfolding beginningIf
     beginning-read t′ next r l h g = rw (set, le-ltb 65536 (length s) l, ← h .reads) g
+
+-- without prices nothing is tested
+pub beginning-unpriced : (kept : ℕ) (l : List ℕ) → beginningIf true kept l ≡ beginning kept l
+unfolding beginningIf beginning
+beginning-unpriced kept l = refl
+
+pub opening-unpriced : (kept : ℕ) (l : List ℕ) → openingIf true kept l ≡ opening kept l
+unfolding openingIf opening header
+opening-unpriced kept l = refl
 
 -- the patch count behind them
 abbrev pub counted : Opened → List ℕ → Read Header
 counted x q = then (between 1 1024 q) (λ n p. got (record { target = x .target; function = x .function; patches = n }) p)
 
-pub opening-is : (kept : ℕ) (l : List ℕ) → opening kept l ≡ then (beginning kept l) (λ x q. counted x q)
-unfolding opening header afterTarget beginning withFunction
-opening-is kept l = go (no (isSetting kept)) (ltb 65536 (length l)) (target l)
+opening-if-is : (ok : Bool) (kept : ℕ) (l : List ℕ) → openingIf ok kept l ≡ then (beginningIf ok kept l) (λ x q. counted x q)
+unfolding openingIf afterTarget beginningIf withFunction
+opening-if-is ok kept l = go (no (isSetting kept)) (ltb 65536 (length l)) (target l)
   where
-    of-function : (t : RegInfo) (o : Option ℕ) (y : Read Function)
-        → unlessGiven o (then y (λ f q. counted (record { target = t; function = f }) q)) ≡ then (unlessGiven o (then y (λ f q. got (record { target = t; function = f }) q))) (λ x q. counted x q)
-    of-function t (some k) y = refl
-    of-function t none (refused k) = refl
-    of-function t none (got f q) = refl
+    of-function : (t : RegInfo) (o : Option ℕ) (ok : Bool) (y : Read Function)
+        → unlessGiven o (unlessOutside ok (then y (λ f q. counted (record { target = t; function = f }) q)))
+        ≡ then (unlessGiven o (unlessOutside ok (then y (λ f q. got (record { target = t; function = f }) q)))) (λ x q. counted x q)
+    of-function t (some k) ok y = refl
+    of-function t none false y = refl
+    of-function t none true (refused k) = refl
+    of-function t none true (got f q) = refl
 
     go : (a b : Bool) (x : Read RegInfo)
-        → pick a (refused 22) (pick b (refused 2) (then x (λ t r. unlessGiven (targetRefusal t) (then (function t kept r) (λ f q. counted (record { target = t; function = f }) q)))))
-        ≡ then (pick a (refused 22) (pick b (refused 2) (then x (λ t r. unlessGiven (targetRefusal t) (then (function t kept r) (λ f q. got (record { target = t; function = f }) q)))))) (λ x q. counted x q)
+        → pick a (refused 22) (pick b (refused 2) (then x (λ t r. unlessGiven (targetRefusal t) (unlessOutside ok (then (function t kept r) (λ f q. counted (record { target = t; function = f }) q))))))
+        ≡ then (pick a (refused 22) (pick b (refused 2) (then x (λ t r. unlessGiven (targetRefusal t) (unlessOutside ok (then (function t kept r) (λ f q. got (record { target = t; function = f }) q))))))) (λ x q. counted x q)
     go true b x = refl
     go false true x = refl
     go false false (refused k) = refl
-    go false false (got t r) = of-function t (targetRefusal t) (function t kept r)
+    go false false (got t r) = of-function t (targetRefusal t) ok (function t kept r)
 
-module _ (kept : ℕ) (s t f : List ℕ) where
-  pub opening-refused : (k : ℕ) → BegunAt s (beginning kept s) (X.Refused k) t f → HeaderAt s (opening kept s) (N.Refused k) t f
-  opening-refused k h = rw (opening-is kept s) (go (beginning kept s) h)
+pub opening-is : (kept : ℕ) (l : List ℕ) → opening kept l ≡ then (beginning kept l) (λ x q. counted x q)
+opening-is kept l = sym (opening-unpriced kept l) ∙ opening-if-is true kept l ∙ ap (λ (x : Read Opened). then x (λ x q. counted x q)) (beginning-unpriced kept l)
+
+module _ (ok : Bool) (kept : ℕ) (s t f : List ℕ) where
+  pub opening-refused : (k : ℕ) → BegunAt s (beginningIf ok kept s) (X.Refused k) t f → HeaderAt s (openingIf ok kept s) (N.Refused k) t f
+  opening-refused k h = rw (opening-if-is ok kept s) (go (beginningIf ok kept s) h)
     where
       go : (x : Read Opened) → BegunAt s x (X.Refused k) t f → HeaderAt s (then x (λ x q. counted x q)) (N.Refused k) t f
       go (refused j) h = let z : k ≡ j = cc in (ap N.Refused z, tt, tt)
       go (got x rest) h = absurd (let z : _≡_ {A = ℕ} 0 1 = cc in omega arith)
 
-  pub opening-read : (next : ℕ) (r : Number) → BegunAt s (beginning kept s) (X.At next) t f → ReadAt (between 1 1024) s next r → HeaderAt s (opening kept s) r t f
-  opening-read next r h g = rw (opening-is kept s) (go (beginning kept s) r h g)
+  pub opening-read : (next : ℕ) (r : Number) → BegunAt s (beginningIf ok kept s) (X.At next) t f → ReadAt (between 1 1024) s next r → HeaderAt s (openingIf ok kept s) r t f
+  opening-read next r h g = rw (opening-if-is ok kept s) (go (beginningIf ok kept s) r h g)
     where
       go : (x : Read Opened) (r : Number) → BegunAt s x (X.At next) t f → ReadAt (between 1 1024) s next r → HeaderAt s (then x (λ x q. counted x q)) r t f
       go (refused j) r h g = absurd (let z : _≡_ {A = ℕ} 0 1 = cc in omega arith)

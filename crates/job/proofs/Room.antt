@@ -21,7 +21,7 @@ use Rattle.job.specs.Conditions.{RoomForEvery}
 use Rattle.job.proofs.WasRead.{unless-got, given-got}
 
 -- what the entries became is no more than they are, and they are 128 at most
-record Few (a : Sorted) : Type 0 where
+pub record Few (a : Sorted) : Type 0 where
   pub sorts : length (a .moves) + (length (a .rematsWithScratch) + length (a .remats)) ≤ a .count
   pub most : a .count ≤ 128
 
@@ -51,7 +51,7 @@ module _ (t : RegInfo) (f : Function) where
   more a (move s d v) = either a (becomesRemat t f s d v) _ _ (more-rebuilt a (needsScratch t f d v) d v) (more-kept a (dropped t f a s d v) s d v)
   more a (remat d v) = more-rebuilt a (needsScratch t f d v) d v
 
-  still-few : (a : Sorted) (e : Entry) → leb 128 (a .count) ≡ false → Few a → Few (add t f e a)
+  pub still-few : (a : Sorted) (e : Entry) → leb 128 (a .count) ≡ false → Few a → Few (add t f e a)
   still-few a e h k = let m = more a e in record { sorts = omega (arith, m .0, m .1, k .sorts); most = omega (arith, m .1, leb-false 128 (a .count) h) }
 
   entries-few : (n : ℕ) (a : Sorted) (l : List ℕ) (es : List Entry) (r : List ℕ) → entries t f n a l ≡ got es r → Few a → Few (sortedFrom t f es a)
@@ -66,10 +66,10 @@ module _ (t : RegInfo) (f : Function) where
       subst (λ (es : List Entry). Few (sortedFrom t f es a)) e
       (entries-few n (add t f (w .0) a) (w .1) (x .0) (x .1) (x .2) (still-few a (w .0) (b .0) k))
 
-  within : (a : Sorted) → Few a → bound a ≤ 1024
+  pub within : (a : Sorted) → Few a → bound a ≤ 1024
   within a k = omega (arith, k .sorts, k .most)
 
-  none-sorted : Few nothingSorted
+  pub none-sorted : Few nothingSorted
   none-sorted = record { sorts = omega arith; most = omega arith }
 
   patch-few : (l : List ℕ) (p : Patch) (r : List ℕ) → patch t f l ≡ got p r → Few (sorted t f p)

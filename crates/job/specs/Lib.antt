@@ -3,3 +3,4 @@ pub mod Steps
 pub mod Claim
 pub mod Conditions
 pub mod Trials
+pub mod Priced

@@ -11,7 +11,9 @@ use Rattle.rules.specs.Edit.{Move, EmergencySpill}
 use Rattle.rules.specs.Trials.{r0Edits, r1Edits}
 use Rattle.job_target.specs.Trials.{swapGiven}
 use Rattle.job.specs.Job.{endsWith, before, job}
+use Rattle.price.specs.Trials.{prices}
 use Rattle.job.specs.Conditions.{jobConditions}
+use Rattle.job.specs.Priced.{jobPriced}
 
 -- behind swap-full's target: "2 0 1 0 0 0 0 1 0 2 0 1 3 0 0 3 1 1", with another L, free units and entries
 abbrev pub jobWith : ℕ → List ℕ → List ℕ
@@ -129,3 +131,9 @@ pub record Trials : Type 0 where
   -- "that same move 128 times taken, a 129th 15": also where its bytes are not there
   pub entries-128 : job 1 (jobWith 1 (0 ∷ 128 ∷ 1 ∷ sameMoves 128)) .refusal ≡ none
   pub entries-129 : job 1 (jobWith 1 (0 ∷ 129 ∷ 1 ∷ sameMoves 128)) .refusal ≡ some 15
+
+-- 02 e: 19 after 7 and before the function's first number, on the bytes of a target alone
+pub record PricedTrials : Type 0 where
+  pub rule-first : jobPriced (prices 4 65536 16 12) 1 (targetWith r0 (allOf 0) (allOf 0)) .refusal ≡ some 7
+  pub price-then : jobPriced (prices 4 65536 16 12) 1 (targetWith r0 (allOf 1) (allOf 0)) .refusal ≡ some 19
+  pub in-range : jobPriced (prices 65535 65535 65535 65535) 1 (targetWith r0 (allOf 1) (allOf 0)) .refusal ≡ some 1

@@ -5,6 +5,7 @@ use entries::Entries;
 use function::Function;
 use number::Number;
 use parallel_moves::Resolved;
+use price::Prices;
 use reading::Next;
 use reginfo::RegInfo;
 use scratch::Diverted;
@@ -32,6 +33,7 @@ ghost use Rattle.entries.specs.Known.{EntriesOk};
 ghost use Rattle.job_patch.specs.Patches.{unlessGiven, patch};
 ghost use Rattle.parallel_moves.specs.Given.{CacheOk};
 ghost use Rattle.job.specs.Job.{withFunction, beginning, opening};
+ghost use Rattle.job.specs.Priced.{unlessOutside, beginningIf, openingIf, openingPriced};
 ghost use Rattle.job.specs.Steps.{BegunAt, HeaderAt, CallAt, StepAt};
 
 // How many edits a patch has, the greatest position that it met and where the next one stands, or 01's number.
@@ -40,13 +42,25 @@ pub enum Step {
     Refused(u8),
 }
 
-// 4 to 7, then the function, of `kept` kept evictions.
-fn read_after_target(s: &[u8], at: usize, t: &mut RegInfo, f: &mut Function, kept: u16) -> Next
+// 4 to 7, then 19 where prices were given that are outside their range, then the function, of `kept` kept evictions.
+fn read_after_target(
+    s: &[u8],
+    at: usize,
+    t: &mut RegInfo,
+    f: &mut Function,
+    kept: u16,
+    in_range: bool,
+) -> Next
     requires { ⌜ isSetting kept ≡ true ⌝ }
-    ensures { λ r. ⌜ BegunAt (now (s .entry)) (unlessGiven (targetRefusal (regInfoOf (now (t .entry)))) (withFunction (regInfoOf (now (t .entry))) kept (drop at (now (s .entry))))) r (now (t .exit)) (now (f .exit)) ⌝ }
+    ensures { λ r. ⌜ BegunAt (now (s .entry)) (unlessGiven (targetRefusal (regInfoOf (now (t .entry)))) (unlessOutside in_range (withFunction (regInfoOf (now (t .entry))) kept (drop at (now (s .entry)))))) r (now (t .exit)) (now (f .exit)) ⌝ }
 {
     match target_check::check(t) {
-        TargetCheck::Accepted => job_function::read_function(t, s, at, f, kept),
+        TargetCheck::Accepted => {
+            if !in_range {
+                return Next::Refused(19);
+            }
+            job_function::read_function(t, s, at, f, kept)
+        }
         TargetCheck::OutsideLimits => Next::Refused(2),
         TargetCheck::ListedTwice => Next::Refused(3),
         TargetCheck::UnequalWidths => Next::Refused(4),
@@ -56,9 +70,15 @@ fn read_after_target(s: &[u8], at: usize, t: &mut RegInfo, f: &mut Function, kep
     }
 }
 
-// The target and the function that the bytes begin with; 22 first, for a setting other than 1 or 2. What the tables held does not matter.
-pub fn read_beginning(kept_evictions: u32, s: &[u8], t: &mut RegInfo, f: &mut Function) -> Next
-    ensures { λ r. ⌜ BegunAt (now (s .entry)) (beginning «kept_evictions» (now (s .entry))) r (now (t .exit)) (now (f .exit)) ⌝ }
+// The target and the function that the bytes begin with, and 19 between them unless the prices are in their range.
+fn read_beginning_if(
+    in_range: bool,
+    kept_evictions: u32,
+    s: &[u8],
+    t: &mut RegInfo,
+    f: &mut Function,
+) -> Next
+    ensures { λ r. ⌜ BegunAt (now (s .entry)) (beginningIf in_range «kept_evictions» (now (s .entry))) r (now (t .exit)) (now (f .exit)) ⌝ }
 {
     if !function::is_setting(kept_evictions as usize) {
         return Next::Refused(22);
@@ -68,7 +88,30 @@ pub fn read_beginning(kept_evictions: u32, s: &[u8], t: &mut RegInfo, f: &mut Fu
     }
     match job_target::read_target(s, 0, t) {
         Next::Refused(k) => Next::Refused(k),
-        Next::At(next) => read_after_target(s, next, t, f, kept_evictions as u16),
+        Next::At(next) => read_after_target(s, next, t, f, kept_evictions as u16, in_range),
+    }
+}
+
+// The target and the function that the bytes begin with; 22 first, for a setting other than 1 or 2. What the tables held does not matter.
+pub fn read_beginning(kept_evictions: u32, s: &[u8], t: &mut RegInfo, f: &mut Function) -> Next
+    ensures { λ r. ⌜ BegunAt (now (s .entry)) (beginning «kept_evictions» (now (s .entry))) r (now (t .exit)) (now (f .exit)) ⌝ }
+{
+    read_beginning_if(true, kept_evictions, s, t, f)
+}
+
+// The target, the function and the patch count, and 19 behind the target unless the prices are in their range.
+fn read_opening_if(
+    in_range: bool,
+    kept_evictions: u32,
+    s: &[u8],
+    t: &mut RegInfo,
+    f: &mut Function,
+) -> Number
+    ensures { λ r. ⌜ HeaderAt (now (s .entry)) (openingIf in_range «kept_evictions» (now (s .entry))) r (now (t .exit)) (now (f .exit)) ⌝ }
+{
+    match read_beginning_if(in_range, kept_evictions, s, t, f) {
+        Next::Refused(k) => Number::Refused(k),
+        Next::At(next) => reading::between(s, next, 1, 1024),
     }
 }
 
@@ -77,10 +120,20 @@ pub fn read_beginning(kept_evictions: u32, s: &[u8], t: &mut RegInfo, f: &mut Fu
 pub fn read_opening(kept_evictions: u32, s: &[u8], t: &mut RegInfo, f: &mut Function) -> Number
     ensures { λ r. ⌜ HeaderAt (now (s .entry)) (opening «kept_evictions» (now (s .entry))) r (now (t .exit)) (now (f .exit)) ⌝ }
 {
-    match read_beginning(kept_evictions, s, t, f) {
-        Next::Refused(k) => Number::Refused(k),
-        Next::At(next) => reading::between(s, next, 1, 1024),
-    }
+    read_opening_if(true, kept_evictions, s, t, f)
+}
+
+// The same of a target that gives these prices: 19 for one outside its range, after 7 and before the function's first number.
+pub fn read_priced_opening(
+    kept_evictions: u32,
+    p: Prices,
+    s: &[u8],
+    t: &mut RegInfo,
+    f: &mut Function,
+) -> Number
+    ensures { λ r. ⌜ HeaderAt (now (s .entry)) (openingPriced p «kept_evictions» (now (s .entry))) r (now (t .exit)) (now (f .exit)) ⌝ }
+{
+    read_opening_if(price::in_range(p), kept_evictions, s, t, f)
 }
 
 // Resolves the patch that the tables hold; the next one stands at `next`.

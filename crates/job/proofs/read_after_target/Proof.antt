@@ -1,5 +1,6 @@
 use mathlib.Core.Path.{sym}
-use Rattle.job.proofs.Opening.{target-refused, target-taken}
+use borrow.Author.Tests.{not-true, not-false}
+use Rattle.job.proofs.Opening.{target-refused, prices-refused, target-taken}
 use borrow.Author.Needs.{needs}
 use Rattle.job.proofs.read_after_target.Statement.{statement}
 use Rattle.job.proofs.read_after_target.Tie as tie
@@ -14,10 +15,15 @@ check-requires c κs = search needs
 enum-told : tie.Need-enum-told
 enum-told c = search needs
 
+returns : tie.Need-returns
+returns c =
+    let a = c .before .before .before .before .before .before .args in
+    prices-refused (a .in-range) _ (a .s .now) (a .t .now) _ _ (a .at) (not-true _ (c .if1 .taken)) (rw (c .before .enum-told .given .1) at (c .before .before .before .check .ensures .0))
+
 read-function-requires : tie.Need-read-function-requires
 read-function-requires c κs =
-    let k = c .before .before .before .before .check .ensures in
-    let e = c .before .before .enum-told .given .1 in
+    let k = c .before .before .before .before .before .check .ensures in
+    let e = c .before .before .before .enum-told .given .1 in
     rw (k .1 .1 .0) (sym (rw e at (k .0)))
 
 enum-told-2 : tie.Need-enum-told-2
@@ -38,29 +44,31 @@ enum-told-6 c = search needs
 enum-told-7 : tie.Need-enum-told-7
 enum-told-7 c = search needs
 
-returns : tie.Need-returns
-returns c =
-    let k = c .before .before .before .before .before .check .ensures in
-    let a = c .before .before .before .before .before .before .before .before .args in
-    target-taken _ (a .s .now) (a .t .now) _ _ (a .at) (c .before .before .before .before .before .before .before .before .pre) _ (rw (c .before .before .before .enum-told .given .1) at (k .0)) (k .1 .1 .0) (k .1 .1 .1 (c .before .before .before .enum-told .given .1)) (c .read-function .ensures)
-
 returns-2 : tie.Need-returns-2
-returns-2 c = let a = c .before .before .before .before .before .args in target-refused _ (a .s .now) (a .t .now) _ _ (a .at) _ (rw (c .enum-told2 .given .1) at (c .before .before .check .ensures .0))
+returns-2 c =
+    let k = c .before .before .before .before .before .before .check .ensures in
+    let e = c .before .before .before .before .enum-told .given .1 in
+    let s = c .before .before .before .before .before .before .before .before .before in
+    let a = s .args in
+    target-taken (a .in-range) _ (a .s .now) (a .t .now) _ _ (a .at) (not-false _ (c .before .before .before .if1 .left)) (s .pre) _ (rw e at (k .0)) (k .1 .1 .0) (k .1 .1 .1 e) (c .read-function .ensures)
 
 returns-3 : tie.Need-returns-3
-returns-3 c = let a = c .before .before .before .before .before .args in target-refused _ (a .s .now) (a .t .now) _ _ (a .at) _ (rw (c .enum-told3 .given .1) at (c .before .before .check .ensures .0))
+returns-3 c = let a = c .before .before .before .before .before .args in target-refused (a .in-range) _ (a .s .now) (a .t .now) _ _ (a .at) _ (rw (c .enum-told2 .given .1) at (c .before .before .check .ensures .0))
 
 returns-4 : tie.Need-returns-4
-returns-4 c = let a = c .before .before .before .before .before .args in target-refused _ (a .s .now) (a .t .now) _ _ (a .at) _ (rw (c .enum-told4 .given .1) at (c .before .before .check .ensures .0))
+returns-4 c = let a = c .before .before .before .before .before .args in target-refused (a .in-range) _ (a .s .now) (a .t .now) _ _ (a .at) _ (rw (c .enum-told3 .given .1) at (c .before .before .check .ensures .0))
 
 returns-5 : tie.Need-returns-5
-returns-5 c = let a = c .before .before .before .before .before .args in target-refused _ (a .s .now) (a .t .now) _ _ (a .at) _ (rw (c .enum-told5 .given .1) at (c .before .before .check .ensures .0))
+returns-5 c = let a = c .before .before .before .before .before .args in target-refused (a .in-range) _ (a .s .now) (a .t .now) _ _ (a .at) _ (rw (c .enum-told4 .given .1) at (c .before .before .check .ensures .0))
 
 returns-6 : tie.Need-returns-6
-returns-6 c = let a = c .before .before .before .before .before .args in target-refused _ (a .s .now) (a .t .now) _ _ (a .at) _ (rw (c .enum-told6 .given .1) at (c .before .before .check .ensures .0))
+returns-6 c = let a = c .before .before .before .before .before .args in target-refused (a .in-range) _ (a .s .now) (a .t .now) _ _ (a .at) _ (rw (c .enum-told5 .given .1) at (c .before .before .check .ensures .0))
 
 returns-7 : tie.Need-returns-7
-returns-7 c = let a = c .before .before .before .before .before .args in target-refused _ (a .s .now) (a .t .now) _ _ (a .at) _ (rw (c .enum-told7 .given .1) at (c .before .before .check .ensures .0))
+returns-7 c = let a = c .before .before .before .before .before .args in target-refused (a .in-range) _ (a .s .now) (a .t .now) _ _ (a .at) _ (rw (c .enum-told6 .given .1) at (c .before .before .check .ensures .0))
+
+returns-8 : tie.Need-returns-8
+returns-8 c = let a = c .before .before .before .before .before .args in target-refused (a .in-range) _ (a .s .now) (a .t .now) _ _ (a .at) _ (rw (c .enum-told7 .given .1) at (c .before .before .check .ensures .0))
 
 pub read-after-target-spec : {M : Type 1} → statement M
 read-after-target-spec =
@@ -68,6 +76,7 @@ read-after-target-spec =
     (tie.spec
     check-requires
     enum-told
+    returns
     read-function-requires
     enum-told-2
     enum-told-3
@@ -75,10 +84,10 @@ read-after-target-spec =
     enum-told-5
     enum-told-6
     enum-told-7
-    returns
     returns-2
     returns-3
     returns-4
     returns-5
     returns-6
-    returns-7)
+    returns-7
+    returns-8)

@@ -1,37 +1,16 @@
-use Rattle.job.proofs.Opening.{opening-refused, opening-read}
+use Rattle.job.proofs.Opening.{opening-unpriced}
 use borrow.Author.Needs.{needs}
 use Rattle.job.proofs.read_opening.Statement.{statement}
 use Rattle.job.proofs.read_opening.Tie as tie
 use Rattle.job.proofs.read_opening.Reads as reads
 use Rattle.job.proofs.read_opening.Lts as lts
-use Rattle.job.proofs.read_beginning.Reads as read-beginning-reads
-use Rattle.reading.proofs.between.Reads as between-reads
+use Rattle.job.proofs.read_opening_if.Reads as read-opening-if-reads
 
-read-beginning-requires : tie.Need-read-beginning-requires
-read-beginning-requires c κs = search needs
-
-enum-known-k : tie.Need-enum-known-k
-enum-known-k c = search needs
-
-enum-known-next : tie.Need-enum-known-next
-enum-known-next c = search needs
-
-between-requires : tie.Need-between-requires
-between-requires c κs = search needs
+read-opening-if-requires : tie.Need-read-opening-if-requires
+read-opening-if-requires c κs = search needs
 
 returns : tie.Need-returns
-returns c = opening-refused _ _ _ _ _ (rw (c .before .k .given .1) at (c .before .before .before .read-beginning .ensures))
-
-returns-2 : tie.Need-returns-2
-returns-2 c = opening-read _ _ _ _ _ (c .between .result) (rw (c .before .before .next .given .1) at (c .before .before .before .before .read-beginning .ensures)) (c .between .ensures)
+returns c = rw (opening-unpriced _ _) at (c .read-opening-if .ensures)
 
 pub read-opening-spec : {M : Type 1} → statement M
-read-opening-spec =
-    tie.close
-    (tie.spec
-    read-beginning-requires
-    enum-known-k
-    enum-known-next
-    between-requires
-    returns
-    returns-2)
+read-opening-spec = tie.close (tie.spec read-opening-if-requires returns)

@@ -1,0 +1,4 @@
+pub mod Floats
+pub mod Totals
+pub mod Laws
+pub mod Trials

@@ -1,0 +1,26 @@
+use mathlib.Core.Path.{refl}
+use Rattle.reginfo.specs.RegInfo.{bankForReg}
+use Rattle.function.specs.Function.{valueBank}
+use Rattle.price.specs.Price.{inRange, priceIn, totalOf}
+use Rattle.price.specs.Totals.{added, inBank, byBank}
+use Rattle.price.specs.Trials.{Trials}
+
+pub trials : Trials
+unfolding bankForReg valueBank inRange priceIn totalOf added inBank byBank
+trials = record {
+  swap-full = refl;
+  swap-often = refl;
+  slots-swapped = refl;
+  rebuild = refl;
+  no-edits = refl;
+  other-kinds = refl;
+  in-range = refl;
+  moves-over = refl;
+  rebuilds-over = refl;
+  saves-over = refl;
+  reloads-over = refl;
+  dearest = refl;
+  most = refl;
+  bank-0 = refl;
+  bank-1 = refl;
+}

@@ -1,0 +1,4 @@
+pub mod Price
+pub mod Totals
+pub mod Exact
+pub mod Trials

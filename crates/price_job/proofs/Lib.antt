@@ -1,0 +1,5 @@
+pub mod Numbers
+pub mod Done
+pub mod Lengths
+pub mod Stood
+pub mod Opened

@@ -1,0 +1,54 @@
+-- 02 e: what the program prints, of its arguments and a job.
+use Prim.Native.Nat.{ℕ, _+_, _-_, _*_}
+use mathlib.Core.Bool.{Bool}
+use mathlib.Core.List.{List, [], _∷_, map}
+use lib.Dec.{eqb, ltb, leb}
+use lib.ListN.{length}
+use Rattle.entity.specs.Logic.{pick, and, or}
+use Rattle.edit.specs.Word.{wordOf}
+use Rattle.price.specs.declared.Prices.{Prices}
+use Rattle.number.specs.Read.{Read, got, refused}
+use Rattle.print.specs.Text.{refusedLine}
+use Rattle.job.specs.Job.{Header, Done, job}
+use Rattle.job.specs.Priced.{openingPriced}
+use Rattle.answer.specs.Words.{numberOf}
+use Rattle.price_text.specs.Lines.{edgesText}
+
+-- ---- an argument as a number: digits, and below 2^32; else 2^32 or more, which is outside every range
+abbrev pub isDigit : ℕ → Bool
+isDigit b = and (leb 48 b) (leb b 57)
+
+abbrev pub stepped : ℕ → ℕ → ℕ
+stepped n b = pick (and (ltb n 4294967296) (isDigit b)) (n * 10 + (b - 48)) 4294967296
+
+unfoldable pub numberFrom : ℕ → List ℕ → ℕ
+numberFrom n [] = n
+numberFrom n (b ∷ l) = numberFrom (stepped n b) l
+
+abbrev pub numberIn : List ℕ → ℕ
+numberIn [] = 4294967296
+numberIn (b ∷ l) = numberFrom 0 (b ∷ l)
+
+-- as a setting or a price
+abbrev pub narrowed : ℕ → ℕ
+narrowed n = pick (ltb n 4294967295) n 4294967295
+
+-- ---- "Their number is 0 or the patch count, else 2 when that is read."
+abbrev pub runsFit : (given patches : ℕ) → Bool
+runsFit given patches = or (eqb given 0) (eqb given patches)
+
+-- the words of the edits of each patch that was resolved
+abbrev pub wordsDone : List Done → List (List ℕ)
+wordsDone ds = map (λ d. map wordOf (d .edits)) ds
+
+module _ (p : Prices) (runs : List ℕ) (kept : ℕ) (s : List ℕ) where
+  abbrev pub pricesDone : List ℕ
+  pricesDone = edgesText p runs 0 (wordsDone (job kept s .done)) (numberOf (job kept s .refusal))
+
+  abbrev pub afterOpening : Read Header → List ℕ
+  afterOpening (refused k) = refusedLine k
+  afterOpening (got h r) = pick (runsFit (length runs) (h .patches)) pricesDone (refusedLine 2)
+
+  -- all that is printed
+  abbrev pub jobPrices : List ℕ
+  jobPrices = afterOpening (openingPriced p kept s)
