@@ -14,7 +14,7 @@ use Rattle.entity.proofs.Laws.{and-true}
 use Rattle.answer_text.specs.Heads.{isHead, countIn}
 use Rattle.edges.specs.declared.Count.the-variants as C
 use Rattle.edges.specs.declared.Found.the-variants as F
-use Rattle.edges.specs.Patches.{headed, withHead, patchBehind, patchNumbered, counted, FoundIn, thenPatches, patchesWithin, patchesOf}
+use Rattle.edges.specs.Patches.{headed, withHead, patchBehind, patchNumbered, counted, FoundIn, thenPatches, patchesWithin, patchesOf, nth, Numbered}
 
 -- no word is left
 pub no-word : (l : List ℕ) (at : ℕ) → length l ≤ at → headed (drop at l) ≡ none
@@ -174,3 +174,17 @@ part-long l from count h = sym (rw (part-is l from count) (length-take-le count 
 
 pub part-few : (l : List ℕ) (from count : ℕ) → count ≤ 1024 → length (take count (take (length l - from) (drop from l))) ≤ 1024
 part-few l from count h = omega (arith, length-take count (take (length l - from) (drop from l)))
+
+pub numbered : Numbered
+unfolding patchBehind
+numbered zero l = go (headed l) refl
+  where
+    go : (o : Option ℕ) → headed l ≡ o → withHead o (λ c. some (take c (drop 1 l))) ≡ nth 0 (patchesOf l)
+    go none e = rw (none-begins l e)
+    go (some c) e = rw (one-first l c e)
+numbered (suc n) l = go (headed l) refl (λ r. numbered n r)
+  where
+    go : (o : Option ℕ) → headed l ≡ o → ((r : List ℕ) → patchNumbered (suc n) r ≡ nth n (patchesOf r))
+        → withHead o (λ c. patchBehind n (drop (1 + c) l)) ≡ nth (suc n) (patchesOf l)
+    go none e on = rw (none-begins l e)
+    go (some c) e on = rw (one-first l c e) (on (drop (1 + c) l))

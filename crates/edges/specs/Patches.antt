@@ -53,3 +53,13 @@ patchesWithin (suc n) l = thenPatches (headed l) (λ c. take c (drop 1 l) ∷ pa
 -- there are no more than words
 abbrev pub patchesOf : List ℕ → List (List ℕ)
 patchesOf l = patchesWithin (length l) l
+
+-- one of a list, counted from 0
+abbrev pub nth : {A : Type 0} → ℕ → List A → Option A
+nth n [] = none
+nth zero (x ∷ l) = some x
+nth (suc n) (x ∷ l) = nth n l
+
+-- the patch of a number is that one of all patches
+abbrev pub Numbered : Type 0
+Numbered = (n : ℕ) (l : List ℕ) → patchNumbered (suc n) l ≡ nth n (patchesOf l)

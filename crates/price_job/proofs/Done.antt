@@ -17,15 +17,15 @@ use Rattle.edit.specs.Word.{wordOf}
 use Rattle.number.specs.Read.{Read, got, refused}
 use Rattle.answer_text.specs.Heads.{headWord, isHead, countIn}
 use Rattle.answer_text.proofs.Patches.{head-read}
-use Rattle.edges.specs.Patches.{headed, patchesOf}
-use Rattle.edges.proofs.Laws.{none-begins, one-more}
+use Rattle.edges.specs.Patches.{headed, patchesOf, nth}
+use Rattle.edges.proofs.Laws.{none-begins, one-more, numbered}
 use Rattle.job.specs.Job.{Header, Done, opening, job}
 use Rattle.job.specs.Claim.{OneByOne, Opened}
 use Rattle.job.proofs.Claimed.{every-job}
 use Rattle.job.proofs.Room.{room-for-every}
 use Rattle.answer.specs.Words.{wordsOf, AllPacked}
 use Rattle.answer.proofs.MostWords.{opens}
-use Rattle.price_job.specs.Text.{wordsDone}
+use Rattle.price_job.specs.Text.{wordsDone, EdgesOfAnswer}
 
 -- ---- how many
 abbrev pub AllFew : List (List ℕ) → Type 0
@@ -73,3 +73,7 @@ patches-done [] p q = none-begins [] refl
 patches-done (d ∷ ds) p q =
     first (length (d .edits)) (d .made) (d .position) (map wordOf (d .edits)) (wordsOf ds) (length-map (d .edits) wordOf) (rw (length-map (d .edits) wordOf) at (q .0)) (p .0 .small) (p .0 .low)
     ∙ ap (λ (x : List (List ℕ)). map wordOf (d .edits) ∷ x) (patches-done ds (p .1) (q .1))
+
+pub edges-of-answer : EdgesOfAnswer
+edges-of-answer kept s p n =
+    numbered n (wordsOf (job kept s .done)) ∙ ap (λ (x : List (List ℕ)). nth n x) (patches-done (job kept s .done) p (few-done kept s .0))

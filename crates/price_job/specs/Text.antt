@@ -1,5 +1,6 @@
 -- 02 e: what the program prints, of its arguments and a job.
-use Prim.Native.Nat.{ℕ, _+_, _-_, _*_}
+use Prim.Native.Nat.{ℕ, suc, _+_, _-_, _*_}
+use mathlib.Core.Path.{_≡_}
 use mathlib.Core.Bool.{Bool}
 use mathlib.Core.List.{List, [], _∷_, map}
 use lib.Dec.{eqb, ltb, leb}
@@ -11,7 +12,8 @@ use Rattle.number.specs.Read.{Read, got, refused}
 use Rattle.print.specs.Text.{refusedLine}
 use Rattle.job.specs.Job.{Header, Done, job}
 use Rattle.job.specs.Priced.{openingPriced}
-use Rattle.answer.specs.Words.{numberOf}
+use Rattle.edges.specs.Patches.{patchNumbered, nth}
+use Rattle.answer.specs.Words.{wordsOf, numberOf, AllPacked}
 use Rattle.price_text.specs.Lines.{edgesText}
 
 -- ---- an argument as a number: digits, and below 2^32; else 2^32 or more, which is outside every range
@@ -52,3 +54,9 @@ module _ (p : Prices) (runs : List ℕ) (kept : ℕ) (s : List ℕ) where
   -- all that is printed
   abbrev pub jobPrices : List ℕ
   jobPrices = afterOpening (openingPriced p kept s)
+
+-- in the words of a job's answer the patch of a number is that of the patches resolved: so its price, asked for by number, is that of its edits
+abbrev pub EdgesOfAnswer : Type 0
+EdgesOfAnswer =
+    (kept : ℕ) (s : List ℕ) → AllPacked (job kept s .done) → (n : ℕ)
+    → patchNumbered (suc n) (wordsOf (job kept s .done)) ≡ nth n (wordsDone (job kept s .done))
