@@ -8,7 +8,9 @@
  * - libparallel_moves_c.a, which `rt staticlib parallel_moves_c` builds, for a
  *   whole job as bytes: parallel_moves_answer_in, and parallel_moves_text;
  * - libjob_writer_c.a, which `rt staticlib job_writer_c` builds, for the bytes of a
- *   job from its numbers: parallel_moves_write_in.
+ *   job from its numbers: parallel_moves_write_in;
+ * - libprice_c.a, which `rt staticlib price_c` builds, for what edits cost:
+ *   parallel_moves_price and parallel_moves_price_edits.
  * c/stamp writes parallel_moves_build.h beside them, which says which build they
  * are. docs/JOB.md has the format of a job, and every refusal with its cause and
  * cure.
@@ -70,6 +72,13 @@
 #define PARALLEL_MOVES_MOST_ENTRIES 128
 /* As many words are enough for the edits of every patch: 8 for each entry. */
 #define PARALLEL_MOVES_MOST_EDITS (8 * PARALLEL_MOVES_MOST_ENTRIES)
+
+/* A patch's prices: what an M, an R, an S and an L costs. */
+#define PARALLEL_MOVES_PRICES 4
+/* No price is above this. */
+#define PARALLEL_MOVES_MOST_PRICE 65535
+/* No run count is above this: 2^26 - 1. */
+#define PARALLEL_MOVES_MOST_RUNS 67108863
 
 /* The lengths of the tables. */
 #define PARALLEL_MOVES_TARGET 107520
@@ -421,6 +430,36 @@ static inline uint16_t parallel_moves_number(uint16_t place)
 {
     return PARALLEL_MOVES_AS(uint16_t, place / 2);
 }
+
+/* What an edge costs that ran `runs` times and whose patch is the one numbered
+ * `patch`, from 1 on, among the patches of an answer. `prices` are those of M, R, S
+ * and L on the target, in quarter cycles, at most PARALLEL_MOVES_MOST_PRICE each;
+ * `words` are an answer's, with the count that parallel_moves_answer returned as
+ * `words_length`. Returns 0, and sets *total to what the edits cost together,
+ * *runs_as_double to the run count and *product to the product of the two, each of
+ * them exact. Or returns the number of the refusal, and sets nothing: 19 for a run
+ * count above PARALLEL_MOVES_MOST_RUNS, tested first, or for a price above its
+ * bound; then 2 for a patch that there is not. */
+PARALLEL_MOVES_LOOK_AT_IT uint8_t parallel_moves_price(
+    const uint64_t *words, size_t words_length,
+    size_t patch,
+    const uint32_t prices[PARALLEL_MOVES_PRICES],
+    uint64_t runs,
+    uint64_t *total,
+    double *runs_as_double,
+    double *product)
+    PARALLEL_MOVES_SYMBOL("parallel_moves_price");
+
+/* The same of a patch's edits alone, as parallel_moves_resolve gives them: 2 for a
+ * list of more than PARALLEL_MOVES_MOST_EDITS, which no patch has. */
+PARALLEL_MOVES_LOOK_AT_IT uint8_t parallel_moves_price_edits(
+    const uint64_t *list, size_t list_length,
+    const uint32_t prices[PARALLEL_MOVES_PRICES],
+    uint64_t runs,
+    uint64_t *total,
+    double *runs_as_double,
+    double *product)
+    PARALLEL_MOVES_SYMBOL("parallel_moves_price_edits");
 
 #ifdef __cplusplus
 }

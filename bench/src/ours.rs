@@ -5,6 +5,7 @@ use crate::draft::{self, Draft, Patch, Place};
 #[link(name = "parallel_moves_c", kind = "static")]
 #[link(name = "calls_c", kind = "static")]
 #[link(name = "job_writer_c", kind = "static")]
+#[link(name = "price_c", kind = "static")]
 unsafe extern "C" {
     #[link_name = "parallel_moves_open_4"]
     fn parallel_moves_open(

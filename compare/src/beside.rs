@@ -11,6 +11,8 @@ mod ours;
 mod parse;
 #[path = "beside/planned.rs"]
 mod planned;
+#[path = "beside/priced.rs"]
+mod priced;
 #[path = "beside/reduce.rs"]
 mod reduce;
 #[path = "beside/rewrite.rs"]
@@ -35,6 +37,7 @@ use judge::plain::Reached;
 use judge::random::Random;
 use judge::{answer, encode, generate};
 use ours::Ours;
+use priced::Priced;
 use tasks::Task;
 
 const HELP: &str = "\
@@ -57,6 +60,8 @@ Options:
     --threads N     how many at a time (as many as there are processors)
     --planned       with the L to plan with in the place of each job's own: ours must
                     give that number, and never 17
+    --priced        what each patch costs is asked for too, with prices and run counts
+                    in range and not
     --difference F  the file that a job with different answers is written to
     --spoil text N, --spoil words N
                     spoils ours' text of the N-th job, or its words, which must
@@ -267,6 +272,7 @@ struct Options {
     settings: Vec<u32>,
     planned: bool,
     rewritten: bool,
+    priced: bool,
     difference: Option<PathBuf>,
     /// Of which job, counted from 0, something is spoiled.
     spoiled: Option<(Spoiled, usize)>,
@@ -279,6 +285,7 @@ impl Options {
             settings: answer::SETTINGS.to_vec(),
             planned: false,
             rewritten: false,
+            priced: false,
             difference: None,
             spoiled: None,
         };
@@ -301,6 +308,10 @@ impl Options {
                 }
                 ["--planned", ref rest @ ..] => {
                     options.planned = true;
+                    rest
+                }
+                ["--priced", ref rest @ ..] => {
+                    options.priced = true;
                     rest
                 }
                 ["--difference", file, ref rest @ ..] => {
@@ -330,6 +341,7 @@ impl Options {
                 .and_then(|(what, at)| (at == number).then_some(what)),
             planned: self.planned,
             rewritten: self.rewritten,
+            priced: self.priced.then_some(number as u64),
         }
     }
 }
@@ -356,6 +368,7 @@ struct Counts {
     /// By mode, of jobs with their L planned anew: how many, and the most slots of one
     /// size, of all and sizes that one makes.
     planned: BTreeMap<&'static str, (u64, [usize; 3])>,
+    priced: Option<Priced>,
 }
 
 /// What the rules say when two are held at once.
@@ -376,6 +389,7 @@ impl Counts {
             let most = [of_a_size, slots.values().sum(), slots.len()];
             self.add_planned(mode, 1, most);
         }
+        self.add_priced(outcome.priced.as_ref());
         let two_held = outcome.reached.contains_key(&TWO_HELD);
         let by_mode = self.by_mode.entry(mode).or_default();
         for (count, holds) in by_mode.iter_mut().zip([true, differs, two_held]) {
@@ -391,7 +405,14 @@ impl Counts {
         }
     }
 
+    fn add_priced(&mut self, priced: Option<&Priced>) {
+        if let Some(priced) = priced {
+            self.priced.get_or_insert_default().add_all(priced);
+        }
+    }
+
     fn add_all(&mut self, other: &Counts) {
+        self.add_priced(other.priced.as_ref());
         self.jobs += other.jobs;
         self.patches += other.patches;
         self.edits += other.edits;
@@ -437,6 +458,16 @@ impl Counts {
         }
         println!("accepted patches {}", self.patches);
         println!("edits {}", self.edits);
+        if let Some(Priced {
+            edges,
+            refused: [outside, none],
+            most,
+        }) = self.priced
+        {
+            println!("prices asked for and given {edges}, the greatest product {most}");
+            println!("  refused no. 19: {outside}");
+            println!("  refused no. 2: {none}");
+        }
         if !self.planned.is_empty() {
             println!(
                 "jobs by mode with their L planned anew; the most slots made of one size, in all, sizes"
@@ -550,10 +581,15 @@ fn compare_one(
     job: &[u8],
     way: Way,
 ) -> Result<Outcome, Box<Difference>> {
-    match (way.rewritten, way.planned) {
-        (true, _) => rewrite::compare(ours, job, way),
-        (_, true) => planned::compare(ours, kept_evictions, job, way),
-        (_, false) => compare::compare(ours, kept_evictions, job, way),
+    match way {
+        Way {
+            rewritten: true, ..
+        } => rewrite::compare(ours, job, way),
+        Way { planned: true, .. } => planned::compare(ours, kept_evictions, job, way),
+        Way {
+            priced: Some(seed), ..
+        } => priced::compare(ours, kept_evictions, job, way, seed),
+        _ => compare::compare(ours, kept_evictions, job, way),
     }
 }
 

@@ -10,6 +10,7 @@ pub mod frame;
 pub mod generate;
 pub mod number;
 pub mod plain;
+pub mod prices;
 pub mod random;
 pub mod reading;
 pub mod replay;

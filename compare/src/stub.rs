@@ -18,7 +18,7 @@ use judge::target::{Register, Target};
 use judge::{answer, reading, words};
 
 /// The faults, each in some answers only.
-const FAULTS: [&str; 56] = [
+const FAULTS: [&str; 64] = [
     "order",        // two edits change places in a patch with four or more
     "place",        // a copy into slot 3 goes to slot 1
     "made",         // a slot too many is counted from the second patch on
@@ -75,6 +75,14 @@ const FAULTS: [&str; 56] = [
     "write-18",     // 18 comes before the numbers of reading
     "write-copied", // the bytes that there is room for are written before 18 is given
     "write-past",   // a byte past the job is written
+    "price-reload", // of prices: a reload costs what a save does
+    "price-range",  // 65,536 is taken for a price
+    "price-runs",   // run counts up to 2^28 are taken
+    "price-single", // the product is that of single precision
+    "price-head",   // a head costs what a move does
+    "price-set",    // a refused asking sets the total
+    "price-order",  // 2 comes before 19
+    "price-number", // the patch behind the last is the last
 ];
 
 /// The judge that stands behind the library's place.
@@ -558,4 +566,106 @@ pub unsafe extern "C" fn parallel_moves_made(cache: *const u16) -> u16 {
     } else {
         made
     }
+}
+
+/// What is refused by 19 or 2, in this order but for the fault.
+fn price_refusal(prices: &[u32; 4], runs: u64, there_is: bool) -> u8 {
+    let most_price = 65_535 + u32::from(fault() == "price-range");
+    let most_runs = if fault() == "price-runs" {
+        1 << 28
+    } else {
+        (1 << 26) - 1
+    };
+    let outside = runs > most_runs || prices.iter().any(|&price| price > most_price);
+    match (outside, there_is) {
+        (true, false) if fault() == "price-order" => 2,
+        (true, _) => 19,
+        (false, false) => 2,
+        (false, true) => 0,
+    }
+}
+
+/// What a word costs.
+fn price_of(word: u64, prices: &[u32; 4]) -> u64 {
+    let price = match word % 8 {
+        0 if fault() == "price-head" => prices[0],
+        1 => prices[0],
+        2 => prices[1],
+        3 => prices[2],
+        4 if fault() == "price-reload" => prices[2],
+        4 => prices[3],
+        _ => 0,
+    };
+    price.into()
+}
+
+/// Sets the record of a patch, or refuses it.
+fn price(
+    list: Option<&[u64]>,
+    prices: &[u32; 4],
+    runs: u64,
+    total: &mut u64,
+    runs_as_double: &mut f64,
+    product: &mut f64,
+) -> u8 {
+    let refusal = price_refusal(prices, runs, list.is_some());
+    if refusal != 0 {
+        if fault() == "price-set" {
+            *total = 0;
+        }
+        return refusal;
+    }
+    let list = list.unwrap_or_default();
+    *total = list.iter().map(|&word| price_of(word, prices)).sum();
+    *runs_as_double = runs as f64;
+    *product = match fault() {
+        "price-single" => f64::from(runs as f32 * *total as f32),
+        _ => (runs * *total) as f64,
+    };
+    0
+}
+
+/// # Safety
+/// As the library's.
+#[unsafe(export_name = "parallel_moves_price_4")]
+pub unsafe extern "C" fn parallel_moves_price(
+    words: *const u64,
+    words_len: usize,
+    patch: usize,
+    prices: &[u32; 4],
+    runs: u64,
+    total: &mut u64,
+    runs_as_double: &mut f64,
+    product: &mut f64,
+) -> u8 {
+    let mut rest = unsafe { slice::from_raw_parts(words, words_len) };
+    let mut patches = Vec::new();
+    while let Some(&head) = rest.first() {
+        let (edits, after) = rest.split_at(1 + (head / 8 % 65_536) as usize);
+        // With its head, which costs nothing.
+        patches.push(edits);
+        rest = after;
+    }
+    let patch = match fault() {
+        "price-number" if patch == patches.len() + 1 => patch - 1,
+        _ => patch,
+    };
+    let list = patch.checked_sub(1).and_then(|at| patches.get(at).copied());
+    price(list, prices, runs, total, runs_as_double, product)
+}
+
+/// # Safety
+/// As the library's.
+#[unsafe(export_name = "parallel_moves_price_edits_4")]
+pub unsafe extern "C" fn parallel_moves_price_edits(
+    list: *const u64,
+    list_len: usize,
+    prices: &[u32; 4],
+    runs: u64,
+    total: &mut u64,
+    runs_as_double: &mut f64,
+    product: &mut f64,
+) -> u8 {
+    let list = unsafe { slice::from_raw_parts(list, list_len) };
+    price(Some(list), prices, runs, total, runs_as_double, product)
 }

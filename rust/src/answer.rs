@@ -136,17 +136,11 @@ impl<'a> Iterator for Patches<'a> {
     type Item = ResolvedPatch<'a>;
 
     fn next(&mut self) -> Option<ResolvedPatch<'a>> {
-        let (&head, rest) = self.words.split_first()?;
+        let &head = self.words.first()?;
         let count = (head / 8 % 65_536) as usize;
-        let made = (head / 524_288 % 65_536) as u16;
-        let position = (head / 34_359_738_368 % 65_536) as u16;
-        let (words, rest) = rest.split_at(count);
+        let (words, rest) = self.words.split_at(1 + count);
         self.words = rest;
-        Some(ResolvedPatch {
-            edits: Edits::new(words),
-            made,
-            position,
-        })
+        Some(ResolvedPatch { words })
     }
 }
 
@@ -159,18 +153,22 @@ impl fmt::Debug for Patches<'_> {
 }
 
 /// A resolved patch of a job.
-#[derive(Clone, Copy, Debug, PartialEq, Eq, Hash)]
+#[derive(Clone, Copy, PartialEq, Eq, Hash)]
 #[must_use = "a patch is carried out only if all its edits are done"]
 pub struct ResolvedPatch<'a> {
-    edits: Edits<'a>,
-    made: u16,
-    position: u16,
+    /// Its head and its edits.
+    words: &'a [u64],
 }
 
 impl<'a> ResolvedPatch<'a> {
+    /// Its head and its edits.
+    pub(crate) fn words(&self) -> &'a [u64] {
+        self.words
+    }
+
     /// The edits that carry the patch out, to be done in this order.
     pub fn edits(&self) -> Edits<'a> {
-        self.edits
+        Edits::new(&self.words[1..])
     }
 
     /// How many emergency slots the function has after this patch. They are
@@ -178,7 +176,7 @@ impl<'a> ResolvedPatch<'a> {
     /// is.
     #[must_use]
     pub fn made(&self) -> usize {
-        self.made.into()
+        (self.words[0] / 524_288 % 65_536) as usize
     }
 
     /// The greatest position that a search of the patch for a scratch register
@@ -187,7 +185,7 @@ impl<'a> ResolvedPatch<'a> {
     /// length where none there would do.
     #[must_use]
     pub fn position(&self) -> usize {
-        self.position.into()
+        (self.words[0] / 34_359_738_368 % 65_536) as usize
     }
 }
 
@@ -196,6 +194,16 @@ impl<'a> IntoIterator for ResolvedPatch<'a> {
     type IntoIter = crate::Iter<'a>;
 
     fn into_iter(self) -> crate::Iter<'a> {
-        self.edits.iter()
+        self.edits().iter()
+    }
+}
+
+impl fmt::Debug for ResolvedPatch<'_> {
+    fn fmt(&self, f: &mut fmt::Formatter<'_>) -> fmt::Result {
+        f.debug_struct("ResolvedPatch")
+            .field("edits", &self.edits())
+            .field("made", &self.made())
+            .field("position", &self.position())
+            .finish()
     }
 }

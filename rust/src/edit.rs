@@ -114,6 +114,12 @@ impl<'a> Edits<'a> {
         Edits { words }
     }
 
+    /// Their words, as the library gives and takes them.
+    #[inline]
+    pub(crate) fn words(&self) -> &'a [u64] {
+        self.words
+    }
+
     /// The edits, one after the other.
     #[inline]
     pub fn iter(&self) -> Iter<'a> {

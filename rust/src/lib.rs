@@ -8,7 +8,8 @@
 //! which is a target, a function and its patches as bytes. Either is told how many
 //! evictions are kept, 1 or 2: how many registers may be evicted at once. For whoever
 //! lays out the frame, [`ParallelMoves::enough_slots`] says how many emergency slots
-//! are enough for a function.
+//! are enough for a function. With a target's [`Prices`], [`ResolvedPatch::price`] and
+//! [`Edits::price`] say what an edge costs.
 //!
 //! A [`JobBuilder`] makes these bytes in the words of the trade, and says which register,
 //! class, value or entry is refused; [`write()`] and [`JobWriter`] make them of numbers, and
@@ -39,7 +40,7 @@
 //!
 //! The static library is linked when a program is: from `target/staticlib` of
 //! the repository, where `rt staticlib` makes its archives `parallel_moves_c`,
-//! `calls_c` and `job_writer_c`, or from the folder that
+//! `calls_c`, `job_writer_c` and `price_c`, or from the folder that
 //! `PARALLEL_MOVES_LIB_DIR` names. `cargo check` and `cargo doc` do without it.
 //! [`BUILD`] tells builds apart.
 
@@ -51,6 +52,7 @@ mod entity;
 mod locate;
 mod parallel_moves;
 mod patch;
+mod price;
 mod refusal;
 mod resolver;
 mod sys;
@@ -68,6 +70,7 @@ pub use entity::{
 };
 pub use parallel_moves::{MOST_EDITS, ParallelMoves};
 pub use patch::Patch;
+pub use price::{Edge, Prices};
 pub use refusal::{Refusal, Unnamed};
 pub use resolver::Resolver;
 pub use writer::{JobWriter, write};

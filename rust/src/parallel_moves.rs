@@ -110,7 +110,7 @@ impl ParallelMoves {
     /// assert_eq!(ParallelMoves::enough_slots(3, &[]), Err(Refusal::NoSuchSetting));
     /// ```
     pub fn enough_slots(kept_evictions: u32, target_and_function: &[u8]) -> Result<u16, Refusal> {
-        sys::enough_slots(kept_evictions, target_and_function).map_err(refusal)
+        sys::enough_slots(kept_evictions, target_and_function).map_err(Refusal::given)
     }
 
     /// The edits that carry a patch out.
@@ -168,13 +168,8 @@ fn open(
 ) -> Result<ParallelMoves, Refusal> {
     match tables.open(kept_evictions, bytes) {
         Ok(tables) => Ok(ParallelMoves { tables, list }),
-        Err(number) => Err(refusal(number)),
+        Err(number) => Err(Refusal::given(number)),
     }
-}
-
-/// The refusal with a number, which is not 0.
-fn refusal(number: u8) -> Refusal {
-    Refusal::of_number(number).expect("0 is no refusal")
 }
 
 #[inline]

@@ -31,6 +31,11 @@ macro_rules! refusals {
                 }
             }
 
+            /// The refusal with a number that the library gives, which is not 0.
+            pub(crate) fn given(number: u8) -> Self {
+                Refusal::of_number(number).expect("0 is no refusal")
+            }
+
             /// The cause's number, as the program `resolve` prints it.
             #[must_use]
             pub fn number(self) -> u8 {
@@ -74,6 +79,7 @@ refusals! {
     16 ListTooShort: "the lent list is too short for the patch's edits";
     17 OutOfSlots: "an emergency slot is needed, none of its size is at hand, and no more may be made";
     18 BytesTooFew: "the lent bytes are fewer than the job has";
+    19 OutsidePrice: "a price is above 65,535, or a run count is 2^26 or more";
     21 OverlappingSources: "a move's source overlaps that of an earlier move without being equal to it, and both moves are kept";
     22 NoSuchSetting: "the number of kept evictions is neither 1 nor 2";
 }
@@ -112,9 +118,8 @@ mod tests {
 
     #[test]
     fn each_has_words_of_its_own() {
-        assert!((1..=18).chain([21, 22]).eq(NAMED.iter().copied()));
-        let words: Vec<&str> = (1..=19)
-            .chain([21, 22])
+        assert!((1..=19).chain([21, 22]).eq(NAMED.iter().copied()));
+        let words: Vec<&str> = (1..=22)
             .map(|number| Refusal::of_number(number).unwrap().words())
             .collect();
         for (index, words_of_one) in words.iter().enumerate() {

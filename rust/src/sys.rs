@@ -4,6 +4,7 @@
 //! parameters or lengths has other names, and does not link.
 
 use crate::entity::RegUnit;
+use crate::price::Edge;
 
 /// A target, as the library keeps it.
 type RegInfo = [u16; 107_520];
@@ -23,6 +24,8 @@ type EditBuffer = [u64; 1025];
 type Slots = [u16; 32_835];
 /// The diversion of each value.
 type Diverted = [u16; 12_288];
+/// What an M, an R, an S and an L costs.
+type Prices = [u32; 4];
 /// Which moves are visited, and which open.
 type Marks = [u8; 129];
 /// The values that moves still carry.
@@ -79,6 +82,29 @@ unsafe extern "C" {
 
     #[link_name = "parallel_moves_made_4"]
     safe fn parallel_moves_made(cache: &SlotCache) -> u16;
+
+    #[link_name = "parallel_moves_price_4"]
+    fn parallel_moves_price(
+        words: *const u64,
+        words_length: usize,
+        patch: usize,
+        prices: &Prices,
+        runs: u64,
+        total: &mut u64,
+        runs_as_double: &mut f64,
+        product: &mut f64,
+    ) -> u8;
+
+    #[link_name = "parallel_moves_price_edits_4"]
+    fn parallel_moves_price_edits(
+        list: *const u64,
+        list_length: usize,
+        prices: &Prices,
+        runs: u64,
+        total: &mut u64,
+        runs_as_double: &mut f64,
+        product: &mut f64,
+    ) -> u8;
 
     #[link_name = "parallel_moves_answer_4"]
     fn parallel_moves_answer(
@@ -381,6 +407,53 @@ pub(crate) fn enough_slots(kept_evictions: u32, bytes: &[u8]) -> Result<u16, u8>
         Err(refusal)
     }
 }
+
+/// What the patch costs that stands at a place, counted from 1, in the words of an
+/// answer; if it is refused, the number.
+pub(crate) fn price(words: &[u64], patch: usize, prices: Prices, runs: u64) -> Result<Edge, u8> {
+    let mut edge = NO_EDGE;
+    // SAFETY: `words` is as long as the function is told, and what is written is
+    // borrowed mutably. The function keeps no pointer.
+    let refusal = unsafe {
+        parallel_moves_price(
+            words.as_ptr(),
+            words.len(),
+            patch,
+            &prices,
+            runs,
+            &mut edge.total,
+            &mut edge.runs,
+            &mut edge.product,
+        )
+    };
+    if refusal == 0 { Ok(edge) } else { Err(refusal) }
+}
+
+/// What a patch with these edits costs; if it is refused, the number.
+pub(crate) fn price_edits(list: &[u64], prices: Prices, runs: u64) -> Result<Edge, u8> {
+    let mut edge = NO_EDGE;
+    // SAFETY: `list` is as long as the function is told, and what is written is
+    // borrowed mutably. The function keeps no pointer.
+    let refusal = unsafe {
+        parallel_moves_price_edits(
+            list.as_ptr(),
+            list.len(),
+            &prices,
+            runs,
+            &mut edge.total,
+            &mut edge.runs,
+            &mut edge.product,
+        )
+    };
+    if refusal == 0 { Ok(edge) } else { Err(refusal) }
+}
+
+/// A record before it is written.
+const NO_EDGE: Edge = Edge {
+    total: 0,
+    runs: 0.0,
+    product: 0.0,
+};
 
 /// Writes the text of an answer into `text`: its length. `None` if `text` is
 /// too short.

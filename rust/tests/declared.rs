@@ -13,7 +13,7 @@ use common::root;
 /// Names of types and constants, and what they stand for.
 type Names = HashMap<String, String>;
 
-const LIBRARIES: &[&str] = &["parallel_moves_c", "calls_c", "job_writer_c"];
+const LIBRARIES: &[&str] = &["parallel_moves_c", "calls_c", "job_writer_c", "price_c"];
 
 const FUNCTIONS: &[&str] = &[
     "parallel_moves_open",
@@ -23,6 +23,17 @@ const FUNCTIONS: &[&str] = &[
     "parallel_moves_text",
     "parallel_moves_enough_slots",
     "parallel_moves_write",
+    "parallel_moves_price",
+    "parallel_moves_price_edits",
+];
+
+/// Where the C header has a pointer to one number, and not to many.
+const ONE_NUMBER: &[&str] = &[
+    "*refusal",
+    "*position",
+    "*total",
+    "*runs_as_double",
+    "*product",
 ];
 
 fn read(path: &str) -> String {
@@ -146,7 +157,7 @@ fn c(function: &str) -> Vec<String> {
     }
     let item = |name: &str| {
         let name = name.trim_end_matches("_t").replace("uint", "u");
-        name.replace("size", "usize")
+        name.replace("size", "usize").replace("double", "f64")
     };
     let one = |parameter: &str| {
         let (kind, name) = parameter.rsplit_once(' ').unwrap();
@@ -158,7 +169,7 @@ fn c(function: &str) -> Vec<String> {
         match (length, mutable, name) {
             (Some((_, length)), true, _) => format!("&mut [{kind}; {}]", lengths[length]),
             (Some((_, length)), false, _) => format!("&[{kind}; {}]", lengths[length]),
-            (None, true, "*refusal" | "*position") => format!("&mut {kind}"),
+            (None, true, name) if ONE_NUMBER.contains(&name) => format!("&mut {kind}"),
             (None, true, name) if name.starts_with('*') => format!("*mut {kind}"),
             (None, false, _) => format!("*const {kind}"),
             (None, true, _) => kind,

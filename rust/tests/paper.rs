@@ -1,14 +1,16 @@
-//! What `docs/JOB.md` shows: its jobs have the answers that stand there, and
-//! its table of stops is what the machine holds.
+//! What `docs/JOB.md` shows: its jobs have the answers that stand there, its table of
+//! stops is what the machine holds, and its patches cost what it says.
 
 mod common;
 
 use std::collections::HashMap;
 use std::fs;
+use std::io::{self, Write};
+use std::process::{Command, Stdio};
 
 use common::machine::{Machine, Place, Register};
 use common::{encoded, numbers, root, text};
-use parallel_moves::Resolver;
+use parallel_moves::{Edge, Prices, Resolver};
 
 fn paper() -> String {
     fs::read_to_string(root().join("docs/JOB.md")).unwrap()
@@ -154,4 +156,68 @@ fn wrong_splits_lose_a_value() {
     assert_eq!(units, [8, b, c]);
     // Slot 0 should have had a.
     assert_eq!([0, 1, 2].map(|s| slots[&s][0]), [8, 8, 8]);
+}
+
+/// The paper's command `price_job` prints what stands below it: so say the crate and, if
+/// it is built, the program.
+#[test]
+fn prices_are_as_shown() {
+    let paper = paper();
+    let mut shown = 0;
+    for part in paper.split("`price_job ").skip(1) {
+        let (command, rest) = part.split_once('`').unwrap();
+        let (_, block) = rest.split_once("```price\n").unwrap();
+        let (printed, _) = block.split_once("```").unwrap();
+        let (given, file) = command.split_once(" < ").unwrap();
+        let job = fs::read(root().join(file)).unwrap();
+        let words = numbers(given);
+        let prices = Prices {
+            moves: words[1],
+            rebuilds: words[2],
+            saves: words[3],
+            reloads: words[4],
+        };
+        let answer = Resolver::new().answer(words[0], &job).unwrap();
+        let mut text = String::new();
+        let runs = &words[5..];
+        assert_eq!(runs.len(), answer.patches().count());
+        for ((patch, &runs), number) in answer.patches().zip(runs).zip(1..) {
+            let edge = patch.price(prices, runs.into()).unwrap();
+            let edits = patch.edits().len();
+            let Edge {
+                total,
+                runs,
+                product,
+            } = edge;
+            text += &format!(
+                "patch {number} edits {edits} total {total} runs {runs} product {product}\n"
+            );
+        }
+        assert_eq!(text, printed);
+        if let Some(given) = program_prints("price_job", given, &job) {
+            assert_eq!(given, printed);
+        }
+        shown += 1;
+    }
+    assert!(shown > 0);
+}
+
+/// What a program prints of a job, if it is built; else says what is left out.
+fn program_prints(name: &str, given: &str, job: &[u8]) -> Option<String> {
+    let program = root().join("target/bin").join(name);
+    if !program.is_file() {
+        // Written so that it is seen when the test passes, too.
+        let line = format!("skipped: the program {name}; run `rt check {name}`\n");
+        io::stderr().write_all(line.as_bytes()).unwrap();
+        return None;
+    }
+    let mut child = Command::new(program)
+        .args(given.split(' '))
+        .stdin(Stdio::piped())
+        .stdout(Stdio::piped())
+        .spawn()
+        .unwrap();
+    child.stdin.take().unwrap().write_all(job).unwrap();
+    let output = child.wait_with_output().unwrap();
+    Some(String::from_utf8(output.stdout).unwrap())
 }

@@ -8,6 +8,7 @@ use judge::plain::Reached;
 use judge::words;
 
 use crate::ours::Ours;
+use crate::priced::Priced;
 
 /// How a job is compared.
 #[derive(Clone, Copy, Default)]
@@ -21,6 +22,8 @@ pub struct Way {
     pub planned: bool,
     /// It is written again, and not answered.
     pub rewritten: bool,
+    /// What its patches cost is asked for, as the seed decides.
+    pub priced: Option<u64>,
 }
 
 /// What of an answer is spoiled.
@@ -41,6 +44,8 @@ pub struct Outcome {
     pub reached: Reached,
     /// Of a job with its L planned anew: how many slots it makes of each size.
     pub slots_by_size: Option<BTreeMap<usize, usize>>,
+    /// Of a job whose patches' prices are asked for.
+    pub priced: Option<Priced>,
 }
 
 /// What is not the same.
@@ -109,6 +114,7 @@ pub fn compare(
                         text: judged.text,
                         reached: judged.reached,
                         slots_by_size: None,
+                        priced: None,
                     });
                 }
             }

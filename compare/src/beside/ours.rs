@@ -2,6 +2,7 @@
 
 use judge::answer::{MOST_BYTES, MOST_PATCHES};
 use judge::calls::MOST_EDITS;
+use judge::prices::{Asked, Prices};
 
 /// The words of the longest answer: a move has four bytes of a job and at most
 /// 8 edits, a rebuild three and 5.
@@ -15,6 +16,7 @@ extern crate stub;
 #[cfg_attr(not(stub), link(name = "parallel_moves_c", kind = "static"))]
 #[cfg_attr(not(stub), link(name = "calls_c", kind = "static"))]
 #[cfg_attr(not(stub), link(name = "job_writer_c", kind = "static"))]
+#[cfg_attr(not(stub), link(name = "price_c", kind = "static"))]
 unsafe extern "C" {
     #[link_name = "parallel_moves_open_4"]
     fn parallel_moves_open(
@@ -86,6 +88,29 @@ unsafe extern "C" {
         carried: *mut u16,
     ) -> usize;
 
+    #[link_name = "parallel_moves_price_4"]
+    fn parallel_moves_price(
+        words: *const u64,
+        words_len: usize,
+        patch: usize,
+        prices: &Prices,
+        runs: u64,
+        total: &mut u64,
+        runs_as_double: &mut f64,
+        product: &mut f64,
+    ) -> u8;
+
+    #[link_name = "parallel_moves_price_edits_4"]
+    fn parallel_moves_price_edits(
+        list: *const u64,
+        list_len: usize,
+        prices: &Prices,
+        runs: u64,
+        total: &mut u64,
+        runs_as_double: &mut f64,
+        product: &mut f64,
+    ) -> u8;
+
     #[link_name = "parallel_moves_text_4"]
     fn parallel_moves_text(
         words: *const u64,
@@ -109,6 +134,27 @@ unsafe extern "C" {
         entries: *mut u16,
         writers: *mut u16,
     ) -> usize;
+}
+
+/// What an asking for a price gives.
+#[derive(Clone, Copy, Debug, PartialEq)]
+pub struct Record {
+    pub refusal: u8,
+    pub total: u64,
+    pub runs: f64,
+    pub product: f64,
+}
+
+impl Record {
+    /// A refusal that sets nothing.
+    pub fn untouched(refusal: u8) -> Record {
+        Record {
+            refusal,
+            total: 0x5a5a,
+            runs: -0.25,
+            product: -0.75,
+        }
+    }
 }
 
 /// An array that is lent, and past its end some that is not.
@@ -402,6 +448,45 @@ impl Ours {
     pub fn is_left_alone(&self, count: usize) -> bool {
         let mut rest = self.written.iter().enumerate().skip(count);
         rest.all(|(at, &byte)| byte == not_written(at))
+    }
+
+    /// What the patch with a number costs among the last answer's first `count` words.
+    pub fn price(&mut self, count: usize, patch: usize, asked: Asked) -> Record {
+        let mut record = Record::untouched(0);
+        let count = count.min(MOST_WORDS);
+        // SAFETY: the words are as long as the function is told.
+        record.refusal = unsafe {
+            parallel_moves_price(
+                self.words.pointer(),
+                count,
+                patch,
+                &asked.prices,
+                asked.runs,
+                &mut record.total,
+                &mut record.runs,
+                &mut record.product,
+            )
+        };
+        record
+    }
+
+    /// What `count` words of the last answer, from one on, cost as a patch's edits.
+    pub fn price_edits(&mut self, from: usize, count: usize, asked: Asked) -> Record {
+        let list = &self.words.all[..MOST_WORDS][from..from + count];
+        let mut record = Record::untouched(0);
+        // SAFETY: the list is as long as the function is told.
+        record.refusal = unsafe {
+            parallel_moves_price_edits(
+                list.as_ptr(),
+                list.len(),
+                &asked.prices,
+                asked.runs,
+                &mut record.total,
+                &mut record.runs,
+                &mut record.product,
+            )
+        };
+        record
     }
 
     /// Whether nothing was written past the end of an array.

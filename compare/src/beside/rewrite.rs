@@ -73,6 +73,7 @@ pub fn compare(ours: &mut Ours, job: &[u8], way: Way) -> Result<Outcome, Box<Dif
         text: String::new(),
         reached: Default::default(),
         slots_by_size: None,
+        priced: None,
     })
 }
 

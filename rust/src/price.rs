@@ -1,0 +1,160 @@
+//! What edits cost.
+
+use crate::answer::ResolvedPatch;
+use crate::edit::Edits;
+use crate::refusal::Refusal;
+use crate::sys;
+
+/// What an edit of each kind costs on a target, in quarter cycles: 0 to 65,535.
+///
+/// Prices are given beside a job and are no part of its bytes. Any can be given; one
+/// above 65,535 is refused where they are used.
+#[derive(Clone, Copy, Debug, Default, PartialEq, Eq, Hash)]
+pub struct Prices {
+    /// Of [`Edit::Move`](crate::Edit::Move), `M`.
+    pub moves: u32,
+    /// Of [`Edit::Rematerialize`](crate::Edit::Rematerialize), `R`.
+    pub rebuilds: u32,
+    /// Of [`Edit::EmergencySpill`](crate::Edit::EmergencySpill), `S`.
+    pub saves: u32,
+    /// Of [`Edit::EmergencyReload`](crate::Edit::EmergencyReload), `L`.
+    pub reloads: u32,
+}
+
+impl Prices {
+    /// As the library takes them.
+    pub(crate) fn numbers(self) -> [u32; 4] {
+        [self.moves, self.rebuilds, self.saves, self.reloads]
+    }
+}
+
+/// What an edge costs: the total of its patch's edits beside how often it ran, and the
+/// product of the two. Each number is exact.
+#[derive(Clone, Copy, Debug, PartialEq)]
+pub struct Edge {
+    /// What the edits of its patch cost together, in quarter cycles: below 2^26.
+    pub total: u64,
+    /// How often it ran: below 2^26.
+    pub runs: f64,
+    /// Their product: below 2^52.
+    pub product: f64,
+}
+
+impl ResolvedPatch<'_> {
+    /// What the edge costs that the patch belongs to and that ran so often.
+    ///
+    /// # Errors
+    ///
+    /// [`Refusal::OutsidePrice`] if `runs` is 2^26 or more, or a price is above 65,535.
+    ///
+    /// ```
+    /// use parallel_moves::{Prices, Refusal, Resolver};
+    ///
+    /// let prices = Prices { moves: 4, rebuilds: 6, saves: 16, reloads: 12 };
+    /// let job = std::fs::read("../examples/swap-full.job").unwrap();
+    /// let answer = Resolver::new().answer(1, &job).unwrap();
+    /// // M s0 r1 1, M r1 r0 0 and M r0 s0 1.
+    /// let patch = answer.patches().next().unwrap();
+    /// let edge = patch.price(prices, 100).unwrap();
+    /// assert_eq!((edge.total, edge.runs, edge.product), (12, 100.0, 1200.0));
+    /// assert_eq!(patch.price(prices, 1 << 26), Err(Refusal::OutsidePrice));
+    /// ```
+    pub fn price(&self, prices: Prices, runs: u64) -> Result<Edge, Refusal> {
+        sys::price(self.words(), 1, prices.numbers(), runs).map_err(Refusal::given)
+    }
+}
+
+impl Edits<'_> {
+    /// What the edge costs that ran so often and whose patch has these edits.
+    ///
+    /// # Errors
+    ///
+    /// As [`ResolvedPatch::price`].
+    pub fn price(&self, prices: Prices, runs: u64) -> Result<Edge, Refusal> {
+        sys::price_edits(self.words(), prices.numbers(), runs).map_err(Refusal::given)
+    }
+}
+
+#[cfg(test)]
+mod tests {
+    use super::{Edge, Prices};
+    use crate::edit::Edits;
+    use crate::refusal::Refusal;
+    use crate::{MOST_EDITS, sys};
+
+    const MOST_RUNS: u64 = 67_108_863;
+
+    fn prices([moves, rebuilds, saves, reloads]: [u32; 4]) -> Prices {
+        Prices {
+            moves,
+            rebuilds,
+            saves,
+            reloads,
+        }
+    }
+
+    /// 1,024 edits at 65,535 each, run 2^26 - 1 times: exact to the unit.
+    #[test]
+    fn dearest() {
+        let list = [1; MOST_EDITS];
+        let edge = Edits::new(&list).price(prices([65_535, 0, 0, 0]), MOST_RUNS);
+        let edge = edge.unwrap();
+        assert_eq!(edge.total, 67_107_840);
+        assert_eq!(edge.runs as u64, MOST_RUNS);
+        assert_eq!(edge.product as u64, 4_503_530_840_785_920);
+        assert_eq!(edge.product, 4_503_530_840_785_920.0);
+        // What f32 and u32 would lose.
+        assert_ne!(f64::from(edge.product as f32), edge.product);
+        assert!(edge.product as u64 > u64::from(u32::MAX));
+    }
+
+    /// Any word goes by its kind alone: 1 to 4, and others cost nothing.
+    #[test]
+    fn kinds() {
+        let each = prices([1, 10, 100, 1000]);
+        for (kind, price) in [0, 1, 10, 100, 1000, 0, 0, 0].into_iter().enumerate() {
+            for rest in [0, 262_144, u64::MAX - 7] {
+                let word = [rest + kind as u64];
+                let edge = Edits::new(&word).price(each, 3).unwrap();
+                assert_eq!((edge.total, edge.product), (price, 3.0 * price as f64));
+            }
+        }
+    }
+
+    /// One more than a patch has is refused by 2, after 19.
+    #[test]
+    fn too_many() {
+        let list = [1; MOST_EDITS + 1];
+        let edits = Edits::new(&list);
+        let each = prices([1; 4]);
+        assert_eq!(edits.price(each, 0), Err(Refusal::NamesNothing));
+        assert_eq!(edits.price(each, MOST_RUNS + 1), Err(Refusal::OutsidePrice));
+        let too_dear = prices([65_536, 0, 0, 0]);
+        assert_eq!(edits.price(too_dear, 0), Err(Refusal::OutsidePrice));
+    }
+
+    /// Patches are counted from 1, and heads stand between them.
+    #[test]
+    fn patches_of_words() {
+        let words = [16, 1, 2, 0, 8, 4];
+        let price = |patch| sys::price(&words, patch, [1, 10, 100, 1000], 2);
+        let edge = |total| {
+            let product = 2.0 * total as f64;
+            Ok(Edge {
+                total,
+                runs: 2.0,
+                product,
+            })
+        };
+        assert_eq!(price(0), Err(2));
+        assert_eq!(price(1), edge(11));
+        assert_eq!(price(2), edge(0));
+        assert_eq!(price(3), edge(1000));
+        assert_eq!(price(4), Err(2));
+        // The second's head counts more than there are, or than a patch has.
+        assert_eq!(sys::price(&[0, 16, 1], 2, [1; 4], 0), Err(2));
+        let mut many = vec![1; MOST_EDITS + 2];
+        many[0] = 8 * (MOST_EDITS as u64 + 1);
+        assert_eq!(sys::price(&many, 1, [1; 4], 0), Err(2));
+    }
+}
