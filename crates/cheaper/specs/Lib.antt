@@ -1,0 +1,2 @@
+pub mod Cheaper
+pub mod Trials
