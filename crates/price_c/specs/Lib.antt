@@ -1,1 +1,2 @@
 pub mod Priced
+pub mod Chosen

@@ -1,4 +1,5 @@
-// 02 e: what a program in C or in Rust calls to price an edge. Nothing is asked of it.
+// 02 e and f: what a program in C or in Rust calls to price an edge, and to choose between two edit lists. Nothing is asked of it.
+use cheaper::Choice;
 use edges::Found;
 use price::EdgePrice;
 use price::Prices;
@@ -8,7 +9,9 @@ ghost use mathlib.Core.Option.{some};
 ghost use Prim.Native.Nat.{_≤_, _<_, _^_};
 ghost use lib.ListN.{length};
 ghost use Rattle.price.specs.Price.{inRange};
+ghost use Rattle.cheaper.specs.Cheaper.{choiceOf};
 ghost use Rattle.edges.specs.Patches.{patchNumbered};
+ghost use Rattle.price_c.specs.Chosen.{choiceNumber};
 ghost use Rattle.price_c.specs.Priced.{pricesIn, outside, fewEdits, PricedAs};
 
 // M, R, S and L.
@@ -104,4 +107,16 @@ pub extern "C" fn parallel_moves_price_edits_4(
         return 2;
     }
     put_price(p, list, runs, total, runs_as_double, product)
+}
+
+// 02 f: which of two edit lists is the cheaper, 1 or 2, and 1 where both cost the same; or 19, for a price over 65,535 or a list of over 65,536 entries.
+#[no_mangle]
+pub extern "C" fn parallel_moves_cheaper_4(first: &[u64], second: &[u64], prices: &[u32; 4]) -> u8
+    ensures { λ r. ⌜ r ≡ choiceNumber (choiceOf (pricesIn (now (prices .entry))) (now (first .entry)) (now (second .entry))) ⌝ }
+{
+    match cheaper::choose(prices_of(prices), first, second) {
+        Choice::First => 1,
+        Choice::Second => 2,
+        Choice::Refused => 19,
+    }
 }
