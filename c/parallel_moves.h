@@ -10,7 +10,8 @@
  * - libjob_writer_c.a, which `rt staticlib job_writer_c` builds, for the bytes of a
  *   job from its numbers: parallel_moves_write_in;
  * - libprice_c.a, which `rt staticlib price_c` builds, for what edits cost:
- *   parallel_moves_price and parallel_moves_price_edits.
+ *   parallel_moves_price and parallel_moves_price_edits, and the cheaper of two
+ *   lists, parallel_moves_cheaper_list.
  * c/stamp writes parallel_moves_build.h beside them, which says which build they
  * are. docs/JOB.md has the format of a job, and every refusal with its cause and
  * cure.
@@ -79,6 +80,8 @@
 #define PARALLEL_MOVES_MOST_PRICE 65535
 /* No run count is above this: 2^26 - 1. */
 #define PARALLEL_MOVES_MOST_RUNS 67108863
+/* No list of two to choose from has more words than this. */
+#define PARALLEL_MOVES_MOST_CHOSEN 65536
 
 /* The lengths of the tables. */
 #define PARALLEL_MOVES_TARGET 107520
@@ -460,6 +463,30 @@ PARALLEL_MOVES_LOOK_AT_IT uint8_t parallel_moves_price_edits(
     double *runs_as_double,
     double *product)
     PARALLEL_MOVES_SYMBOL("parallel_moves_price_edits");
+
+/* Which of two lists of edits costs less: 1 for the first, also where both cost the
+ * same, or 2 for the second. A word goes by its kind alone; one that is no edit's
+ * costs nothing. Or returns 19: for a price above its bound, or a list of more than
+ * PARALLEL_MOVES_MOST_CHOSEN words. The lists may be one. */
+PARALLEL_MOVES_LOOK_AT_IT uint8_t parallel_moves_cheaper(
+    const uint64_t *first, size_t first_length,
+    const uint64_t *second, size_t second_length,
+    const uint32_t prices[PARALLEL_MOVES_PRICES])
+    PARALLEL_MOVES_SYMBOL("parallel_moves_cheaper");
+
+/* The cheaper of two lists itself: sets *list and *length to it, and returns 0. Or
+ * returns 19, with an empty part of the first. */
+PARALLEL_MOVES_LOOK_AT_IT static inline uint8_t parallel_moves_cheaper_list(
+    const uint64_t *first, size_t first_length,
+    const uint64_t *second, size_t second_length,
+    const uint32_t prices[PARALLEL_MOVES_PRICES],
+    const uint64_t **list, size_t *length)
+{
+    uint8_t chosen = parallel_moves_cheaper(first, first_length, second, second_length, prices);
+    *list = chosen == 2 ? second : first;
+    *length = chosen == 2 ? second_length : chosen == 1 ? first_length : 0;
+    return PARALLEL_MOVES_AS(uint8_t, chosen <= 2 ? 0 : chosen);
+}
 
 #ifdef __cplusplus
 }

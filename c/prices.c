@@ -1,4 +1,5 @@
-/* prices FOLDER : what edits cost, of some trials of the folder and at each limit.
+/* prices FOLDER : what edits cost, of some trials of the folder and at each limit, and
+ * the cheaper of two lists.
  * Prints `all as said`; at the first that differs it says which, and ends with 1. It is
  * C and C++. */
 #include <stdio.h>
@@ -147,6 +148,50 @@ static void prices_and_limits(void)
     }
 }
 
+static uint64_t long_list[PARALLEL_MOVES_MOST_CHOSEN + 1];
+
+/* Sees that the list itself comes back, or 19 with an empty part of the first. */
+static void check_cheaper(
+    const uint64_t *first, size_t first_length, const uint64_t *second, size_t second_length,
+    const uint32_t *prices, int chosen, const char *what)
+{
+    const uint64_t *cheaper = NULL;
+    size_t length = 99;
+    uint8_t refusal = parallel_moves_cheaper_list(first, first_length, second, second_length, prices, &cheaper, &length);
+    check(refusal == (chosen == 19 ? 19 : 0), what);
+    check(cheaper == (chosen == 2 ? second : first), what);
+    check(length == (chosen == 2 ? second_length : chosen == 1 ? first_length : 0), what);
+    check(parallel_moves_cheaper(first, first_length, second, second_length, prices) == chosen, what);
+}
+
+static void cheaper_of_two(void)
+{
+    const uint64_t moves[] = { 1, 1, 1 }, save_and_reload[] = { 3, 4 }, reload[] = { 4 }, save[] = { 3 };
+    const uint64_t six[] = { 1, 0, 1, 5, 1, 7 }, no_edit[] = { 262147 };
+    check_cheaper(moves, 3, save_and_reload, 2, PRICES, 1, "12 and 28");
+    check_cheaper(save_and_reload, 2, moves, 3, PRICES, 2, "28 and 12");
+    check_cheaper(moves, 3, reload, 1, PRICES, 1, "12 and 12");
+    check_cheaper(reload, 1, moves, 3, PRICES, 1, "12 and 12");
+    check_cheaper(moves, 3, moves, 3, PRICES, 1, "a list and itself");
+    check_cheaper(save, 1, six, 6, PRICES, 2, "kinds 0, 5 and 7 cost nothing");
+    check_cheaper(no_edit, 1, reload, 1, PRICES, 2, "a slot saved costs what a save does");
+    check_cheaper(moves, 0, reload, 0, PRICES, 1, "two empty lists");
+    for (size_t i = 0; i <= PARALLEL_MOVES_MOST_CHOSEN; i++) {
+        long_list[i] = 1;
+    }
+    const size_t most = PARALLEL_MOVES_MOST_CHOSEN;
+    check_cheaper(long_list, most, long_list + 1, most, PRICES, 1, "the longest lists");
+    check_cheaper(long_list, most, save, 1, PRICES, 2, "the longest list and a save");
+    check_cheaper(long_list, most, long_list, most + 1, PRICES, 19, "a second list too long");
+    check_cheaper(long_list, most + 1, save, 1, PRICES, 19, "a first list too long");
+    for (int i = 0; i < PARALLEL_MOVES_PRICES; i++) {
+        uint32_t prices[] = { 4, 6, 16, 12 };
+        prices[i] = PARALLEL_MOVES_MOST_PRICE + 1;
+        check_cheaper(moves, 3, reload, 1, prices, 19, "a price above the greatest");
+        check_cheaper(moves, 0, reload, 0, prices, 19, "the same of two empty lists");
+    }
+}
+
 int main(int count, char **given)
 {
     if (count != 2) {
@@ -154,5 +199,6 @@ int main(int count, char **given)
     }
     whole_jobs(given[1]);
     prices_and_limits();
+    cheaper_of_two();
     return puts("all as said") >= 0 && fflush(stdout) == 0 ? EXIT_SUCCESS : EXIT_FAILURE;
 }

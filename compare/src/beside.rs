@@ -60,8 +60,8 @@ Options:
     --threads N     how many at a time (as many as there are processors)
     --planned       with the L to plan with in the place of each job's own: ours must
                     give that number, and never 17
-    --priced        what each patch costs is asked for too, with prices and run counts
-                    in range and not
+    --priced        what each patch costs is asked for too, and which of two costs less,
+                    with prices and run counts in range and not
     --difference F  the file that a job with different answers is written to
     --spoil text N, --spoil words N
                     spoils ours' text of the N-th job, or its words, which must
@@ -462,11 +462,15 @@ impl Counts {
             edges,
             refused: [outside, none],
             most,
+            chosen: [first, second, neither],
+            ties,
         }) = self.priced
         {
             println!("prices asked for and given {edges}, the greatest product {most}");
             println!("  refused no. 19: {outside}");
             println!("  refused no. 2: {none}");
+            println!("the first of two lists chosen {first}, the second {second}, both alike {ties}");
+            println!("  refused no. 19: {neither}");
         }
         if !self.planned.is_empty() {
             println!(

@@ -1,5 +1,6 @@
-//! What patches cost (request 02 e), by a reading of our own: from the lines that are
-//! printed of an answer, and in whole numbers without bounds.
+//! What patches cost (request 02 e), and which of two lists costs less (02 f), by a
+//! reading of our own: from the lines that are printed of an answer, and in whole numbers
+//! without bounds.
 
 use crate::number::{NAMES_NOTHING, Refused};
 use crate::random::Random;
@@ -77,6 +78,19 @@ impl Asked {
             runs,
             product: runs * total,
         })
+    }
+}
+
+/// "hands back the cheaper [..], the first where both cost the same": 1 or 2, of lists
+/// with so many entries that cost so much. "A price outside its range, or a list of over
+/// 65,536 entries, gives 19".
+pub fn cheaper(asked: &Asked, lengths: [usize; 2], totals: [u128; 2]) -> u8 {
+    let [first, second] = totals;
+    match () {
+        _ if !asked.prices_in_range() => PRICE_OUTSIDE.0,
+        _ if lengths.iter().any(|&length| length > 65_536) => PRICE_OUTSIDE.0,
+        _ if second < first => 2,
+        _ => 1,
     }
 }
 

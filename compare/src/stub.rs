@@ -5,6 +5,7 @@
 //!
 //! The environment's `STUB_FAULT` names the fault, if there is to be one.
 
+use std::cmp::Ordering;
 use std::collections::HashMap;
 use std::slice;
 use std::sync::{Mutex, OnceLock};
@@ -18,7 +19,7 @@ use judge::target::{Register, Target};
 use judge::{answer, reading, words};
 
 /// The faults, each in some answers only.
-const FAULTS: [&str; 64] = [
+const FAULTS: [&str; 67] = [
     "order",        // two edits change places in a patch with four or more
     "place",        // a copy into slot 3 goes to slot 1
     "made",         // a slot too many is counted from the second patch on
@@ -83,6 +84,9 @@ const FAULTS: [&str; 64] = [
     "price-set",    // a refused asking sets the total
     "price-order",  // 2 comes before 19
     "price-number", // the patch behind the last is the last
+    "cheaper-tie",  // of two lists: the second where both cost the same
+    "cheaper-same", // 19 is not given where one list is the other
+    "cheaper-head", // a head costs what a move does
 ];
 
 /// The judge that stands behind the library's place.
@@ -588,7 +592,7 @@ fn price_refusal(prices: &[u32; 4], runs: u64, there_is: bool) -> u8 {
 /// What a word costs.
 fn price_of(word: u64, prices: &[u32; 4]) -> u64 {
     let price = match word % 8 {
-        0 if fault() == "price-head" => prices[0],
+        0 if matches!(fault(), "price-head" | "cheaper-head") => prices[0],
         1 => prices[0],
         2 => prices[1],
         3 => prices[2],
@@ -642,8 +646,12 @@ pub unsafe extern "C" fn parallel_moves_price(
     let mut patches = Vec::new();
     while let Some(&head) = rest.first() {
         let (edits, after) = rest.split_at(1 + (head / 8 % 65_536) as usize);
-        // With its head, which costs nothing.
-        patches.push(edits);
+        // With its head, which costs nothing, for the fault.
+        patches.push(if fault() == "price-head" {
+            edits
+        } else {
+            &edits[1..]
+        });
         rest = after;
     }
     let patch = match fault() {
@@ -668,4 +676,31 @@ pub unsafe extern "C" fn parallel_moves_price_edits(
 ) -> u8 {
     let list = unsafe { slice::from_raw_parts(list, list_len) };
     price(Some(list), prices, runs, total, runs_as_double, product)
+}
+
+/// # Safety
+/// As the library's.
+#[unsafe(export_name = "parallel_moves_cheaper_4")]
+pub unsafe extern "C" fn parallel_moves_cheaper(
+    first: *const u64,
+    first_len: usize,
+    second: *const u64,
+    second_len: usize,
+    prices: &[u32; 4],
+) -> u8 {
+    let lists = [(first, first_len), (second, second_len)];
+    let [first, second] = lists.map(|(list, len)| unsafe { slice::from_raw_parts(list, len) });
+    let same = fault() == "cheaper-same" && first == second;
+    let too_long = first.len().max(second.len()) > 65_536;
+    if !same && (too_long || price_refusal(prices, 0, true) != 0) {
+        return 19;
+    }
+    let [first, second] =
+        [first, second].map(|list| list.iter().map(|&word| price_of(word, prices)).sum::<u64>());
+    let at_a_tie = if fault() == "cheaper-tie" { 2 } else { 1 };
+    match second.cmp(&first) {
+        Ordering::Less => 2,
+        Ordering::Equal => at_a_tie,
+        Ordering::Greater => 1,
+    }
 }

@@ -114,9 +114,12 @@ impl<'a> Edits<'a> {
         Edits { words }
     }
 
-    /// Their words, as the library gives and takes them.
+    /// Their words, as the library gives them: each edit as
+    /// `((value * 2^14 + from) * 2^14 + to) * 8 + kind`, with kind 1 for `M`, 2 for `R`,
+    /// 3 for `S` and 4 for `L`. [`cheaper`](crate::cheaper) takes them.
     #[inline]
-    pub(crate) fn words(&self) -> &'a [u64] {
+    #[must_use]
+    pub fn words(&self) -> &'a [u64] {
         self.words
     }
 

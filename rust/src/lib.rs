@@ -9,7 +9,8 @@
 //! evictions are kept, 1 or 2: how many registers may be evicted at once. For whoever
 //! lays out the frame, [`ParallelMoves::enough_slots`] says how many emergency slots
 //! are enough for a function. With a target's [`Prices`], [`ResolvedPatch::price`] and
-//! [`Edits::price`] say what an edge costs.
+//! [`Edits::price`] say what an edge costs, and [`cheaper()`] chooses one of two lists of
+//! edits.
 //!
 //! A [`JobBuilder`] makes these bytes in the words of the trade, and says which register,
 //! class, value or entry is refused; [`write()`] and [`JobWriter`] make them of numbers, and
@@ -70,7 +71,7 @@ pub use entity::{
 };
 pub use parallel_moves::{MOST_EDITS, ParallelMoves};
 pub use patch::Patch;
-pub use price::{Edge, Prices};
+pub use price::{Edge, Prices, cheaper};
 pub use refusal::{Refusal, Unnamed};
 pub use resolver::Resolver;
 pub use writer::{JobWriter, write};

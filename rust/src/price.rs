@@ -64,7 +64,7 @@ impl ResolvedPatch<'_> {
     }
 }
 
-impl Edits<'_> {
+impl<'a> Edits<'a> {
     /// What the edge costs that ran so often and whose patch has these edits.
     ///
     /// # Errors
@@ -73,6 +73,55 @@ impl Edits<'_> {
     pub fn price(&self, prices: Prices, runs: u64) -> Result<Edge, Refusal> {
         sys::price_edits(self.words(), prices.numbers(), runs).map_err(Refusal::given)
     }
+
+    /// These edits, or the others if those cost less.
+    ///
+    /// # Errors
+    ///
+    /// [`Refusal::OutsidePrice`] if a price is above 65,535.
+    pub fn cheaper(self, others: Edits<'a>, prices: Prices) -> Result<Edits<'a>, Refusal> {
+        cheaper(self.words(), others.words(), prices).map(Edits::new)
+    }
+}
+
+/// The cheaper of two lists of edits, as words ([`Edits::words`]): one of the two slices
+/// itself, the first where both cost the same.
+///
+/// The compiler can give the entries of a patch in two orders; this chooses between the
+/// edits of the one and of the other. A word goes by its kind alone; one that is no edit's,
+/// as a head, costs nothing.
+///
+/// # Errors
+///
+/// [`Refusal::OutsidePrice`] if a price is above 65,535 or a list has more than 65,536
+/// words.
+///
+/// ```
+/// use parallel_moves::{Prices, cheaper};
+///
+/// let prices = Prices { moves: 4, rebuilds: 6, saves: 16, reloads: 12 };
+/// let (three_moves, save_and_reload) = ([1, 1, 1], [3, 4]);
+/// assert_eq!(cheaper(&save_and_reload, &three_moves, prices), Ok(&three_moves[..]));
+/// // 12 and 12: the first.
+/// assert_eq!(cheaper(&[4], &three_moves, prices), Ok(&[4][..]));
+/// ```
+pub fn cheaper<'a>(
+    first: &'a [u64],
+    second: &'a [u64],
+    prices: Prices,
+) -> Result<&'a [u64], Refusal> {
+    match sys::cheaper(first, second, prices.numbers()) {
+        Ok(Choice::First) => Ok(first),
+        Ok(Choice::Second) => Ok(second),
+        Err(number) => Err(Refusal::given(number)),
+    }
+}
+
+/// Which of two lists is the cheaper.
+#[derive(Clone, Copy, Debug, PartialEq, Eq)]
+pub(crate) enum Choice {
+    First,
+    Second,
 }
 
 #[cfg(test)]

@@ -79,7 +79,7 @@ refusals! {
     16 ListTooShort: "the lent list is too short for the patch's edits";
     17 OutOfSlots: "an emergency slot is needed, none of its size is at hand, and no more may be made";
     18 BytesTooFew: "the lent bytes are fewer than the job has";
-    19 OutsidePrice: "a price is above 65,535, or a run count is 2^26 or more";
+    19 OutsidePrice: "a price is above 65,535, a run count is 2^26 or more, or one of two lists to choose from has more than 65,536 entries";
     21 OverlappingSources: "a move's source overlaps that of an earlier move without being equal to it, and both moves are kept";
     22 NoSuchSetting: "the number of kept evictions is neither 1 nor 2";
 }

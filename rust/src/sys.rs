@@ -4,7 +4,7 @@
 //! parameters or lengths has other names, and does not link.
 
 use crate::entity::RegUnit;
-use crate::price::Edge;
+use crate::price::{Choice, Edge};
 
 /// A target, as the library keeps it.
 type RegInfo = [u16; 107_520];
@@ -104,6 +104,15 @@ unsafe extern "C" {
         total: &mut u64,
         runs_as_double: &mut f64,
         product: &mut f64,
+    ) -> u8;
+
+    #[link_name = "parallel_moves_cheaper_4"]
+    fn parallel_moves_cheaper(
+        first: *const u64,
+        first_length: usize,
+        second: *const u64,
+        second_length: usize,
+        prices: &Prices,
     ) -> u8;
 
     #[link_name = "parallel_moves_answer_4"]
@@ -454,6 +463,26 @@ const NO_EDGE: Edge = Edge {
     runs: 0.0,
     product: 0.0,
 };
+
+/// Which of two lists is the cheaper; if they are refused, the number.
+pub(crate) fn cheaper(first: &[u64], second: &[u64], prices: Prices) -> Result<Choice, u8> {
+    // SAFETY: the lists are as long as the function is told. The function keeps no
+    // pointer.
+    let answered = unsafe {
+        parallel_moves_cheaper(
+            first.as_ptr(),
+            first.len(),
+            second.as_ptr(),
+            second.len(),
+            &prices,
+        )
+    };
+    match answered {
+        1 => Ok(Choice::First),
+        2 => Ok(Choice::Second),
+        number => Err(number),
+    }
+}
 
 /// Writes the text of an answer into `text`: its length. `None` if `text` is
 /// too short.

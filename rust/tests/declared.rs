@@ -25,6 +25,7 @@ const FUNCTIONS: &[&str] = &[
     "parallel_moves_write",
     "parallel_moves_price",
     "parallel_moves_price_edits",
+    "parallel_moves_cheaper",
 ];
 
 /// Where the C header has a pointer to one number, and not to many.

@@ -1,9 +1,11 @@
-//! What patches cost: document 01's trials, and each limit.
+//! What patches cost, and the cheaper of two: trials, and each limit.
 
 mod common;
 
 use common::jobs;
-use parallel_moves::{Allocation, ParallelMoves, Patch, PhysReg, Prices, Refusal, Resolver, Value};
+use parallel_moves::{
+    Allocation, ParallelMoves, Patch, PhysReg, Prices, Refusal, Resolver, Value, cheaper,
+};
 
 const PRICES: Prices = Prices {
     moves: 4,
@@ -128,4 +130,85 @@ fn by_the_text() {
         }
     }
     assert!(priced > 150, "{priced}");
+}
+
+const M: u64 = 1;
+const S: u64 = 3;
+const L: u64 = 4;
+
+/// Checks that the slice itself comes back, and not only equal words.
+fn chosen(first: &[u64], second: &[u64], expected: &[u64]) {
+    let given = cheaper(first, second, PRICES).unwrap();
+    assert_eq!(given.as_ptr(), expected.as_ptr());
+    assert_eq!(given.len(), expected.len());
+}
+
+#[test]
+fn cheaper_of_two() {
+    let moves = [M, M, M];
+    // 12 and 28, in either order.
+    chosen(&moves, &[S, L], &moves);
+    chosen(&[S, L], &moves, &moves);
+    // 12 and 12: the first.
+    let reload = [L];
+    chosen(&moves, &reload, &moves);
+    chosen(&reload, &moves, &reload);
+    // Words that are no edits cost nothing, and come along.
+    let six = [M, 0, M, 5, M, 7];
+    chosen(&[S], &six, &six);
+    // Kind 3 that would save slot 1 in slot 0: no edit, yet it costs an S.
+    let no_edit = [262_147];
+    chosen(&no_edit, &reload, &reload);
+    chosen(&reload, &no_edit, &reload);
+    // Two empty lists, and equal words in two places.
+    let (empty, again) = ([], [M, M, M]);
+    chosen(&empty, &moves[3..], &empty);
+    chosen(&moves, &again, &moves);
+    chosen(&moves, &empty, &empty);
+}
+
+/// 65,535 for a price and 65,536 words are the most.
+#[test]
+fn cheaper_at_the_limits() {
+    let long = vec![M; 65_537];
+    let (most, over) = (&long[..65_536], &long[..]);
+    chosen(most, &long[1..], most);
+    chosen(most, &[S], &[S]);
+    let refused = Err(Refusal::OutsidePrice);
+    for (first, second) in [(most, over), (over, most), (over, over), (&[][..], over)] {
+        assert_eq!(cheaper(first, second, PRICES), refused);
+    }
+    for index in 0..4 {
+        let mut numbers = [65_535; 4];
+        let prices = |[moves, rebuilds, saves, reloads]: [u32; 4]| Prices {
+            moves,
+            rebuilds,
+            saves,
+            reloads,
+        };
+        assert_eq!(cheaper(&[S, L], &[M], prices(numbers)), Ok(&[M][..]));
+        numbers[index] = 65_536;
+        assert_eq!(cheaper(&[S, L], &[M], prices(numbers)), refused);
+        assert_eq!(cheaper(&[], &[], prices(numbers)), refused);
+    }
+}
+
+/// Edits of answers: the cheaper of those with one kept eviction and with two.
+#[test]
+fn cheaper_order() {
+    let job = trial("slots-swapped");
+    let (mut one, mut two) = (Resolver::new(), Resolver::new());
+    let (answer, other) = (one.answer(1, &job).unwrap(), two.answer(2, &job).unwrap());
+    let [edits, others] = [&answer, &other].map(|a| a.patches().next().unwrap().edits());
+    let given = edits.cheaper(others, PRICES).unwrap();
+    let [cost, other] = [edits, others].map(|e| e.price(PRICES, 0).unwrap().total);
+    assert_eq!(given.price(PRICES, 0).unwrap().total, cost.min(other));
+    // The first where both cost the same.
+    let given = edits.cheaper(edits, PRICES).unwrap();
+    assert_eq!(given.words().as_ptr(), edits.words().as_ptr());
+    let too_dear = Prices {
+        saves: 65_536,
+        ..PRICES
+    };
+    assert_eq!(edits.cheaper(others, too_dear), Err(Refusal::OutsidePrice));
 }

@@ -1,5 +1,7 @@
 //! Ours: the static library, with the memory that it is lent.
 
+use std::ops::Range;
+
 use judge::answer::{MOST_BYTES, MOST_PATCHES};
 use judge::calls::MOST_EDITS;
 use judge::prices::{Asked, Prices};
@@ -109,6 +111,15 @@ unsafe extern "C" {
         total: &mut u64,
         runs_as_double: &mut f64,
         product: &mut f64,
+    ) -> u8;
+
+    #[link_name = "parallel_moves_cheaper_4"]
+    fn parallel_moves_cheaper(
+        first: *const u64,
+        first_len: usize,
+        second: *const u64,
+        second_len: usize,
+        prices: &Prices,
     ) -> u8;
 
     #[link_name = "parallel_moves_text_4"]
@@ -487,6 +498,22 @@ impl Ours {
             )
         };
         record
+    }
+
+    /// Which of two parts of the last answer's words costs less: 1, 2 or 19.
+    pub fn cheaper(&mut self, first: Range<usize>, second: Range<usize>, asked: Asked) -> u8 {
+        let words = &self.words.all[..MOST_WORDS];
+        let (first, second) = (&words[first], &words[second]);
+        // SAFETY: the lists are as long as the function is told.
+        unsafe {
+            parallel_moves_cheaper(
+                first.as_ptr(),
+                first.len(),
+                second.as_ptr(),
+                second.len(),
+                &asked.prices,
+            )
+        }
     }
 
     /// Whether nothing was written past the end of an array.

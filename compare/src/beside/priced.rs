@@ -1,7 +1,10 @@
-//! One job's patches, and what ours says that they cost (request 02 e).
+//! One job's patches, what ours says that they cost (request 02 e), and which of two of
+//! them costs less (02 f).
+
+use std::ops::Range;
 
 use judge::number::Refused;
-use judge::prices::{Asked, Edge, totals};
+use judge::prices::{self, Asked, Edge, totals};
 use judge::random::Random;
 
 use crate::compare::{self, Difference, Outcome, Way};
@@ -16,6 +19,9 @@ pub struct Priced {
     pub refused: [u64; 2],
     /// The greatest product.
     pub most: u128,
+    /// The first list chosen, the second, and neither; and how often both cost the same.
+    pub chosen: [u64; 3],
+    pub ties: u64,
 }
 
 impl Priced {
@@ -24,6 +30,10 @@ impl Priced {
         self.refused[0] += other.refused[0];
         self.refused[1] += other.refused[1];
         self.most = self.most.max(other.most);
+        for (count, other) in self.chosen.iter_mut().zip(other.chosen) {
+            *count += other;
+        }
+        self.ties += other.ties;
     }
 
     fn add(&mut self, judged: Result<Edge, Refused>) {
@@ -62,25 +72,27 @@ pub fn compare(
     let mut random = Random::new(seed);
     for _ in 0..3 {
         let asked = Asked::random(&mut random);
-        prices(ours, count, &outcome.text, asked, &mut priced).map_err(wrong)?;
+        let totals = totals(&outcome.text, asked.prices);
+        let lists = prices(ours, count, &totals, asked, &mut priced).map_err(wrong)?;
+        choices(ours, count, &lists, &totals, asked, &mut priced).map_err(wrong)?;
     }
     outcome.priced = Some(priced);
     Ok(outcome)
 }
 
 /// Asks for the price of each patch of the last answer, of an answer's words and of
-/// edits alone.
+/// edits alone: where the edits of each stand.
 fn prices(
     ours: &mut Ours,
     count: usize,
-    text: &str,
+    totals: &[u128],
     asked: Asked,
     priced: &mut Priced,
-) -> Result<(), String> {
-    let totals = totals(text, asked.prices);
+) -> Result<Vec<Range<usize>>, String> {
     let mut at = 0;
+    let mut lists = Vec::new();
     for patch in 0..=totals.len() + 1 {
-        let judged = asked.edge(&totals, patch);
+        let judged = asked.edge(totals, patch);
         let given = ours.price(count, patch, asked);
         same(given, judged).map_err(|what| format!("of patch {patch}, {asked:?}: {what}"))?;
         priced.add(judged);
@@ -91,7 +103,41 @@ fn prices(
         let edits = (words[at] / 8 % 65_536) as usize;
         let given = ours.price_edits(at + 1, edits, asked);
         same(given, judged).map_err(|what| format!("of edits of {patch}, {asked:?}: {what}"))?;
+        lists.push(at + 1..at + 1 + edits);
         at += 1 + edits;
+    }
+    Ok(lists)
+}
+
+/// Has each patch of the last answer chosen or not beside the next, and beside all words
+/// of the answer, whose heads cost nothing.
+fn choices(
+    ours: &mut Ours,
+    count: usize,
+    lists: &[Range<usize>],
+    totals: &[u128],
+    asked: Asked,
+    priced: &mut Priced,
+) -> Result<(), String> {
+    let mut all: Vec<(Range<usize>, u128)> =
+        lists.iter().cloned().zip(totals.iter().copied()).collect();
+    all.push((0..count, totals.iter().sum()));
+    for pair in all
+        .windows(2)
+        .chain([&[all[all.len() - 1].clone(), all[0].clone()][..]])
+    {
+        for [(first, cost), (second, other)] in [[&pair[0], &pair[1]], [&pair[1], &pair[0]]] {
+            let judged = prices::cheaper(&asked, [first.len(), second.len()], [*cost, *other]);
+            let given = ours.cheaper(first.clone(), second.clone(), asked);
+            if given != judged {
+                return Err(format!(
+                    "of words {first:?} and {second:?}, {asked:?}: {given} costs less, of the \
+                     judge {judged}"
+                ));
+            }
+            priced.chosen[usize::from(judged.min(3)) - 1] += 1;
+            priced.ties += u64::from(judged < 3 && cost == other && first != second);
+        }
     }
     Ok(())
 }
