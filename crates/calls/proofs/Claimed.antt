@@ -10,7 +10,7 @@ use Rattle.function.specs.Table.{functionOf}
 use Rattle.rules.specs.Scratch.{Cache, emptyCache}
 use Rattle.rules.specs.Patch.{Call, refused, cacheAfter}
 use Rattle.machine.specs.Claim as rules
-use Rattle.machine.proofs.Demand.{demand-3}
+use Rattle.machine.proofs.Demand.{demand-3-of-calls}
 use Rattle.slots.specs.Stacks.{cacheOf}
 use Rattle.slots.specs.Steps.{Cleared}
 use Rattle.number.specs.Read.{Read}
@@ -70,4 +70,4 @@ known (read.got x rest) t f cache cache′ h = (h .3, h .4, h .5)
 pub demand-3-of-the-calls : Demand3
 demand-3-of-the-calls kept bytes t f cache cache′ h calls made =
     let k = known (opened kept bytes) t f cache cache′ h in
-    claims t f calls cache′ emptyCache (k .1 .empty) (k .2) made (demand-3 (regInfoOf t) (functionOf f) (k .0 .target) (k .0 .function) (asked t f calls))
+    claims t f calls cache′ emptyCache (k .1 .empty) (k .2) made (demand-3-of-calls (regInfoOf t) (functionOf f) (k .0 .target) (k .0 .function) (asked t f calls))

@@ -109,7 +109,7 @@ enough-with : (n : ℕ) → rules.EnoughWith n → EnoughWith n
 enough-with n by kept bytes t f cache cache′ o h calls made =
     let k = known (opened kept bytes) t f cache cache′ o in
     never t f calls cache′ emptyCache (demand-3-of-the-calls kept bytes t f cache cache′ o calls made)
-    (by (regInfoOf t) (functionOf f) (k .0 .target) (k .0 .function) (subst (λ (k : ℕ). (n + k) * rules.numSizes (regInfoOf t) (functionOf f) ≤ functionOf f .limit) (sym (setting kept bytes t f cache cache′ o)) h) (asked t f calls))
+    (rule.enough-for-calls n by (regInfoOf t) (functionOf f) (k .0 .target) (k .0 .function) (subst (λ (k : ℕ). (n + k) * rules.numSizes (regInfoOf t) (functionOf f) ≤ functionOf f .limit) (sym (setting kept bytes t f cache cache′ o)) h) (asked t f calls))
 
 pub enough-for-the-calls : Enough
 enough-for-the-calls = enough-with 128 rule.enough
@@ -120,4 +120,4 @@ fewer-enough-for-the-calls = enough-with 127 rule.fewer-enough
 pub each-of-its-size-in-the-calls : EachOfItsSize
 each-of-its-size-in-the-calls kept bytes t f cache cache′ o calls made =
     let k = known (opened kept bytes) t f cache cache′ o in
-    sizes t f calls cache′ emptyCache (demand-3-of-the-calls kept bytes t f cache cache′ o calls made) (k .1 .empty) [] (rule.each-of-its-size (regInfoOf t) (functionOf f) (k .0 .target) (k .0 .function) (asked t f calls))
+    sizes t f calls cache′ emptyCache (demand-3-of-the-calls kept bytes t f cache cache′ o calls made) (k .1 .empty) [] (rule.each-of-its-size-in-calls (regInfoOf t) (functionOf f) (k .0 .target) (k .0 .function) (asked t f calls))

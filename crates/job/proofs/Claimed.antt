@@ -15,7 +15,7 @@ use Rattle.rules.specs.Scratch.{Cache, emptyCache}
 use Rattle.rules.specs.Patch.{Patch, Answer, Call, resolve, cacheAfter}
 use Rattle.rules.specs.Patch as rules
 use Rattle.machine.specs.Claim.{Answered, Claim}
-use Rattle.machine.proofs.Demand.{demand-3}
+use Rattle.machine.proofs.Demand.{demand-3-of-calls}
 use Rattle.number.specs.Read.{Read, got, refused, then}
 use Rattle.reading.specs.Reading.{between}
 use Rattle.job_target.specs.Target.{target}
@@ -87,7 +87,7 @@ module _ (kept : ℕ) (set : isSetting kept ≡ true) where
     where
       go : (x : Read Function) → function t kept l ≡ x → RightFrom (then x (λ f q. then (between 1 1024 q) (λ n p. got (record { target = t; function = f; patches = n }) p)))
       go (refused k) e = (refl, refl)
-      go (got f q) e = counted t f (demand-3 t f ok (read-accepted t kept set l f q e .0)) (between 1 1024 q)
+      go (got f q) e = counted t f (demand-3-of-calls t f ok (read-accepted t kept set l f q e .0)) (between 1 1024 q)
 
   targets : (x : Read RegInfo) → RightFrom (then x (λ t r. unlessGiven (targetRefusal t) (afterTarget t kept r)))
   targets (refused k) = (refl, refl)

@@ -18,7 +18,7 @@ use Rattle.rules.specs.Patch.{Patch, Sorted, nothingSorted, Call, resolve, cach
 use Rattle.rules.specs.Patch as rules
 use Rattle.rules.proofs.Tested.{entry-other}
 use Rattle.machine.specs.Enough as rules-enough
-use Rattle.machine.proofs.EnoughSlots.{enough, fewer-enough}
+use Rattle.machine.proofs.EnoughSlots.{enough, fewer-enough, enough-for-calls}
 use Rattle.number.specs.Read.{Read, got, refused, then}
 use Rattle.number.specs.Number.{number}
 use Rattle.number.proofs.Laws.{one-refusal}
@@ -140,7 +140,7 @@ enough-with : (n : ℕ) → rules-enough.EnoughWith n → EnoughWith n
 enough-with n by kept l h r e g q =
     let o = opens kept l h r e in
     never (h .target) (h .function) (job kept l .done) (h .patches) emptyCache r
-    (by (h .target) (h .function) (o .target-taken) (o .function-taken) (subst (λ (k : ℕ). (n + k) * rules-enough.numSizes (h .target) (h .function) ≤ h .function .limit) (sym (o .setting)) g)) (rw (e, q) at (every-job kept l))
+    (enough-for-calls n by (h .target) (h .function) (o .target-taken) (o .function-taken) (subst (λ (k : ℕ). (n + k) * rules-enough.numSizes (h .target) (h .function) ≤ h .function .limit) (sym (o .setting)) g)) (rw (e, q) at (every-job kept l))
 
 pub enough-for-a-job : Enough
 enough-for-a-job = enough-with 128 enough

@@ -1,7 +1,8 @@
 -- Demand 3, with every premise from acceptance.
 use mathlib.Core.Path.{_≡_, refl, sym, _∙_, ap, subst}
 use mathlib.Core.Bool.{Bool, true, false, not, _&&_, _||_}
-use mathlib.Core.List.{List, [], _∷_, _++_}
+use mathlib.Core.List.{List, [], _∷_, _++_, map}
+use mathlib.Core.Option.{Option, none, some}
 use mathlib.Core.Logic.{_⊎_, inl, inr, ⊎-elim}
 use Prim.Native.Nat.{ℕ, zero, suc, _+_, _≤_, _<_}
 use native.Mathlib.Omega.{arith}
@@ -22,9 +23,11 @@ use Rattle.rules.specs.Scratch.{Cache, emptyCache, unitsOfReg}
 use Rattle.rules.specs.Order.{KeptMove, Remat, source, dest, value}
 use Rattle.rules.specs.Patch.{Entry, Patch, Sorted, sorted, destinations, run, Answer, refused, resolved, resolve, Call, cacheAfter}
 use Rattle.rules.specs.Sorted.{SortedOk, RematOk, Ran}
+use Rattle.rules.specs.Take.{Request, Served, fresh, Standing, stampedBy, request, standing, after}
 use Rattle.rules.proofs.Accepted.{accepted}
+use Rattle.rules.proofs.Take.{Previews, previews-fresh, previews-after, stands}
 use Rattle.machine.specs.Machine.{Memory, Machine, fits}
-use Rattle.machine.specs.Claim.{entryDest, entryValue, Contents, OfValue, Stopped, Finished, Right, Accepted, Answered, Claim, Demand3}
+use Rattle.machine.specs.Claim.{entryDest, entryValue, Contents, OfValue, Stopped, Finished, Right, Accepted, Answered, Owed, RequestsClaim, Claim, Demand3}
 use Rattle.rules.proofs.Steps.{All}
 use Rattle.machine.proofs.Tests.{hasIn, both, yes-of, no-of, of-yes, of-no, never}
 use Rattle.machine.proofs.Memory.{distinct, TargetOk, covers, Apart}
@@ -345,12 +348,12 @@ module _ (t : RegInfo) (f : Function) (ta : target.Accepted t) (fa : function.Ac
   unfolding zeros
   zeros-whole = so-wide zeros (λ v h. length-replicate (width v) 0)
 
-  fresh : CacheOk t f emptyCache
+  pub cache-fresh : CacheOk t f emptyCache
   unfolding has distinct
-  fresh = record { once = λ z. tt; sole = λ x y s h. absurd h; low = λ z s h. absurd h; made = λ z s h. absurd h }
+  cache-fresh = record { once = λ z. tt; sole = λ x y s h. absurd h; low = λ z s h. absurd h; made = λ z s h. absurd h }
 
   -- one call: its answer is right, and the cache that it leaves is one to go on with
-  called : (x : Call) (c : Cache) → CacheOk t f c → (r : Answer) → resolve t f (x .patch) (x .room) c ≡ r → Answered t f (x .patch) r × CacheOk t f (cacheAfter c r)
+  pub called : (x : Call) (c : Cache) → CacheOk t f c → (r : Answer) → resolve t f (x .patch) (x .room) c ≡ r → Answered t f (x .patch) r × CacheOk t f (cacheAfter c r)
   called x c co (refused n) e = (tt, co)
   called x c co (resolved es c′ n) e =
       let ran = accepted t f (x .patch) (x .room) c c′ es n e in (
@@ -358,9 +361,23 @@ module _ (t : RegInfo) (f : Function) (ta : target.Accepted t) (fa : function.Ac
         rw (ran .cache) (done zeros zeros-whole (x .patch) (x .room) c c′ es ran co .cache-ok),
       )
 
-  claim : (calls : List Call) (c : Cache) → CacheOk t f c → Claim t f calls c
-  claim [] c co = tt
-  claim (x ∷ l) c co = let y = called x c co (resolve t f (x .patch) (x .room) c) refl in (y .0, claim l (cacheAfter c (resolve t f (x .patch) (x .room) c)) (y .1))
+  -- a request: what stands in the list is refused with 20, or such a call
+  pub requested : (x : Request) (s : Served) → Previews t f s → CacheOk t f (s .now .cache) → (o : Option Standing) → standing t f x s ≡ o → Owed t f o × CacheOk t f (stampedBy (s .now) o .cache)
+  requested x s k co none e = (tt, co)
+  requested x s k co (some y) e = ⊎-elim (λ h. rw h (tt, co)) (λ h. called (record { patch = y .patch; room = h .0 }) (s .now .cache) co (y .answer) (h .1)) (stands t f x s k y e)
+
+  claim : (requests : List Request) (s : Served) → Previews t f s → CacheOk t f (s .now .cache) → RequestsClaim t f requests s
+  claim [] s k co = tt
+  claim (x ∷ l) s k co = let y = requested x s k co (standing t f x s) refl in (y .0, claim l (after t f x s) (previews-after t f x s k) (y .1))
 
 pub demand-3 : Demand3
-demand-3 t f ta fa calls = claim t f ta fa calls emptyCache (fresh t f ta fa)
+demand-3 t f ta fa requests = claim t f ta fa requests fresh (previews-fresh t f) (cache-fresh t f ta fa)
+
+-- of `resolve` calls alone
+claim-of-calls : (t : RegInfo) (f : Function) (calls : List Call) (s : Served) → RequestsClaim t f (map request calls) s → Claim t f calls (s .now .cache)
+unfolding standing
+claim-of-calls t f [] s h = tt
+claim-of-calls t f (x ∷ l) s h = (h .0, claim-of-calls t f l (after t f (request x) s) (h .1))
+
+pub demand-3-of-calls : (t : RegInfo) (f : Function) → target.Accepted t → function.Accepted t f → (calls : List Call) → Claim t f calls emptyCache
+demand-3-of-calls t f ta fa calls = claim-of-calls t f calls fresh (demand-3 t f ta fa (map request calls))

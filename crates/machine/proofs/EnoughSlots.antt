@@ -1,8 +1,8 @@
--- 02 j: with L enough no call gets 17, and between patches every slot made lies in the stack of its size.
+-- 02 j: with L enough no request gets 17, and between patches every slot made lies in the stack of its size.
 use Prim.Native.Nat.{ℕ, zero, suc, _+_, _-_, _*_, _<_, _≤_}
 use mathlib.Core.Path.{_≡_, refl, sym, ap, subst, _∙_}
 use mathlib.Core.Bool.{Bool, true, false, false≢true, or-true}
-use mathlib.Core.List.{List, [], _∷_, _++_, List·Memᴰ, List·Memᴰ·head, List·Memᴰ·tail, List·Memᴰ·not-nil}
+use mathlib.Core.List.{List, [], _∷_, _++_, map, append-nil, List·Memᴰ, List·Memᴰ·head, List·Memᴰ·tail, List·Memᴰ·not-nil}
 use mathlib.Core.Option.{Option, none, some}
 use mathlib.Core.Logic.{_⊎_, inl, inr, ⊎-elim}
 use native.Mathlib.Omega.{arith}
@@ -19,15 +19,17 @@ use Rattle.rules.specs.Edit.{Edit}
 use Rattle.rules.specs.Scratch.{Cache, emptyCache, ScratchAllocator}
 use Rattle.rules.specs.Patch.{Patch, Sorted, sorted, run, Answer, refused, resolved, answerOf, resolve, Call, cacheAfter}
 use Rattle.rules.specs.Refusals.{withLimit}
+use Rattle.rules.specs.Take.{Request, Served, fresh, Standing, stampedBy, request, standing, answered, after}
 use Rattle.rules.specs.Counts.{bit, sum}
 use Rattle.rules.proofs.Sum.{bit-yes, bit-le, sum-le, sum-ones, sum-part, sum-zero}
 use Rattle.rules.proofs.Steps.{All, Every}
 use Rattle.rules.proofs.Accepted.{accepted}
 use Rattle.rules.proofs.Tested.{Tested, tested}
 use Rattle.rules.proofs.Enough.{only-by-slots}
+use Rattle.rules.proofs.Take.{Previews, previews-fresh, previews-after, stands, answers}
 use Rattle.machine.specs.Paid.{occurs}
 use Rattle.machine.specs.Slots.{InStacks, Stays}
-use Rattle.machine.specs.Enough.{sizesThat, isSize, numSizes, isBankSize, numBankSizes, NeverOut, editSize, namesSlot, Sized, editsOf, Between, SizesClaim, EachOfItsSize, Enough, FewerEnough, EnoughForTarget, enoughSlots, planned, Plan}
+use Rattle.machine.specs.Enough.{sizesThat, isSize, numSizes, isBankSize, numBankSizes, RequestsNeverOut, NeverOut, editSize, namesSlot, Sized, SizedIn, editsOf, editsIn, Between, RequestsSizes, SizesClaim, EachOfItsSize, EnoughWith, Enough, FewerEnough, EnoughForTarget, enoughSlots, planned, Plan}
 use Rattle.machine.proofs.Diversions.{has-occurs}
 use Rattle.machine.proofs.Banked.{Banked, banked, banked-within}
 use Rattle.machine.proofs.Slots.{less?, occurs-has, stacked, slots-empty, run-lies, slots-ok}
@@ -86,9 +88,9 @@ module _ (t : RegInfo) (f : Function) (at : target.Accepted t) (af : Banked t f)
   most = 127 + f .kept
 
   -- between calls
-  record Steady (c : Cache) : Type 0 where
-    ins : InStacks f c
-    fair : Fair t f (stacked c) []
+  pub record Steady (c : Cache) : Type 0 where
+    pub ins : InStacks f c
+    pub fair : Fair t f (stacked c) []
 
   size-low : (z : ℕ) → isSize t f z ≡ true → z < 32
   size-low z h = let q = any-some (λ v. eqb (spillslotSize t (valueBank f v)) z) (numValues f) h in omega (arith, eqb-true (spillslotSize t (valueBank f (q .0))) z (q .2), size-fits t at (valueBank f (q .0)) (af .bank (q .0) (q .1)))
@@ -127,7 +129,7 @@ module _ (t : RegInfo) (f : Function) (at : target.Accepted t) (af : Banked t f)
   -- a run leaves it so, and each slot in the stack of its size
   ran-ended : (p : Patch) (a : Sorted) (c : Cache) (k : ScratchAllocator) → Tested t f a → Steady c → run t f p a c ≡ some k → Steady (k .cache) × Ended t f c k
   ran-ended p a c k ok g e =
-      let d : All (Ended t f c) (some k) = subst (All (Ended t f c)) e (run-ended t f c at af (g .ins) (g .fair) p a (ok .ok) (omega (arith, ok .kept, ok .most))) in
+      let d : All (Ended t f c) (some k) = subst (All (Ended t f c)) e (run-ended t f c at af (g .ins .stacked) (g .fair) p a (ok .ok) (omega (arith, ok .kept, ok .most))) in
       (record { ins = run-lies t f at af p a c k (ok .ok) (g .ins) e; fair = record { few = d .fair .few; sized = d .fair .sized; lies = tt } }, d)
 
 -- the same function with another L
@@ -154,15 +156,15 @@ module _ (t : RegInfo) (f : Function) (l : ℕ) where
         most = g .most;
       }
 
-  steady-within : (at : target.Accepted t) (af : Banked t f) (c : Cache) → Steady t f at af c → Steady t F at (banked-within t f l af) c
+  pub steady-within : (at : target.Accepted t) (af : Banked t f) (c : Cache) → Steady t f at af c → Steady t F at (banked-within t f l af) c
   unfolding valueBank
   steady-within at af c g =
       record {
-        ins = record { listed = g .ins .listed; once = g .ins .once; sole = g .ins .sole; low = g .ins .low; below = g .ins .below };
+        ins = record { listed = g .ins .listed; stacked = record { once = g .ins .stacked .once; sole = g .ins .stacked .sole; low = g .ins .stacked .low; below = g .ins .stacked .below } };
         fair = record { few = g .fair .few; sized = g .fair .sized; lies = tt };
       }
 
-  same-sizes : numSizes t F ≡ numSizes t f
+  pub same-sizes : numSizes t F ≡ numSizes t f
   unfolding valueBank
   same-sizes = refl
 
@@ -171,14 +173,14 @@ ran-out none e = refl
 ran-out (some k) e = let z : _≡_ {A = ℕ} 0 1 = cc in absurd (omega arith)
 
 module _ (t : RegInfo) (f : Function) (at : target.Accepted t) (af : function.Accepted t f) where
-  abbrev ab : Banked t f
+  abbrev pub ab : Banked t f
   ab = banked t f af
 
-  abbrev Quiet : Cache → Type 0
+  abbrev pub Quiet : Cache → Type 0
   Quiet = Steady t f at ab
 
   -- with slots enough the run makes no more than `most` of each size
-  never-out : (127 + f .kept) * numSizes t f ≤ f .limit → (p : Patch) (room : ℕ) (c : Cache) → Quiet c → resolve t f p room c ≡ refused 17 → ⊥
+  pub never-out : (127 + f .kept) * numSizes t f ≤ f .limit → (p : Patch) (room : ℕ) (c : Cache) → Quiet c → resolve t f p room c ≡ refused 17 → ⊥
   never-out enough p room c g e =
       let q = tested t f p room c (refused 17) refl e in
       let a : Sorted = sorted t f p in
@@ -191,9 +193,9 @@ module _ (t : RegInfo) (f : Function) (at : target.Accepted t) (af : function.Ac
 
   -- after each call
   module _ (p : Patch) (room : ℕ) (c : Cache) (g : Quiet c) where
-    answered : (r : Answer) → resolve t f p room c ≡ r → Quiet (cacheAfter c r) × Sized t f c r
-    answered (refused n) e = (g, tt)
-    answered (resolved es c′ n) e =
+    pub quiet-after : (r : Answer) → resolve t f p room c ≡ r → Quiet (cacheAfter c r) × Sized t f c r
+    quiet-after (refused n) e = (g, tt)
+    quiet-after (resolved es c′ n) e =
         let q = tested t f p room c (resolved es c′ n) tt e in
         let r = accepted t f p room c c′ es n e in
         let d = ran-ended t f at ab p (sorted t f p) c (r .allocator) (q .0) g (r .ran) in (
@@ -215,10 +217,9 @@ module _ (t : RegInfo) (f : Function) (at : target.Accepted t) (af : function.Ac
 
     -- the edits of the call beside those before it
     beside : (es : List Edit) → Between t f es c → (r : Answer) → resolve t f p room c ≡ r → Between t f (es ++ editsOf t f r) (cacheAfter c r)
-    beside es b (refused n) e =
-        record { once = g .ins; lies = λ x m. ⊎-elim (b .lies x) (λ q. absurd (List·Memᴰ·not-nil q)) (in-either es [] x m); named = λ s lo hi. any-left (namesSlot t f s) es [] (b .named s lo hi) }
+    beside es b (refused n) e = rw (append-nil es) b
     beside es b (resolved es′ c′ n) e =
-        let q = answered (resolved es′ c′ n) e in
+        let q = quiet-after (resolved es′ c′ n) e in
         let o = q .1 in
         record {
           once = q .0 .ins;
@@ -227,31 +228,69 @@ module _ (t : RegInfo) (f : Function) (at : target.Accepted t) (af : function.Ac
               ⊎-elim (λ q. any-left (namesSlot t f s) es es′ (b .named s lo q)) (λ q. any-right (namesSlot t f s) es es′ (o .named s q hi)) (less? s (f .slots + c .made));
         }
 
-  fresh : Quiet emptyCache
+  pub quiet-fresh : Quiet emptyCache
   unfolding occurs
-  fresh = record { ins = slots-empty f; fair = record { few = λ m z. omega (arith, sum-zero (λ s. 0) m (λ s h. refl)); sized = λ s z h. absurd (omega arith); lies = tt } }
+  quiet-fresh = record { ins = slots-empty f; fair = record { few = λ m z. omega (arith, sum-zero (λ s. 0) m (λ s h. refl)); sized = λ s z h. absurd (omega arith); lies = tt } }
 
-  never : (127 + f .kept) * numSizes t f ≤ f .limit → (calls : List Call) (c : Cache) → Quiet c → NeverOut t f calls c
-  never enough [] c g = tt
-  never enough (x ∷ l) c g =
-      (never-out enough (x .patch) (x .room) c g, never enough l (cacheAfter c (resolve t f (x .patch) (x .room) c)) (answered (x .patch) (x .room) c g (resolve t f (x .patch) (x .room) c) refl .0))
+  -- a request
+  module _ (x : Request) (s : Served) (k : Previews t f s) (g : Quiet (s .now .cache)) where
+    not-17 : (127 + f .kept) * numSizes t f ≤ f .limit → answered t f x s ≡ some (refused 17) → ⊥
+    not-17 enough e =
+        ⊎-elim (λ h. let z : _≡_ {A = ℕ} 17 20 = cc in absurd (omega arith)) (λ h. never-out enough (h .0) (h .1) (s .now .cache) g (h .2)) (answers t f x s k (refused 17) e)
 
-  sizes : (calls : List Call) (es : List Edit) (c : Cache) → Quiet c → Between t f es c → SizesClaim t f calls es c
-  sizes [] es c g b = b
-  sizes (x ∷ l) es c g b =
-      let r : Answer = resolve t f (x .patch) (x .room) c in
-      let q = answered (x .patch) (x .room) c g r refl in
-      (b, q .1, sizes l (es ++ editsOf t f r) (cacheAfter c r) (q .0) (beside (x .patch) (x .room) c g es b r refl))
+    of-its-size : (o : Option Answer) → answered t f x s ≡ o → SizedIn t f (s .now .cache) o
+    of-its-size none e = tt
+    of-its-size (some r) e = ⊎-elim (λ h. rw h tt) (λ h. quiet-after (h .0) (h .1) (s .now .cache) g r (h .2) .1) (answers t f x s k r e)
+
+    quiet-then : (o : Option Standing) → standing t f x s ≡ o → Quiet (stampedBy (s .now) o .cache)
+    quiet-then none e = g
+    quiet-then (some y) e = ⊎-elim (λ h. rw h g) (λ h. quiet-after (y .patch) (h .0) (s .now .cache) g (y .answer) (h .1) .0) (stands t f x s k y e)
+
+    beside-then : (es : List Edit) → Between t f es (s .now .cache) → (o : Option Standing) → standing t f x s ≡ o → Between t f (es ++ editsIn t f o) (stampedBy (s .now) o .cache)
+    beside-then es b none e = rw (append-nil es) b
+    beside-then es b (some y) e = ⊎-elim (λ h. rw h (rw (append-nil es) b)) (λ h. beside (y .patch) (h .0) (s .now .cache) g es b (y .answer) (h .1)) (stands t f x s k y e)
+
+  never : (127 + f .kept) * numSizes t f ≤ f .limit → (requests : List Request) (s : Served) → Previews t f s → Quiet (s .now .cache) → RequestsNeverOut t f requests s
+  never enough [] s k g = tt
+  never enough (x ∷ l) s k g = (not-17 x s k g enough, never enough l (after t f x s) (previews-after t f x s k) (quiet-then x s k g (standing t f x s) refl))
+
+  sizes : (requests : List Request) (es : List Edit) (s : Served) → Previews t f s → Quiet (s .now .cache) → Between t f es (s .now .cache) → RequestsSizes t f requests es s
+  sizes [] es s k g b = b
+  sizes (x ∷ l) es s k g b =
+      let o : Option Standing = standing t f x s in (
+        b,
+        of-its-size x s k g (answered t f x s) refl,
+        sizes l (es ++ editsIn t f o) (after t f x s) (previews-after t f x s k) (quiet-then x s k g o refl) (beside-then x s k g es b o refl),
+      )
 
 pub each-of-its-size : EachOfItsSize
-each-of-its-size t f at af calls =
-    sizes t f at af calls [] emptyCache (fresh t f at af) (record { once = slots-empty f; lies = λ e m. absurd (List·Memᴰ·not-nil m); named = λ s lo hi. absurd (omega arith) })
+each-of-its-size t f at af requests =
+    sizes t f at af requests [] fresh (previews-fresh t f) (quiet-fresh t f at af)
+    (record { once = slots-empty f; lies = λ e m. absurd (List·Memᴰ·not-nil m); named = λ s lo hi. absurd (omega arith) })
 
 pub fewer-enough : FewerEnough
-fewer-enough t f at af enough calls = never t f at af enough calls emptyCache (fresh t f at af)
+fewer-enough t f at af enough requests = never t f at af enough requests fresh (previews-fresh t f) (quiet-fresh t f at af)
 
 pub enough : Enough
-enough t f at af h calls = fewer-enough t f at af (omega arith) calls
+enough t f at af h requests = fewer-enough t f at af (omega arith) requests
+
+-- of `resolve` calls alone
+never-of-calls : (t : RegInfo) (f : Function) (calls : List Call) (s : Served) → RequestsNeverOut t f (map request calls) s → NeverOut t f calls (s .now .cache)
+unfolding answered standing
+never-of-calls t f [] s h = tt
+never-of-calls t f (x ∷ l) s h = ((λ e. h .0 (ap some e)), never-of-calls t f l (after t f (request x) s) (h .1))
+
+sizes-of-calls : (t : RegInfo) (f : Function) (calls : List Call) (es : List Edit) (s : Served) → RequestsSizes t f (map request calls) es s → SizesClaim t f calls es (s .now .cache)
+unfolding answered standing
+sizes-of-calls t f [] es s h = h
+sizes-of-calls t f (x ∷ l) es s h = (h .0, h .1, sizes-of-calls t f l (es ++ editsIn t f (standing t f (request x) s)) (after t f (request x) s) (h .2))
+
+pub each-of-its-size-in-calls : (t : RegInfo) (f : Function) → target.Accepted t → function.Accepted t f → (calls : List Call) → SizesClaim t f calls [] emptyCache
+each-of-its-size-in-calls t f at af calls = sizes-of-calls t f calls [] fresh (each-of-its-size t f at af (map request calls))
+
+pub enough-for-calls :
+    (n : ℕ) → EnoughWith n → (t : RegInfo) (f : Function) → target.Accepted t → function.Accepted t f → (n + f .kept) * numSizes t f ≤ f .limit → (calls : List Call) → NeverOut t f calls emptyCache
+enough-for-calls n by t f at af h calls = never-of-calls t f calls fresh (by t f at af h (map request calls))
 
 -- the sizes of the function's banks are among those of the target's
 sizes-le : (p q : ℕ → Bool) → ((z : ℕ) → p z ≡ true → q z ≡ true) → sizesThat p ≤ sizesThat q
@@ -269,7 +308,7 @@ times-le b x y h =
     let e : y ≡ x + d = omega arith in rw e (omega arith)
 
 pub enough-for-target : EnoughForTarget
-enough-for-target t f at af h calls = enough t f at af (omega (arith, times-le (128 + f .kept) (numSizes t f) (numBankSizes t) (sizes-le (isSize t f) (isBankSize t) (bank-size t f (banked t f af))))) calls
+enough-for-target t f at af h requests = enough t f at af (omega (arith, times-le (128 + f .kept) (numSizes t f) (numBankSizes t) (sizes-le (isSize t f) (isBankSize t) (bank-size t f (banked t f af))))) requests
 
 -- no more sizes than banks
 sizes-few : (t : RegInfo) → numBankSizes t ≤ numBanks t

@@ -7,19 +7,20 @@ use mathlib.Core.List.{List, [], _∷_, map}
 use mathlib.Core.Option.{Option, none, some}
 use native.Mathlib.Omega.{arith}
 use lib.ListN.{length, getD, take}
-use Rattle.entity.specs.Logic.{any, all, has, meets, indices}
+use Rattle.entity.specs.Logic.{any, all, has, meets, lastOr, indices}
 use Rattle.entity.specs.Place.{reg, slot}
-use Rattle.reginfo.specs.RegInfo.{RegInfo, regMemory, bankForReg, regUnits, classMembers, isMemoryReg}
+use Rattle.reginfo.specs.RegInfo.{RegInfo, spillslotSize, topLevelClass, stackToStackClass, regMemory, bankForReg, regUnits, bankForClass, classSlots, classMembers, allocationOrder, isMemoryReg}
 use Rattle.reginfo.specs.Refused.{firstOf}
 use Rattle.function.specs.Function.{Function, valueBank, rematCost, rematClass, isSetting}
 use Rattle.function.specs.Refused as function
-use Rattle.rules.specs.Edit.{Edit, updated, andThen, filter}
-use Rattle.rules.specs.Scratch.{emptyCache}
-use Rattle.rules.specs.Order.{KeptMove, noMove}
-use Rattle.rules.specs.Patch.{Patch, Answer, refused, resolved, destinations, add, sortedFrom, sorted, entryConditions, patchConditions, resolveSorted, resolveFrom, resolve, cacheAfter}
+use Rattle.rules.specs.Edit.{Edit, updated, andThen, each, find, firstAt, filter}
+use Rattle.rules.specs.Scratch.{emptyCache, acquireFrom, unevict, unevictBut, unevictForReg, makeRoom, slotScratch, evictLast, reuse, orScratch, getScratchReg, moveEdits, doMove}
+use Rattle.rules.specs.Order.{KeptMove, noMove, carryOne, carry, remats, rematWithScratch, writerFrom, writersOf, writers, cycleMoveSources, divert, lead, undivert, undivertAll, close, visit, visitUnlessMemory, start, moves}
+use Rattle.rules.specs.Patch.{Patch, Answer, refused, resolved, destinations, add, sortedFrom, sorted, entryConditions, patchConditions, run, resolveSorted, resolveFrom, resolve, cacheAfter}
 use Rattle.rules.specs.Trials.{three, plain, patch, swap, arguments, twoBanks, ofTwo, stored, Gives}
 use Rattle.rules.proofs.Steps.{updated-at}
 use Rattle.rules.proofs.Trials.{trials, told-apart, argument-words, two-kept}
+use Rattle.rules.specs.Take.{resolving, asking, taking, takeAnswer, standing, askedAfter}
 use Rattle.machine.specs.Machine.{Memory, inSlot, Machine, Waiting, begin, put, read, write, fits, step, steps}
 use Rattle.machine.specs.Claim.{Contents, Holding, RightFrom, Accepted, Answered}
 use Rattle.machine.specs.Instance.{swapEdits, slotToSlot, slotEdits, words, Stop, Swapped, SwapFull, SlotToSlot, pairs, throughEdits, Through, ThroughAWord, wordSwap, wordEdits, WordsSwapped, SwapOfWords, bothEdits, BothWait, TwoWait}
@@ -34,10 +35,10 @@ swap-fits : function.Accepted three (plain 0 1)
 unfolding three indices valueBank rematCost rematClass isSetting function.countsFit function.valueFits function.foreignClass function.valuesRefusal function.functionRefusal
 swap-fits = refl
 
+-- asked for, then taken
 swap-accepted : Accepted three (plain 0 1) (patch [] swap) swapEdits
-swap-accepted =
-    given three (plain 0 1) (patch [] swap) (resolve three (plain 0 1) (patch [] swap) 16 emptyCache) swapEdits 1 (0 ∷ []) (trials .swap-full)
-    (demand-3 three (plain 0 1) (told-apart .targets .0) swap-fits (record { patch = patch [] swap; room = 16 } ∷ []) .0)
+unfolding any all has meets lastOr indices spillslotSize topLevelClass stackToStackClass regMemory bankForReg regUnits bankForClass classSlots classMembers allocationOrder firstOf valueBank rematCost rematClass updated andThen each find firstAt filter acquireFrom unevict unevictBut unevictForReg makeRoom slotScratch evictLast reuse orScratch getScratchReg moveEdits doMove carryOne carry remats rematWithScratch writerFrom writersOf writers cycleMoveSources divert lead undivert undivertAll close visit visitUnlessMemory start moves destinations add entryConditions patchConditions run resolveSorted resolveFrom resolve three standing askedAfter takeAnswer
+swap-accepted = demand-3 three (plain 0 1) (told-apart .targets .0) swap-fits (asking (patch [] swap) 16 ∷ taking 0 ∷ []) .1 .0
 
 slot-fits : function.Accepted three (plain 2 1)
 unfolding three indices valueBank rematCost rematClass isSetting function.countsFit function.valueFits function.foreignClass function.valuesRefusal function.functionRefusal
@@ -50,9 +51,10 @@ too-short = refl
 
 -- the second of two calls, after one that is refused
 slot-accepted : Accepted three (plain 2 1) slotToSlot slotEdits
+unfolding standing
 slot-accepted =
     given three (plain 2 1) slotToSlot (resolve three (plain 2 1) slotToSlot 8 emptyCache) slotEdits 1 (2 ∷ []) (trials .slot-to-slot)
-    (rw too-short at (demand-3 three (plain 2 1) (told-apart .targets .0) slot-fits (record { patch = slotToSlot; room = 0 } ∷ record { patch = slotToSlot; room = 8 } ∷ []) .1 .0))
+    (rw too-short at (demand-3 three (plain 2 1) (told-apart .targets .0) slot-fits (resolving slotToSlot 0 ∷ resolving slotToSlot 8 ∷ []) .1 .0))
 
 one-word : (a b v : ℕ) → length (words a b v) ≡ 1
 one-word a b zero = refl
@@ -165,14 +167,16 @@ unfolding indices valueBank rematCost rematClass isSetting function.countsFit fu
 arguments-fit = refl
 
 through-accepted : Accepted arguments (plain 2 2) (patch (4 ∷ []) swap) throughEdits
+unfolding standing
 through-accepted =
     given arguments (plain 2 2) (patch (4 ∷ []) swap) (resolve arguments (plain 2 2) (patch (4 ∷ []) swap) 16 emptyCache) throughEdits 0 [] (argument-words .through-a-word)
-    (demand-3 arguments (plain 2 2) (argument-words .targets .0) arguments-fit (record { patch = patch (4 ∷ []) swap; room = 16 } ∷ []) .0)
+    (demand-3 arguments (plain 2 2) (argument-words .targets .0) arguments-fit (resolving (patch (4 ∷ []) swap) 16 ∷ []) .0)
 
 words-accepted : Accepted arguments (plain 2 2) wordSwap wordEdits
+unfolding standing
 words-accepted =
     given arguments (plain 2 2) wordSwap (resolve arguments (plain 2 2) wordSwap 16 emptyCache) wordEdits 2 (3 ∷ 2 ∷ []) (argument-words .words-swapped)
-    (demand-3 arguments (plain 2 2) (argument-words .targets .0) arguments-fit (record { patch = wordSwap; room = 16 } ∷ []) .0)
+    (demand-3 arguments (plain 2 2) (argument-words .targets .0) arguments-fit (resolving wordSwap 16 ∷ []) .0)
 
 -- r0 and r1 have two units, and each content two words
 pairs-whole : (a b c d : ℕ) → Contents arguments (plain 2 2) (pairs a b c d)
@@ -269,9 +273,10 @@ unfolding twoBanks indices valueBank rematCost rematClass isSetting function.cou
 both-fit = refl
 
 both-accepted : Accepted twoBanks (ofTwo 4 2 2) bothStored bothEdits
+unfolding standing
 both-accepted =
     given twoBanks (ofTwo 4 2 2) bothStored (resolve twoBanks (ofTwo 4 2 2) bothStored 16 emptyCache) bothEdits 2 (5 ∷ 4 ∷ []) (two-kept .both-wait)
-    (demand-3 twoBanks (ofTwo 4 2 2) (two-kept .target) both-fit (record { patch = bothStored; room = 16 } ∷ []) .0)
+    (demand-3 twoBanks (ofTwo 4 2 2) (two-kept .target) both-fit (resolving bothStored 16 ∷ []) .0)
 
 both-whole : (a b : ℕ) → Contents twoBanks (ofTwo 4 2 2) (words a b)
 unfolding twoBanks regUnits

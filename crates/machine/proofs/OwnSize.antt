@@ -29,7 +29,7 @@ use Rattle.rules.proofs.News.{news-all, news-open, news-close}
 use Rattle.rules.proofs.Writers.{writers-low}
 use Rattle.rules.proofs.Sum.{sum-le, sum-part, sum-zero}
 use Rattle.machine.specs.Paid.{occurs, sign, live}
-use Rattle.machine.specs.Slots.{InStacks}
+use Rattle.machine.specs.Slots.{Stacked}
 use Rattle.machine.specs.Enough.{isSize, editSize, namesSlot}
 use Rattle.machine.proofs.Bound.{Placed, live-grown, live-kept}
 use Rattle.machine.proofs.Banked.{Banked}
@@ -712,7 +712,7 @@ module _ (t : RegInfo) (f : Function) where
             below : Every (λ i. i < n) (indices 0 n)
             below = every-index n 0 n (omega arith)
 
-      pub run-ended : InStacks f c₀ → Fair (stacked c₀) [] → (p : Patch) (a : Sorted) → SortedOk t f a → length (a .moves) ≤ 128 → All Ended (run t f p a c₀)
+      pub run-ended : Stacked f c₀ → Fair (stacked c₀) [] → (p : Patch) (a : Sorted) → SortedOk t f a → length (a .moves) ≤ 128 → All Ended (run t f p a c₀)
       unfolding run waits
       run-ended ins fair p a ok few =
           all-then P Ended (each (rematWithScratch t f) (a .rematsWithScratch) (remats t f (a .remats) k₀)) _

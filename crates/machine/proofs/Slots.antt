@@ -20,12 +20,14 @@ use Rattle.function.specs.Refused as function
 use Rattle.rules.specs.Edit.{Edit, Rematerialize, updated, andThen, each, find, filter}
 use Rattle.rules.specs.Scratch.{Cache, emptyCache, Evicted, ScratchAllocator, Acquired, push, withEvicted, Found, unevict, unevictAll, unevictBut, overlapsEvicted, unevictForReg, makeRoom, acquireFrom, acquire, release, releasePlace, usable, slotScratch, evictLast, reuse, orScratch, getScratchReg, nothingBarred, moveEdits, doMove, meeting, searchedTo}
 use Rattle.rules.specs.Order.{KeptMove, noMove, Remat, State, Pending, Done, isNew, isPending, Diverted, ParallelMoves, withState, carry, remats, doRemat, rematWithScratch, source, dest, value, bank, writers, cycleMoveSources, emit, noted, divert, carried, lead, lost, undivert, undivertAll, close, visit, visitUnlessMemory, start, moves}
-use Rattle.rules.specs.Patch.{Patch, Sorted, sorted, run, Answer, refused, resolved, resolve, Call, cacheAfter}
+use Rattle.rules.specs.Patch.{Patch, Sorted, sorted, run, Answer, refused, resolved, resolve, cacheAfter}
 use Rattle.rules.specs.Sorted.{MoveOk, RematOk, noRemat, SortedOk, Ran}
+use Rattle.rules.specs.Take.{Request, Served, fresh, Standing, stampedBy, standing, after}
 use Rattle.rules.proofs.Accepted.{accepted}
+use Rattle.rules.proofs.Take.{Previews, previews-fresh, previews-after, stands}
 use Rattle.rules.proofs.Parts.{Parts, all-parts, filter-parts, drop-parts, parts-sum}
 use Rattle.rules.proofs.Evictions.{unevict-evicted}
-use Rattle.machine.specs.Slots.{InStacks, Stays, SlotsClaim, SlotsLie}
+use Rattle.machine.specs.Slots.{Stacked, InStacks, Stays, SlotsClaim, SlotsLie}
 use Rattle.rules.proofs.Steps.{All, all-then, branch, same?, Every, every-getD, every-reverse, every-index, all-each, updated-at, updated-same, updated-other}
 use Rattle.rules.proofs.Writers.{writers-low}
 use Rattle.rules.specs.Counts.{bit, sum}
@@ -133,6 +135,22 @@ Count = ℕ → ℕ → ℕ
 
 abbrev pub stacked : Cache → Count
 stacked c s z = occurs s (c .stacks z)
+
+-- from one cache to the next: the slots made before lie where they lay, and the new ones lie in stacks
+pub record Onward (f : Function) (c c′ : Cache) : Type 0 where
+  pub stacked : Stacked f c′
+  pub grows : c .made ≤ c′ .made
+  pub stays : Stays c c′
+  pub old : (s z : ℕ) → s < f .slots + c .made → has s (c′ .stacks z) ≡ true → has s (c .stacks z) ≡ true
+  pub fresh : (s : ℕ) → f .slots + c .made ≤ s → s < f .slots + c′ .made → (z : ℕ) × (has s (c′ .stacks z) ≡ true)
+
+-- of a function alone
+in-stacks : (f : Function) (c c′ : Cache) → InStacks f c → Onward f c c′ → InStacks f c′
+in-stacks f c c′ ins o =
+    record {
+      listed = λ s lo hi. ⊎-elim (λ a. let q = ins .listed s lo a in (q .0, o .stays s (q .0) (q .1))) (λ a. o .fresh s a hi) (less? s (f .slots + c .made));
+      stacked = o .stacked;
+    }
 
 module _ (t : RegInfo) (f : Function) (c₀ : Cache) where
   -- each slot is counted once: an old one as at the start, a new one somewhere, and no other
@@ -571,12 +589,12 @@ module _ (t : RegInfo) (f : Function) (c₀ : Cache) where
     abbrev pub begun : Patch → ScratchAllocator
     begun p = record { edits = []; available = λ u. has u (p .free); evicted = []; cache = c₀; met = 0 }
 
-    pub begin-good : InStacks f c₀ → (p : Patch) → Kept (λ s y. 0) (begun p)
+    pub begin-good : Stacked f c₀ → (p : Patch) → Kept (λ s y. 0) (begun p)
     unfolding Kept waits
     begin-good ins p =
         record { grows = omega arith; old = λ s z h. omega arith; fresh = λ s h k. absurd (omega arith); none = λ s z h. omega (arith, occurs-none s (c₀ .stacks z) (never-true (has s (c₀ .stacks z)) (λ e. omega (arith, ins .below s z e)))) }
 
-    run-good : InStacks f c₀ → (p : Patch) (a : Sorted) → SortedOk t f a → All (λ k. Good (stacked (k .cache)) (k .cache .made)) (run t f p a c₀)
+    run-good : Stacked f c₀ → (p : Patch) (a : Sorted) → SortedOk t f a → All (λ k. Good (stacked (k .cache)) (k .cache .made)) (run t f p a c₀)
     unfolding run Kept waits
     run-good ins p a ok =
         all-then (Kept (λ s y. 0)) (λ k. Good (stacked (k .cache)) (k .cache .made)) (each (rematWithScratch t f) (a .rematsWithScratch) (remats t f (a .remats) (begun p))) _
@@ -585,7 +603,7 @@ module _ (t : RegInfo) (f : Function) (c₀ : Cache) where
         (λ k g. moves-good (a .moves) (ok .moves) k g)
 
   -- what the counts say of the stacks
-  module _ (ins : InStacks f c₀) (c : Cache) (g : Good (stacked c) (c .made)) where
+  module _ (ins : Stacked f c₀) (c : Cache) (g : Good (stacked c) (c .made)) where
     -- an old slot, a new one, or none
     Known : ℕ → ℕ → Type 0
     Known s z = ((s < f .slots + c₀ .made) × (has s (c₀ .stacks z) ≡ true)) ⊎ ((f .slots + c₀ .made ≤ s) × (s < f .slots + c .made) × (stacked c s z ≡ 1) × ((y : ℕ) → (y ≡ z → ⊥) → stacked c s y ≡ 0))
@@ -605,14 +623,10 @@ module _ (t : RegInfo) (f : Function) (c₀ : Cache) where
         (λ b. absurd (omega (arith, g .none s z b))) (less? s (f .slots + c .made)))
         (less? s (f .slots + c₀ .made))
 
-    in-stacks : InStacks f c
+    stacked-on : Stacked f c
     unfolding Known
-    in-stacks =
+    stacked-on =
         record {
-          listed = λ s lo hi.
-              ⊎-elim
-              (λ a. let q = ins .listed s lo a in (q .0, occurs-has s (c .stacks (q .0)) (omega (arith, g .old s (q .0) a, has-occurs s (c₀ .stacks (q .0)) (q .1)))))
-              (λ a. let q = g .fresh s a hi in (q .0, occurs-has s (c .stacks (q .0)) (omega (arith, q .1)))) (less? s (f .slots + c₀ .made));
           once = λ z.
               most-once (c .stacks z)
               (λ s. ⊎-elim (λ h. ⊎-elim (λ a. omega (arith, g .old s z (a .0), once-most (c₀ .stacks z) (ins .once z) s)) (λ a. omega (arith, a .2)) (known s z h)) (λ h. omega arith)
@@ -628,17 +642,36 @@ module _ (t : RegInfo) (f : Function) (c₀ : Cache) where
     stays : Stays c₀ c
     stays s z h = occurs-has s (c .stacks z) (omega (arith, g .old s z (ins .below s z h), has-occurs s (c₀ .stacks z) h))
 
+    onward : Onward f c₀ c
+    unfolding Known
+    onward =
+        record {
+          stacked = stacked-on;
+          grows = g .grows;
+          stays = stays;
+          old = λ s z l h. occurs-has s (c₀ .stacks z) (omega (arith, g .old s z l, has-occurs s (c .stacks z) h));
+          fresh = λ s lo hi. let q = g .fresh s lo hi in (q .0, occurs-has s (c .stacks (q .0)) (omega (arith, q .1)));
+        }
+
 -- "A new function starts with none."
 pub slots-empty : (f : Function) → InStacks f emptyCache
 unfolding has twice
 slots-empty f =
-    record { listed = λ s lo hi. absurd (omega arith); once = λ z. refl; sole = λ s y z a b. absurd (false≢true a); low = λ s z a. absurd (false≢true a); below = λ s z a. absurd (false≢true a) }
+    record {
+      listed = λ s lo hi. absurd (omega arith);
+      stacked = record { once = λ z. refl; sole = λ s y z a b. absurd (false≢true a); low = λ s z a. absurd (false≢true a); below = λ s z a. absurd (false≢true a) };
+    }
 
 -- so it is after every run
+pub run-onward :
+    (t : RegInfo) (f : Function) → target.Accepted t → Banked t f → (p : Patch) (a : Sorted) (c : Cache) (k : ScratchAllocator) → SortedOk t f a → Stacked f c → run t f p a c ≡ some k
+    → Onward f c (k .cache)
+run-onward t f at af p a c k ok ins e = onward t f c ins (k .cache) (subst (All (λ k. Good t f c (stacked (k .cache)) (k .cache .made))) e (run-good t f c at af ins p a ok))
+
 pub run-lies :
     (t : RegInfo) (f : Function) → target.Accepted t → Banked t f → (p : Patch) (a : Sorted) (c : Cache) (k : ScratchAllocator) → SortedOk t f a → InStacks f c → run t f p a c ≡ some k
     → InStacks f (k .cache)
-run-lies t f at af p a c k ok ins e = in-stacks t f c ins (k .cache) (subst (All (λ k. Good t f c (stacked (k .cache)) (k .cache .made))) e (run-good t f c at af ins p a ok))
+run-lies t f at af p a c k ok ins e = in-stacks f c (k .cache) ins (run-onward t f at af p a c k ok (ins .stacked) e)
 
 pub run-stacks :
     (t : RegInfo) (f : Function) → target.Accepted t → function.Accepted t f → (p : Patch) (a : Sorted) (c : Cache) (k : ScratchAllocator) → SortedOk t f a → InStacks f c → run t f p a c ≡ some k
@@ -667,7 +700,7 @@ module _ (a : ℕ) where
           more : (s : ℕ) → occurs s l ≤ occurs s (x ∷ l)
           more s = ⊎-elim (λ e. omega (arith, occurs-head s x l e)) (λ d. omega (arith, occurs-tail s x l d)) (same? s x)
 
-pub stack-few : (f : Function) (c : Cache) → InStacks f c → (z : ℕ) → length (c .stacks z) ≤ c .made
+pub stack-few : (f : Function) (c : Cache) → Stacked f c → (z : ℕ) → length (c .stacks z) ≤ c .made
 stack-few f c ins z =
     omega (
       arith,
@@ -681,18 +714,21 @@ pub slots-ok :
     (t : RegInfo) (f : Function) → target.Accepted t → function.Accepted t f → (p : Patch) (room : ℕ) (c c′ : Cache) (es : List Edit) → Ran t f p room c es c′ → InStacks f c
     → InStacks f c′ × Stays c c′
 slots-ok t f at af p room c c′ es r ins =
-    subst (λ x. InStacks f x × Stays c x) (sym (r .cache)) (in-stacks t f c ins (r .allocator .cache) good, stays t f c ins (r .allocator .cache) good)
-  where
-    good : Good t f c (stacked (r .allocator .cache)) (r .allocator .cache .made)
-    good = subst (All (λ k. Good t f c (stacked (k .cache)) (k .cache .made))) (r .ran) (run-good t f c at (banked t f af) ins p (sorted t f p) (r .ok))
+    let o = run-onward t f at (banked t f af) p (sorted t f p) c (r .allocator) (r .ok) (ins .stacked) (r .ran) in
+    subst (λ x. InStacks f x × Stays c x) (sym (r .cache)) (in-stacks f c (r .allocator .cache) ins o, o .stays)
 
 pub slots-lie : SlotsLie
-slots-lie t f at af calls = claim calls emptyCache (slots-empty f)
+slots-lie t f at af requests = claim requests fresh (previews-fresh t f) (slots-empty f)
   where
-    called : (x : Call) (c : Cache) (r : Answer) → resolve t f (x .patch) (x .room) c ≡ r → InStacks f c → InStacks f (cacheAfter c r) × Stays c (cacheAfter c r)
-    called x c (refused n) e ins = (ins, λ s z h. h)
-    called x c (resolved es c′ n) e ins = slots-ok t f at af (x .patch) (x .room) c c′ es (accepted t f (x .patch) (x .room) c c′ es n e) ins
+    called : (p : Patch) (room : ℕ) (c : Cache) (r : Answer) → resolve t f p room c ≡ r → InStacks f c → InStacks f (cacheAfter c r) × Stays c (cacheAfter c r)
+    called p room c (refused n) e ins = (ins, λ s z h. h)
+    called p room c (resolved es c′ n) e ins = slots-ok t f at af p room c c′ es (accepted t f p room c c′ es n e) ins
 
-    claim : (calls : List Call) (c : Cache) → InStacks f c → SlotsClaim t f calls c
-    claim [] c ins = ins
-    claim (x ∷ l) c ins = let y = called x c (resolve t f (x .patch) (x .room) c) refl ins in (ins, y .1, claim l (cacheAfter c (resolve t f (x .patch) (x .room) c)) (y .0))
+    requested : (x : Request) (s : Served) → Previews t f s → InStacks f (s .now .cache) → (o : Option Standing) → standing t f x s ≡ o
+        → InStacks f (stampedBy (s .now) o .cache) × Stays (s .now .cache) (stampedBy (s .now) o .cache)
+    requested x s k ins none e = (ins, λ s z h. h)
+    requested x s k ins (some y) e = ⊎-elim (λ h. rw h (ins, λ s z h. h)) (λ h. called (y .patch) (h .0) (s .now .cache) (y .answer) (h .1) ins) (stands t f x s k y e)
+
+    claim : (requests : List Request) (s : Served) → Previews t f s → InStacks f (s .now .cache) → SlotsClaim t f requests s
+    claim [] s k ins = ins
+    claim (x ∷ l) s k ins = let y = requested x s k ins (standing t f x s) refl in (ins, y .1, claim l (after t f x s) (previews-after t f x s k) (y .0))

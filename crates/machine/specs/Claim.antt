@@ -1,9 +1,9 @@
--- Demand 3, as one claim about a whole list of calls.
+-- Demand 3, as one claim about a whole list of requests.
 use Prim.Native.Nat.{ℕ, _<_, _≤_}
 use mathlib.Core.Path.{_≡_}
 use mathlib.Core.Bool.{false}
 use mathlib.Core.List.{List, [], _∷_, List·Memᴰ}
-use mathlib.Core.Option.{some}
+use mathlib.Core.Option.{Option, none, some}
 use mathlib.Core.Logic.{_⊎_}
 use lib.ListN.{length, getD, take}
 use Rattle.entity.specs.Logic.{any, has}
@@ -13,9 +13,10 @@ use Rattle.reginfo.specs.Refused as target
 use Rattle.function.specs.Function.{Function, numValues, valueBank}
 use Rattle.function.specs.Refused as function
 use Rattle.rules.specs.Edit.{Edit}
-use Rattle.rules.specs.Scratch.{Cache, emptyCache, unitsOfReg}
+use Rattle.rules.specs.Scratch.{Cache, unitsOfReg}
 use Rattle.rules.specs.Order.{KeptMove, noMove}
 use Rattle.rules.specs.Patch.{Entry, move, remat, Patch, sorted, bound, Answer, refused, resolved, resolve, Call, cacheAfter}
+use Rattle.rules.specs.Take.{Request, Served, fresh, Standing, standing, after}
 use Rattle.machine.specs.Machine.{Memory, inSlot, Machine, begin, read, steps, seen}
 
 -- where an entry puts its value, whatever becomes of it: kept, dropped or rebuilt
@@ -87,11 +88,22 @@ module _ (t : RegInfo) (f : Function) where
   Answered p (refused n) = Unit {0}
   Answered p (resolved es c n) = Accepted p es
 
-  -- call by call, each with the cache that the last one returned or left
+  -- 02 g: of what stands in the list, resolved or taken; nothing of a patch that is only asked for, nor where there is nothing to take
+  abbrev pub Owed : Option Standing → Type 0
+  Owed none = Unit {0}
+  Owed (some x) = Answered (x .patch) (x .answer)
+
+  -- request by request, each with the cache that the last one returned or left
+  abbrev pub RequestsClaim : List Request → Served → Type 0
+  RequestsClaim [] s = Unit {0}
+  RequestsClaim (x ∷ l) s = Owed (standing t f x s) × RequestsClaim l (after t f x s)
+
+  -- the same of `resolve` calls alone, as a job has them: what `RequestsClaim` says of them (`demand-3-of-calls`)
   abbrev pub Claim : List Call → Cache → Type 0
   Claim [] c = Unit {0}
   Claim (x ∷ l) c = Answered (x .patch) (resolve t f (x .patch) (x .room) c) × Claim l (cacheAfter c (resolve t f (x .patch) (x .room) c))
 
--- "For every list of one function's `resolve` calls from a fresh slot cache, refused ones included"
+-- "For every list of one function's `resolve` calls from a fresh slot cache, refused ones included"; 02 g: among them askings, which "are not part
+-- of the list", and takes: "a taken one stands in it as a resolved one, a take refused with 20 as a refused call"
 abbrev pub Demand3 : Type 0
-Demand3 = (t : RegInfo) (f : Function) → target.Accepted t → function.Accepted t f → (calls : List Call) → Claim t f calls emptyCache
+Demand3 = (t : RegInfo) (f : Function) → target.Accepted t → function.Accepted t f → (requests : List Request) → RequestsClaim t f requests fresh

@@ -3,6 +3,7 @@ use Prim.Native.Nat.{ℕ, _+_, _*_, _<_, _≤_}
 use mathlib.Core.Path.{_≡_}
 use mathlib.Core.Bool.{Bool, true}
 use mathlib.Core.List.{List, [], _∷_, _++_, List·Memᴰ}
+use mathlib.Core.Option.{Option, none, some}
 use lib.Dec.{eqb}
 use lib.ListN.{length}
 use Rattle.entity.specs.Logic.{or, any, has, indices}
@@ -12,9 +13,10 @@ use Rattle.reginfo.specs.Refused as target
 use Rattle.function.specs.Function.{Function, numValues, valueBank}
 use Rattle.function.specs.Refused as function
 use Rattle.rules.specs.Edit.{Edit, Move, Rematerialize, EmergencySpill, EmergencyReload, filter}
-use Rattle.rules.specs.Scratch.{Cache, emptyCache}
+use Rattle.rules.specs.Scratch.{Cache}
 use Rattle.rules.specs.Patch.{Answer, refused, resolved, resolve, Call, cacheAfter}
 use Rattle.rules.specs.Refusals.{withLimit}
+use Rattle.rules.specs.Take.{Request, Served, fresh, Standing, standing, answered, after}
 use Rattle.machine.specs.Slots.{InStacks}
 
 -- how many of the 32 slot sizes pass a test
@@ -37,7 +39,12 @@ abbrev pub numBankSizes : RegInfo → ℕ
 numBankSizes t = sizesThat (isBankSize t)
 
 module _ (t : RegInfo) (f : Function) where
-  -- "a function never meets 17", call by call, each with the cache that the last one returned or left
+  -- "a function never meets 17", request by request (02 g), askings too, each with the cache that the last one returned or left
+  abbrev pub RequestsNeverOut : List Request → Served → Type 0
+  RequestsNeverOut [] s = Unit {0}
+  RequestsNeverOut (x ∷ l) s = (answered t f x s ≡ some (refused 17) → ⊥) × RequestsNeverOut l (after t f x s)
+
+  -- the same of `resolve` calls alone
   abbrev pub NeverOut : List Call → Cache → Type 0
   NeverOut [] c = Unit {0}
   NeverOut (x ∷ l) c = (resolve t f (x .patch) (x .room) c ≡ refused 17 → ⊥) × NeverOut l (cacheAfter c (resolve t f (x .patch) (x .room) c))
@@ -62,7 +69,7 @@ module _ (t : RegInfo) (f : Function) where
   abbrev pub InTheirStacks : List Edit → Cache → Type 0
   InTheirStacks es c = (e : Edit) → List·Memᴰ e es → (s : ℕ) → f .slots ≤ s → namesSlot s e ≡ true → has s (c .stacks (editSize e)) ≡ true
 
-  -- of a resolved call: so it is after it, and an edit of it names every slot that it made
+  -- of a resolved call, a take or an asking (of the cache that its take makes): so it is after it, and an edit of it names every slot that it made
   pub record OfItsSize (c : Cache) (es : List Edit) (c′ : Cache) : Type 0 where
     pub lies : InTheirStacks es c′
     pub named : (s : ℕ) → f .slots + c .made ≤ s → s < f .slots + c′ .made → any (namesSlot s) es ≡ true
@@ -71,11 +78,19 @@ module _ (t : RegInfo) (f : Function) where
   Sized c (refused n) = Unit {0}
   Sized c (resolved es c′ n) = OfItsSize c es c′
 
+  abbrev pub SizedIn : Cache → Option Answer → Type 0
+  SizedIn c none = Unit {0}
+  SizedIn c (some r) = Sized c r
+
   abbrev pub editsOf : Answer → List Edit
   editsOf (refused n) = []
   editsOf (resolved es c n) = es
 
-  -- "between patches every slot made lies in the stack of its size once": `es` are the edits of all calls so far. A slot's size is that of the
+  abbrev pub editsIn : Option Standing → List Edit
+  editsIn none = []
+  editsIn (some x) = editsOf (x .answer)
+
+  -- "between patches every slot made lies in the stack of its size once": `es` are the edits of all patches resolved or taken so far. A slot's size is that of the
   -- bank of the edits that name it.
   pub record Between (es : List Edit) (c : Cache) : Type 0 where
     -- in exactly one stack, once
@@ -85,6 +100,12 @@ module _ (t : RegInfo) (f : Function) where
     -- an edit names each
     pub named : (s : ℕ) → f .slots ≤ s → s < f .slots + c .made → any (namesSlot s) es ≡ true
 
+  abbrev pub RequestsSizes : List Request → List Edit → Served → Type 0
+  RequestsSizes [] es s = Between es (s .now .cache)
+  RequestsSizes (x ∷ l) es s =
+      Between es (s .now .cache) × SizedIn (s .now .cache) (answered t f x s) × RequestsSizes l (es ++ editsIn (standing t f x s)) (after t f x s)
+
+  -- the same of `resolve` calls alone
   abbrev pub SizesClaim : List Call → List Edit → Cache → Type 0
   SizesClaim [] es c = Between es c
   SizesClaim (x ∷ l) es c =
@@ -92,12 +113,12 @@ module _ (t : RegInfo) (f : Function) where
       × SizesClaim l (es ++ editsOf (resolve t f (x .patch) (x .room) c)) (cacheAfter c (resolve t f (x .patch) (x .room) c))
 
 abbrev pub EachOfItsSize : Type 0
-EachOfItsSize = (t : RegInfo) (f : Function) → target.Accepted t → function.Accepted t f → (calls : List Call) → SizesClaim t f calls [] emptyCache
+EachOfItsSize = (t : RegInfo) (f : Function) → target.Accepted t → function.Accepted t f → (requests : List Request) → RequestsSizes t f requests [] fresh
 
 -- so many a size and so many more as evictions are kept
 abbrev pub EnoughWith : ℕ → Type 0
 EnoughWith n =
-    (t : RegInfo) (f : Function) → target.Accepted t → function.Accepted t f → (n + f .kept) * numSizes t f ≤ f .limit → (calls : List Call) → NeverOut t f calls emptyCache
+    (t : RegInfo) (f : Function) → target.Accepted t → function.Accepted t f → (n + f .kept) * numSizes t f ≤ f .limit → (requests : List Request) → RequestsNeverOut t f requests fresh
 
 -- "With one kept eviction, [..] a function never meets 17 if L is at least 129 times the number of different slot sizes among its banks, for
 -- every list of demand 3 [..]. With two, 130 stands for 129."
@@ -111,9 +132,9 @@ FewerEnough = EnoughWith 127
 -- the same with the sizes of all the target's banks
 abbrev pub EnoughForTarget : Type 0
 EnoughForTarget =
-    (t : RegInfo) (f : Function) → target.Accepted t → function.Accepted t f → (128 + f .kept) * numBankSizes t ≤ f .limit → (calls : List Call) → NeverOut t f calls emptyCache
+    (t : RegInfo) (f : Function) → target.Accepted t → function.Accepted t f → (128 + f .kept) * numBankSizes t ≤ f .limit → (requests : List Request) → RequestsNeverOut t f requests fresh
 
--- "an L to plan with": at most 1,040, one that the function may have, and with it no call gets 17
+-- "an L to plan with": at most 1,040, one that the function may have, and with it no request gets 17
 abbrev pub enoughSlots : RegInfo → Function → ℕ
 enoughSlots t f = (128 + f .kept) * numSizes t f
 
@@ -123,4 +144,4 @@ planned t f = withLimit t f (enoughSlots t f)
 abbrev pub Plan : Type 0
 Plan =
     (t : RegInfo) (f : Function) → target.Accepted t → function.Accepted t f
-    → (enoughSlots t f ≤ 1040) × function.Accepted t (planned t f) × ((calls : List Call) → NeverOut t (planned t f) calls emptyCache)
+    → (enoughSlots t f ≤ 1040) × function.Accepted t (planned t f) × ((requests : List Request) → RequestsNeverOut t (planned t f) requests fresh)

@@ -8,7 +8,7 @@ use Rattle.function.specs.Table.{functionOf}
 use Rattle.rules.specs.Scratch.{Cache, emptyCache}
 use Rattle.rules.specs.Patch.{Answer, refused, resolved, Call, cacheAfter}
 use Rattle.machine.specs.Claim as rules
-use Rattle.machine.proofs.Demand.{demand-3}
+use Rattle.machine.proofs.Demand.{demand-3-of-calls}
 use Rattle.slots.specs.Stacks.{cacheOf}
 use Rattle.parallel_moves.specs.Given.{CacheOk}
 use Rattle.parallel_moves.specs.Answers.{Gives}
@@ -47,4 +47,4 @@ module _ (t f : List ℕ) where
 
 pub demand-3-of-the-code : Demand3
 demand-3-of-the-code t f known calls cache cleared h =
-    claims t f calls cache emptyCache (cleared .empty) (fresh f cache cleared) h (demand-3 (regInfoOf t) (functionOf f) (known .target) (known .function) (map call calls))
+    claims t f calls cache emptyCache (cleared .empty) (fresh f cache cleared) h (demand-3-of-calls (regInfoOf t) (functionOf f) (known .target) (known .function) (map call calls))

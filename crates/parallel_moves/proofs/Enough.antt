@@ -66,7 +66,7 @@ module _ (t f : List ℕ) where
 -- whatever the number of each size that is enough by the rules
 enough-with : (n : ℕ) → rules.EnoughWith n → EnoughWith n
 enough-with n by t f known h calls cache cleared made =
-    never t f calls cache emptyCache (demand-3-of-the-code t f known calls cache cleared made) (by (regInfoOf t) (functionOf f) (known .target) (known .function) h (map call calls))
+    never t f calls cache emptyCache (demand-3-of-the-code t f known calls cache cleared made) (rule.enough-for-calls n by (regInfoOf t) (functionOf f) (known .target) (known .function) h (map call calls))
 
 pub enough-for-the-code : Enough
 enough-for-the-code = enough-with 128 rule.enough
@@ -76,4 +76,4 @@ fewer-enough-for-the-code = enough-with 127 rule.fewer-enough
 
 pub each-of-its-size-in-the-code : EachOfItsSize
 each-of-its-size-in-the-code t f known calls cache cleared made =
-    sizes t f calls [] cache emptyCache (cleared .empty) (demand-3-of-the-code t f known calls cache cleared made) (rule.each-of-its-size (regInfoOf t) (functionOf f) (known .target) (known .function) (map call calls))
+    sizes t f calls [] cache emptyCache (cleared .empty) (demand-3-of-the-code t f known calls cache cleared made) (rule.each-of-its-size-in-calls (regInfoOf t) (functionOf f) (known .target) (known .function) (map call calls))

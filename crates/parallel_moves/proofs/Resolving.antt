@@ -125,7 +125,7 @@ module _ (t f cache e w list : List ℕ) (known : Checked t f) (ok : EntriesOk t
           room = omega (arith, few-edits, bounded passed);
           put = stocked (ran .fits) .put;
           untouched = ran .fits .untouched;
-          deep = λ h z l. omega (arith, stack-few (functionOf f) (cacheIn k (x .slots) cache) (in-stacks h) z, low-limit (T t) (functionOf f) (known .function));
+          deep = λ h z l. omega (arith, stack-few (functionOf f) (cacheIn k (x .slots) cache) (in-stacks h .stacked) z, low-limit (T t) (functionOf f) (known .function));
         }
 
     module _ (r : Resolved) (list′ cache′ : List ℕ) (out : HandedOver f cache list k (x .edits) (x .slots) r list′ cache′) (p : Patch) (q : Same p) where

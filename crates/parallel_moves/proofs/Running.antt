@@ -60,7 +60,7 @@ module _ (t f cache e w : List ℕ) (known : Checked t f) (ok : EntriesOk t f e 
     k₀ = record { evicted = Nothing; made = made }
 
     low : Stacked (stacksOf slots cache)
-    low = rw (begun .stacks) (λ z s h. omega (arith, cached .stacks .below s z h, cached .made, few-slots (T t) (functionOf f) (known .function), low-limit (T t) (functionOf f) (known .function)))
+    low = rw (begun .stacks) (λ z s h. omega (arith, cached .stacks .stacked .below s z h, cached .made, few-slots (T t) (functionOf f) (known .function), low-limit (T t) (functionOf f) (known .function)))
 
     fits₀ : Fits 0 2 1024 t k₀ edits slots cache
     fits₀ =

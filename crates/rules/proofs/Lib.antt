@@ -12,3 +12,5 @@ pub mod Tested
 pub mod Refusals
 pub mod Limit
 pub mod Enough
+pub mod Take
+pub mod TakeTrials

@@ -9,3 +9,5 @@ pub mod Patch
 pub mod Sorted
 pub mod Trials
 pub mod Refusals
+pub mod Take
+pub mod TakeTrials

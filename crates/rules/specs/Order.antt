@@ -6,7 +6,7 @@ use mathlib.Core.Option.{Option, none, some}
 use lib.Dec.{eqb}
 use lib.ListN.{length, getD}
 use Rattle.entity.specs.Logic.{pick, and, or, no, any, has, indices}
-use Rattle.entity.specs.Place.{Place, slot}
+use Rattle.entity.specs.Place.{Place, reg, slot}
 use Rattle.reginfo.specs.RegInfo.{RegInfo, bankForClass, spillslotSize, topLevelClass, placeUnits, isMemory}
 use Rattle.function.specs.Function.{Function, valueBank, rematClass}
 use Rattle.rules.specs.Edit.{Rematerialize, updated, andThen, each}
@@ -182,7 +182,7 @@ module _ (t : RegInfo) (f : Function) where
     visitUnlessMemory i w = pick (or (isMemory t (source i)) (isMemory t (dest i))) (some w) (visit (length ms) i w)
 
     unfoldable pub start : ScratchAllocator → ParallelMoves
-    start k = record { allocator = k; state = λ i. New; alloc = λ v. slot 0; scratch = λ v. slot 0; diverted = record { refCount = λ v. 0; values = λ i. [] } }
+    start k = record { allocator = k; state = λ i. New; alloc = λ v. reg 0; scratch = λ v. reg 0; diverted = record { refCount = λ v. 0; values = λ i. [] } }
 
     -- "two passes over the kept moves"; "At the end the evicted register is saved."; 02 i: "the end of a patch brings back all held"
     unfoldable pub moves : ScratchAllocator → Option ScratchAllocator

@@ -1,0 +1,42 @@
+-- The trials of 02 l, by computation.
+use mathlib.Core.Path.{refl}
+use Rattle.entity.specs.Logic.{any, all, has, meets, twice, lastOr, indices}
+use Rattle.reginfo.specs.RegInfo.{spillslotSize, topLevelClass, stackToStackClass, regMemory, bankForReg, regUnits, bankForClass, classSlots, classMembers, allocationOrder}
+use Rattle.reginfo.specs.Refused.{orderTotal, countsFit, bankFits, regFits, classFits, outsideLimits, listedTwice, unequalWidths, foreignMember, sharedMemory, unfitClass, firstOf, targetRefusal}
+use Rattle.function.specs.Function.{valueBank, rematCost, rematClass, isSetting}
+use Rattle.function.specs.Refused as function
+use Rattle.rules.specs.Edit.{updated, andThen, each, find, firstAt, filter}
+use Rattle.rules.specs.Scratch.{acquireFrom, unevict, unevictBut, unevictForReg, makeRoom, slotScratch, evictLast, reuse, orScratch, getScratchReg, moveEdits, doMove}
+use Rattle.rules.specs.Order.{carryOne, carry, remats, rematWithScratch, writerFrom, writersOf, writers, cycleMoveSources, divert, lead, undivert, undivertAll, close, visit, visitUnlessMemory, start, moves}
+use Rattle.rules.specs.Counts.{sum}
+use Rattle.rules.specs.Patch.{destinations, add, entryConditions, patchConditions, run, resolveSorted, resolveFrom, resolve}
+use Rattle.rules.specs.Trials.{three, halves}
+use Rattle.rules.specs.Take.{takeAnswer}
+use Rattle.machine.specs.Enough.{sizesThat}
+use Rattle.frame_rules.specs.Frame.{total, frameConditions, formulaRefusal, formulasRefusal, firstSlots, openRefusal, othersLack, reach, resolveIn, takeIn, standingIn, answeredIn, askedIn, afterCalls}
+use Rattle.frame_rules.specs.FrameTrials.{FrameTrials}
+
+pub frame-trials : FrameTrials
+unfolding any all has meets lastOr indices spillslotSize topLevelClass stackToStackClass regMemory bankForReg regUnits bankForClass classSlots classMembers allocationOrder firstOf valueBank rematCost rematClass updated andThen each find firstAt filter acquireFrom unevict unevictBut unevictForReg makeRoom slotScratch evictLast reuse orScratch getScratchReg moveEdits doMove carryOne carry remats rematWithScratch writerFrom writersOf writers cycleMoveSources divert lead undivert undivertAll close visit visitUnlessMemory start moves destinations add entryConditions patchConditions run resolveSorted resolveFrom resolve three halves sizesThat takeAnswer sum orderTotal countsFit bankFits regFits classFits outsideLimits listedTwice unequalWidths foreignMember sharedMemory unfitClass targetRefusal twice isSetting function.countsFit function.valueFits function.foreignClass function.valuesRefusal function.functionRefusal total frameConditions formulaRefusal formulasRefusal firstSlots openRefusal othersLack reach resolveIn takeIn standingIn answeredIn askedIn afterCalls
+frame-trials =
+    record {
+      promised = refl;
+      one-counter = refl;
+      refused-first = refl;
+      unchanged = refl;
+      above-share = refl;
+      slot-between = refl;
+      none-made = refl;
+      none-between = refl;
+      renamed-since = refl;
+      alone = refl;
+      nothing-left = refl;
+      shares-above = refl;
+      setting = refl;
+      another-n = refl;
+      n-before-values = (refl, refl);
+      no-formula = refl;
+      limit-over = refl;
+      enough = (refl, refl);
+      opens = refl;
+    }

@@ -1,0 +1,12 @@
+pub mod FrameTrials
+pub mod Calls
+pub mod Promise
+pub mod Takes
+pub mod Given
+pub mod Unread
+pub mod Claim
+pub mod Rename
+pub mod Lifted
+pub mod Beside
+pub mod EnoughShare
+pub mod Independent

@@ -1,0 +1,6 @@
+pub mod Frame
+pub mod FrameTrials
+pub mod Promise
+pub mod Takes
+pub mod Claim
+pub mod Renamed

@@ -1,0 +1,29 @@
+-- The trials of 02 g, by computation.
+use mathlib.Core.Path.{refl}
+use Rattle.entity.specs.Logic.{any, all, has, meets, lastOr, indices}
+use Rattle.reginfo.specs.RegInfo.{spillslotSize, topLevelClass, stackToStackClass, regMemory, bankForReg, regUnits, bankForClass, classSlots, classMembers, allocationOrder}
+use Rattle.reginfo.specs.Refused.{firstOf}
+use Rattle.function.specs.Function.{valueBank, rematCost, rematClass}
+use Rattle.rules.specs.Edit.{updated, andThen, each, find, firstAt, filter}
+use Rattle.rules.specs.Scratch.{acquireFrom, unevict, unevictBut, unevictForReg, makeRoom, slotScratch, evictLast, reuse, orScratch, getScratchReg, moveEdits, doMove}
+use Rattle.rules.specs.Order.{carryOne, carry, remats, rematWithScratch, writerFrom, writersOf, writers, cycleMoveSources, divert, lead, undivert, undivertAll, close, visit, visitUnlessMemory, start, moves}
+use Rattle.rules.specs.Patch.{destinations, add, entryConditions, patchConditions, run, resolveSorted, resolveFrom, resolve}
+use Rattle.rules.specs.Trials.{three}
+use Rattle.rules.specs.Take.{takeAnswer, standing, answered, askedAfter, afterAll}
+use Rattle.rules.specs.TakeTrials.{TakeTrials}
+
+pub take-trials : TakeTrials
+unfolding any all has meets lastOr indices spillslotSize topLevelClass stackToStackClass regMemory bankForReg regUnits bankForClass classSlots classMembers allocationOrder firstOf valueBank rematCost rematClass updated andThen each find firstAt filter acquireFrom unevict unevictBut unevictForReg makeRoom slotScratch evictLast reuse orScratch getScratchReg moveEdits doMove carryOne carry remats rematWithScratch writerFrom writersOf writers cycleMoveSources divert lead undivert undivertAll close visit visitUnlessMemory start moves destinations add entryConditions patchConditions run resolveSorted resolveFrom resolve three standing answered askedAfter afterAll takeAnswer
+take-trials =
+    record {
+      twice-told = refl;
+      twice-led = (refl, refl, refl);
+      same-told = refl;
+      same-led = (refl, refl, refl);
+      refused-told = refl;
+      refused-led = (refl, refl, refl);
+      nothing-told = refl;
+      nothing-led = (refl, refl, refl);
+      again-told = refl;
+      again-led = (refl, refl, refl);
+    }
