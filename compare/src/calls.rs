@@ -56,7 +56,7 @@ impl Room {
 
 /// A target and a function, and who resolves its patches.
 pub struct Function {
-    judge: Judge,
+    pub(crate) judge: Judge,
     pub(crate) target: Target,
     pub(crate) values: Values,
 }

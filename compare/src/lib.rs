@@ -16,6 +16,7 @@ pub mod reading;
 pub mod replay;
 pub mod tally;
 pub mod target;
+pub mod tries;
 pub mod words;
 
 mod patch;

@@ -14,7 +14,8 @@ use judge::plain::Slip;
 use judge::random::Random;
 use judge::replay::{self, Record};
 use judge::tally::Tally;
-use judge::{answer, calls, encode, frame};
+use judge::tries::Asked;
+use judge::{answer, calls, encode, frame, tries};
 
 const HELP: &str = "\
 compare answer [SETTING]
@@ -58,6 +59,10 @@ compare calls SEED COUNT
     ROOM is the length of the lent list; the words are those of the edits.
     POSITION is the greatest that the patch met, and 0 if it is refused. ENOUGH is
     the L to plan with, and 0 if the function is refused.
+compare tries SEED PATCHES M R S L
+    Reads a job on standard input, draws patches of its function from the seed, and
+    prints the counts at both settings, with these prices; or `refused` and the
+    number. An argument that is no decimal number is outside its range.
 compare tally
     Reads answers, each after its length, and prints counts over them.
     Fails if there is a panic among them.
@@ -91,6 +96,7 @@ fn main() -> ExitCode {
         ["replay", seed, folder] => write_replay(seed, Path::new(folder)),
         ["replay-trials", file] => write_replay_of_trials(file),
         ["calls", seed, count] => write_calls(seed, count),
+        ["tries", seed, patches, m, r, s, l] => try_settings(seed, patches, [m, r, s, l]),
         ["tally"] => tally(),
         ["--help" | "help"] => io::stdout()
             .write_all(help().as_bytes())
@@ -234,6 +240,19 @@ fn write_records(records: &[Record]) -> Outcome {
     }
     output.flush()?;
     Ok(())
+}
+
+fn try_settings(seed: &str, patches: &str, prices: [&str; 4]) -> Outcome {
+    let outside = u64::MAX;
+    let asked = Asked {
+        seed: seed.parse().unwrap_or(outside),
+        patches: patches.parse().unwrap_or(outside),
+        prices: prices.map(|price| price.parse().unwrap_or(outside)),
+    };
+    answer_one(|job| match tries::tried(asked, job) {
+        Ok(tried) => tried.to_string(),
+        Err(refused) => format!("refused {}\n", refused.0),
+    })
 }
 
 fn tally() -> Outcome {
