@@ -187,6 +187,7 @@ fn try_once(
         &numbers[..n],
         cache,
         list,
+        true,
         e,
         w,
         available,

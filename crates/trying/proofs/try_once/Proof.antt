@@ -2,6 +2,7 @@
 use Prim.Native.Nat.{_*_}
 use native.Mathlib.Omega.{arith}
 use mathlib.Core.Path.{sym, _∙_}
+use mathlib.Core.Bool.{false≢true}
 use borrow.Author.Needs.{needs}
 use lib.ListN.{take}
 use lib.Seq.{length-take-le}
@@ -31,7 +32,7 @@ slice-aggregate-resolve-patch c =
     sym (length-take-le (d .result .count * 4) (d .last .1 .1 .1 .0) (omega (arith, d .ensures .few, d .ensures .long, s .pre .0 .numbers-long)))
 
 resolve-patch-requires : tie.Need-resolve-patch-requires
-resolve-patch-requires c κs = search needs
+resolve-patch-requires c κs = (search needs, search needs, λ q u. absurd (false≢true (sym q)))
 
 count-requires : tie.Need-count-requires
 count-requires c κs =
