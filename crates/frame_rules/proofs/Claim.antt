@@ -102,10 +102,10 @@ module _ (limit : ℕ) (l : List Inlined) (ok : openRefusal limit l ≡ none) wh
       (standing-ok s g co x (k .0) _ refl .0, claim xs (k .1) (afterCall s x) (known-after limit l s x (k .0) g) (caches-after s g co x (k .0)))
 
   -- ---- where the slots lie
-  abbrev N : ℕ
+  abbrev pub N : ℕ
   N = firstSlots l
 
-  stacked-of : (s : Frame) → Known limit l s → FrameStacks N s → (i : ℕ) → i < length l → Stacked (functionIn s i) (cacheIn s i)
+  pub stacked-of : (s : Frame) → Known limit l s → FrameStacks N s → (i : ℕ) → i < length l → Stacked (functionIn s i) (cacheIn s i)
   stacked-of s g k i h =
       let n : i < s .number = omega (arith, g .sound .number, h) in
       record {
@@ -164,7 +164,7 @@ module _ (limit : ℕ) (l : List Inlined) (ok : openRefusal limit l ≡ none) wh
   stays-on : (f : Function) (c : Cache) → Stacked f c → Onward f c c
   stays-on f c k = record { stacked = k; grows = omega arith; stays = λ s z a. a; old = λ s z b a. a; fresh = λ s lo hi. absurd (omega arith) }
 
-  onward-of : (s : Frame) (g : Known limit l s) (k : FrameStacks N s) (j : ℕ) (h : j < length l) (c : Counted) → Moved s j c → Onward (functionIn s j) (cacheIn s j) (c .cache)
+  pub onward-of : (s : Frame) (g : Known limit l s) (k : FrameStacks N s) (j : ℕ) (h : j < length l) (c : Counted) → Moved s j c → Onward (functionIn s j) (cacheIn s j) (c .cache)
   unfolding resolveIn
   onward-of s g k j h c (inl q) = rw (q .0) (stays-on (functionIn s j) (cacheIn s j) (stacked-of s g k j h))
   onward-of s g k j h c (inr q) =

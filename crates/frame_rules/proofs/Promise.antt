@@ -12,7 +12,7 @@ use borrow.Author.Tests.{ltb-true, ltb-false, lt-ltb, le-ltb}
 use Rattle.entity.specs.Logic.{or}
 use Rattle.reginfo.proofs.First.{first-none}
 use Rattle.reginfo.specs.Refused.{firstOf}
-use Rattle.rules.specs.Scratch.{Cache, ScratchAllocator}
+use Rattle.rules.specs.Scratch.{Cache, ScratchAllocator, acquireFrom}
 use Rattle.rules.specs.Counts.{sum}
 use Rattle.rules.specs.Patch.{refused, answerOf, sorted}
 use Rattle.rules.specs.Take.{Counted, stampedBy}
@@ -20,7 +20,7 @@ use Rattle.rules.proofs.Enough.{only-by-slots}
 use Rattle.rules.proofs.Tested.{tested}
 use Rattle.rules.proofs.Sum.{sum-change, sum-zero}
 use Rattle.frame_rules.specs.Frame.{Inlined, total, frameConditions, orGiven, openRefusal, formulasRefusal, firstSlots, Asked, Formula, Frame, noFormula, opened, lacks, othersLack, greater, reach, cacheIn, nowIn, functionIn, resolveIn, standingIn, askedIn, madeTo, withCache, FrameCall, afterCall, afterCalls, Named}
-use Rattle.frame_rules.specs.Promise.{MayMake, Kept, PromisedTo, Promised}
+use Rattle.frame_rules.specs.Promise.{MayMake, MakesSlot, Kept, PromisedTo, Promised}
 use Rattle.frame_rules.proofs.Calls.{along, sum-cong, most, least, either, reach-far, lack-split, resolved-within, Moved, PreviewsIn, moved, at-own, at-other, previews-after, previews-opened}
 
 pub may-make : MayMake
@@ -41,6 +41,10 @@ may-make s i x h =
         let q : sh ≤ ma + (x - s .counter) = ltb-false _ _ e in
         let r : s .limit ≤ x + la = ltb-false _ _ k in
         le-ltb x (s .counter + greater (sh - ma) (s .limit - (s .counter + la))) (omega (arith, least (sh - ma) (s .limit - (s .counter + la)) (x - s .counter) (omega arith) (omega arith)))
+
+pub makes-slot : MakesSlot
+unfolding acquireFrom
+makes-slot s i z c h e = rw (e, may-make s i (c .made) h) refl
 
 -- ---- what every call keeps
 -- slots made up to reach

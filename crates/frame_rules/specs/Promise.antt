@@ -1,11 +1,12 @@
 -- 02 l: the promised shares.
 use Prim.Native.Nat.{ℕ, _+_, _-_, _*_, _<_, _≤_}
 use mathlib.Core.Path.{_≡_}
-use mathlib.Core.List.{List}
+use mathlib.Core.List.{List, []}
 use mathlib.Core.Option.{none, some}
 use lib.Dec.{ltb}
 use lib.ListN.{length, getD}
-use Rattle.rules.specs.Scratch.{ScratchAllocator}
+use Rattle.entity.specs.Logic.{pick}
+use Rattle.rules.specs.Scratch.{Cache, ScratchAllocator, acquire}
 use Rattle.rules.specs.Counts.{sum}
 use Rattle.rules.specs.Patch.{Patch, refused, sorted}
 use Rattle.rules.specs.Refusals.{EndsWithSlots}
@@ -16,6 +17,14 @@ use Rattle.frame_rules.specs.Frame.{Inlined, openRefusal, Frame, noFormu
 -- the one number of a call says of each slot what the sentence says: whatever the frame, a slot is made below `reach` exactly where it may be
 abbrev pub MayMake : Type 0
 MayMake = (s : Frame) (i x : ℕ) → s .counter ≤ x → ltb x (reach s i) ≡ mayMake s i x
+
+-- so a slot that is needed, its stack being empty, is made exactly where the formula may make it, with the counter's number; "otherwise its patch
+-- gets 17": none
+abbrev pub MakesSlot : Type 0
+MakesSlot =
+    (s : Frame) (i z : ℕ) (c : Cache) → s .counter ≤ c .made → c .stacks z ≡ []
+    → acquire (s .formulas i .target) (functionIn s i) z c
+    ≡ pick (mayMake s i (c .made)) (some (record { slot = s .formulas i .function .slots + c .made; cache = record { stacks = c .stacks; made = c .made + 1 } })) none
 
 -- between calls: the counter is the slots made, and with what all lack of their shares they are within the limit
 pub record Kept (s : Frame) : Type 0 where
