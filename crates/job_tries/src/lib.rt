@@ -1,0 +1,152 @@
+// 02 n: a job's function tried at both settings.
+use carried::Carried;
+use edit::Edits;
+use entries::Entries;
+use function::Function;
+use number::Number;
+use price::Prices;
+use reginfo::RegInfo;
+use scratch::Diverted;
+use slots::SlotCache;
+use slots::Slots;
+use small_set::RegUnitSet;
+use sparse::SparseMap;
+use trying::Tally;
+use visits::Marks;
+ghost use mathlib.Core.Path.{_≡_};
+ghost use mathlib.Core.Bool.{true};
+ghost use Prim.Native.Nat.{_≤_};
+ghost use Rattle.entity.specs.Logic.{Anything};
+ghost use Rattle.reginfo.specs.Table.{regInfoOf};
+ghost use Rattle.function.specs.Known.{Checked};
+ghost use Rattle.function.specs.Table.{functionOf};
+ghost use Rattle.price.specs.Price.{inRange};
+ghost use Rattle.job_tries.specs.Tries.{asked, Both, TriedBy};
+
+// Both settings, one after the other, from the same seed.
+fn try_both(
+    t: &RegInfo,
+    f: &mut Function,
+    p: Prices,
+    seed: u32,
+    patches: usize,
+    one: &mut Tally,
+    two: &mut Tally,
+    cache: &mut SlotCache,
+    e: &mut Entries,
+    w: &mut SparseMap,
+    available: &mut RegUnitSet,
+    sources: &mut RegUnitSet,
+    edits: &mut Edits,
+    slots: &mut Slots,
+    d: &mut Diverted,
+    marks: &mut Marks,
+    c: &mut Carried,
+)
+    requires { ⌜ Checked (now t) (now f) × (inRange p ≡ true) × (patches ≤ 1024) ⌝ }
+    ensures { λ _. ⌜ Both (regInfoOf (now (t .entry))) (functionOf (now (f .entry))) p seed patches (now (one .exit)) (now (two .exit)) ⌝ }
+    ensures { λ _. ⌜ Anything (now (f .exit)) × Anything (now (cache .exit)) × Anything (now (e .exit)) × Anything (now (w .exit)) × Anything (now (available .exit)) × Anything (now (sources .exit)) × Anything (now (edits .exit)) × Anything (now (slots .exit)) × Anything (now (d .exit)) × Anything (now (marks .exit)) × Anything (now (c .exit)) ⌝ }
+{
+    let mut numbers = [0u32; 64];
+    let mut list = [0u64; 1024];
+    trying::try_setting(
+        t,
+        f,
+        1,
+        p,
+        seed,
+        patches,
+        cache,
+        one,
+        &mut numbers,
+        &mut list,
+        e,
+        w,
+        available,
+        sources,
+        edits,
+        slots,
+        d,
+        marks,
+        c,
+    );
+    trying::try_setting(
+        t,
+        f,
+        2,
+        p,
+        seed,
+        patches,
+        cache,
+        two,
+        &mut numbers,
+        &mut list,
+        e,
+        w,
+        available,
+        sources,
+        edits,
+        slots,
+        d,
+        marks,
+        c,
+    );
+}
+
+// Draws so many patches of a job's function from a seed, counts what becomes of them with one kept eviction and with two, and answers 0; or the
+// number, and both tables are left as they were. What the working tables held does not matter.
+pub fn try_job(
+    p: Prices,
+    s: &[u8],
+    seed: u32,
+    patches: u32,
+    one: &mut Tally,
+    two: &mut Tally,
+    t: &mut RegInfo,
+    f: &mut Function,
+    cache: &mut SlotCache,
+    e: &mut Entries,
+    w: &mut SparseMap,
+    available: &mut RegUnitSet,
+    sources: &mut RegUnitSet,
+    edits: &mut Edits,
+    slots: &mut Slots,
+    d: &mut Diverted,
+    marks: &mut Marks,
+    c: &mut Carried,
+) -> u8
+    ensures { λ r. ⌜ TriedBy (asked p patches (now (s .entry))) p seed patches r (now (one .entry)) (now (two .entry)) (now (one .exit)) (now (two .exit)) ⌝ }
+    ensures { λ _. ⌜ Anything (now (t .exit)) × Anything (now (f .exit)) × Anything (now (cache .exit)) × Anything (now (e .exit)) × Anything (now (w .exit)) × Anything (now (available .exit)) × Anything (now (sources .exit)) × Anything (now (edits .exit)) × Anything (now (slots .exit)) × Anything (now (d .exit)) × Anything (now (marks .exit)) × Anything (now (c .exit)) ⌝ }
+{
+    if patches < 1 {
+        return 2;
+    }
+    if 1024 < patches {
+        return 2;
+    }
+    match job::read_priced_opening(1, p, s, t, f) {
+        Number::Refused(k) => k,
+        Number::Is(_, _) => {
+            try_both(
+                t,
+                f,
+                p,
+                seed,
+                patches as usize,
+                one,
+                two,
+                cache,
+                e,
+                w,
+                available,
+                sources,
+                edits,
+                slots,
+                d,
+                marks,
+                c,
+            );
+            0
+        }
+    }
+}
