@@ -6,7 +6,7 @@ use std::fmt::{self, Display, Formatter};
 
 use original::function::Function as _;
 
-use crate::answer::{Judge, MOST_BYTES, SETTINGS};
+use crate::answer::{self, Judge, MOST_BYTES, SETTINGS};
 use crate::calls::{Call, Function, Room, Session};
 use crate::number::{NAMES_NOTHING, Reader, Refused};
 use crate::target::Target;
@@ -91,8 +91,8 @@ pub fn tried(asked: Asked, job: &[u8]) -> Result<Tried, Refused> {
     Ok(Tried { asked, counts })
 }
 
-/// Reads a target and a function, the prices tested between them ("tested after 7").
-/// What stands behind the function is not looked at.
+/// Reads a job's opening, the prices tested behind the target ("tested after 7"). The
+/// patch count is read, and the patches are not.
 fn open(kept_evictions: u32, prices: [u64; 4], job: &[u8]) -> Result<Function, Refused> {
     if job.len() > MOST_BYTES {
         return Err(NAMES_NOTHING);
@@ -103,6 +103,7 @@ fn open(kept_evictions: u32, prices: [u64; 4], job: &[u8]) -> Result<Function, R
         return Err(PRICE_OUTSIDE);
     }
     let values = Values::read(&mut reader, &target)?;
+    reader.within(1, answer::MOST_PATCHES)?;
     Ok(Function {
         judge: Judge::of(kept_evictions)?,
         target,
