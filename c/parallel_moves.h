@@ -11,7 +11,9 @@
  *   job from its numbers: parallel_moves_write_in;
  * - libprice_c.a, which `rt staticlib price_c` builds, for what edits cost:
  *   parallel_moves_price and parallel_moves_price_edits, and the cheaper of two
- *   lists, parallel_moves_cheaper_list.
+ *   lists, parallel_moves_cheaper_list;
+ * - libtrying_c.a, which `rt staticlib trying_c` builds, for both settings tried on
+ *   patches that are drawn: parallel_moves_try_in.
  * c/stamp writes parallel_moves_build.h beside them, which says which build they
  * are. docs/JOB.md has the format of a job, and every refusal with its cause and
  * cure.
@@ -95,6 +97,9 @@
 #define PARALLEL_MOVES_DIVERTED 12288
 #define PARALLEL_MOVES_MARKS 129
 #define PARALLEL_MOVES_CARRIED 2049
+#define PARALLEL_MOVES_TALLY 263
+#define PARALLEL_MOVES_NUMBERS 64
+#define PARALLEL_MOVES_LIST 1024
 
 #ifdef __cplusplus
 extern "C" {
@@ -230,8 +235,9 @@ size_t parallel_moves_write(
 
 /* All tables, about half a megabyte: make one with calloc, and use it for as
  * many calls as you like, one at a time. It has one opened function at most; after
- * parallel_moves_answer_in and parallel_moves_enough_slots_in it has none. `position` is that of the last
- * patch which parallel_moves_resolve_in resolved, 0 before the first. */
+ * parallel_moves_answer_in, parallel_moves_enough_slots_in and parallel_moves_try_in
+ * it has none. `position` is that of the last patch which parallel_moves_resolve_in
+ * resolved, 0 before the first. */
 struct parallel_moves_memory {
     uint64_t edits[PARALLEL_MOVES_EDITS];
     uint16_t target[PARALLEL_MOVES_TARGET];
@@ -486,6 +492,69 @@ PARALLEL_MOVES_LOOK_AT_IT static inline uint8_t parallel_moves_cheaper_list(
     *list = chosen == 2 ? second : first;
     *length = chosen == 2 ? second_length : chosen == 1 ? first_length : 0;
     return PARALLEL_MOVES_AS(uint8_t, chosen <= 2 ? 0 : chosen);
+}
+
+/* The cells of a tally. */
+enum parallel_moves_tally_cell {
+    PARALLEL_MOVES_ACCEPTED = 0,         /* patches that were accepted */
+    PARALLEL_MOVES_MOVES = 1,            /* the M of their edits */
+    PARALLEL_MOVES_REMATERIALIZES = 2,   /* the R */
+    PARALLEL_MOVES_SPILLS = 3,           /* the S */
+    PARALLEL_MOVES_RELOADS = 4,          /* the L */
+    PARALLEL_MOVES_EVICTIONS = 5,        /* registers evicted */
+    PARALLEL_MOVES_TOTAL_PRICE = 6,      /* what the edits cost together */
+    PARALLEL_MOVES_REFUSED = 7           /* and the number: patches that were refused by it */
+};
+
+/* Draws `patches` patches of a function from a seed, and counts what becomes of them with
+ * one kept eviction, in `one`, and with two, in `two`; docs/JOB.md says how they are
+ * drawn. `job` is a target and a function, and whatever follows them, which is not read.
+ * `prices` are as for parallel_moves_price. Returns 0, or the number of the refusal, and
+ * then leaves both tallies alone: 2, tested first, where `patches` is not from 1 to 1,024;
+ * then as a job is refused, with 19 for a price above its bound after the target's 7. The
+ * working tables are `target` to `carried`. */
+PARALLEL_MOVES_LOOK_AT_IT uint8_t parallel_moves_try(
+    const uint8_t *job, size_t job_length,
+    const uint32_t prices[PARALLEL_MOVES_PRICES],
+    uint32_t seed,
+    size_t patches,
+    uint64_t one[PARALLEL_MOVES_TALLY],
+    uint64_t two[PARALLEL_MOVES_TALLY],
+    uint16_t target[PARALLEL_MOVES_TARGET],
+    uint16_t function[PARALLEL_MOVES_FUNCTION],
+    uint16_t cache[PARALLEL_MOVES_CACHE],
+    uint32_t numbers[PARALLEL_MOVES_NUMBERS],
+    uint64_t list[PARALLEL_MOVES_LIST],
+    uint16_t entries[PARALLEL_MOVES_ENTRIES],
+    uint16_t writers[PARALLEL_MOVES_WRITERS],
+    bool available[PARALLEL_MOVES_UNITS],
+    bool sources[PARALLEL_MOVES_UNITS],
+    uint64_t edits[PARALLEL_MOVES_EDITS],
+    uint16_t slots[PARALLEL_MOVES_SLOTS],
+    uint16_t diverted[PARALLEL_MOVES_DIVERTED],
+    uint8_t marks[PARALLEL_MOVES_MARKS],
+    uint16_t carried[PARALLEL_MOVES_CARRIED])
+    PARALLEL_MOVES_SYMBOL("parallel_moves_try");
+
+/* parallel_moves_try with the tables of `memory`, which has no opened function
+ * afterwards, and 9 KiB of stack besides. */
+PARALLEL_MOVES_LOOK_AT_IT static inline uint8_t parallel_moves_try_in(
+    struct parallel_moves_memory *memory,
+    const uint8_t *job, size_t job_length,
+    const uint32_t prices[PARALLEL_MOVES_PRICES],
+    uint32_t seed,
+    size_t patches,
+    uint64_t one[PARALLEL_MOVES_TALLY],
+    uint64_t two[PARALLEL_MOVES_TALLY])
+{
+    uint32_t numbers[PARALLEL_MOVES_NUMBERS];
+    uint64_t list[PARALLEL_MOVES_LIST];
+    return parallel_moves_try(
+        job, job_length, prices, seed, patches, one, two,
+        memory->target, memory->function, memory->cache, numbers, list,
+        memory->entries, memory->writers, memory->available, memory->sources,
+        memory->edits, memory->slots, memory->diverted, memory->marks,
+        memory->carried);
 }
 
 #ifdef __cplusplus

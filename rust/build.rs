@@ -10,9 +10,15 @@ use std::process::Command;
 /// Names the folder of the library by its whole path, where it is another than
 /// the repository's.
 const VARIABLE: &str = "PARALLEL_MOVES_LIB_DIR";
-/// What is linked: whole jobs, calls patch by patch, jobs written, and what edits cost.
-/// `c/stamp` has their sums in this order.
-const LIBRARIES: &[&str] = &["parallel_moves_c", "calls_c", "job_writer_c", "price_c"];
+/// What is linked: whole jobs, calls patch by patch, jobs written, what edits cost, and
+/// settings tried. `c/stamp` has their sums in this order.
+const LIBRARIES: &[&str] = &[
+    "parallel_moves_c",
+    "calls_c",
+    "job_writer_c",
+    "price_c",
+    "trying_c",
+];
 /// What `c/stamp` writes beside the library.
 const STAMP: &str = "parallel_moves_build.h";
 

@@ -27,6 +27,7 @@ mod stack;
 mod theirs;
 mod time;
 mod times;
+mod tries;
 mod writing;
 
 fn main() {
@@ -38,10 +39,13 @@ fn main() {
         ["growth"] => growth::print(),
         ["shapes"] => shapes::print(),
         ["stack"] => stack::print(),
+        ["tries"] => tries::print(),
         ["count"] => counts::count(),
         ["counts", folder] => counts::print(folder),
         _ => {
-            eprintln!("usage: bench times | writing | growth | shapes | stack | count | counts FOLDER");
+            eprintln!(
+                "usage: bench times | writing | growth | shapes | stack | tries | count | counts FOLDER"
+            );
             std::process::exit(2);
         }
     }

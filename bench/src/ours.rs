@@ -6,6 +6,7 @@ use crate::draft::{self, Draft, Patch, Place};
 #[link(name = "calls_c", kind = "static")]
 #[link(name = "job_writer_c", kind = "static")]
 #[link(name = "price_c", kind = "static")]
+#[link(name = "trying_c", kind = "static")]
 unsafe extern "C" {
     #[link_name = "parallel_moves_open_4"]
     fn parallel_moves_open(
@@ -40,6 +41,31 @@ unsafe extern "C" {
         marks: *mut u8,
         carried: *mut u16,
     ) -> usize;
+
+    #[link_name = "parallel_moves_try_4"]
+    fn parallel_moves_try(
+        job: *const u8,
+        job_len: usize,
+        prices: &[u32; 4],
+        seed: u32,
+        patches: usize,
+        one: &mut [u64; 263],
+        two: &mut [u64; 263],
+        target: *mut u16,
+        function: *mut u16,
+        cache: *mut u16,
+        numbers: &mut [u32; 64],
+        list: *mut u64,
+        entries: *mut u16,
+        writers: *mut u16,
+        available: *mut u8,
+        sources: *mut u8,
+        edits: *mut u64,
+        slots: *mut u16,
+        diverted: *mut u16,
+        marks: *mut u8,
+        carried: *mut u16,
+    ) -> u8;
 
     #[link_name = "parallel_moves_answer_4"]
     fn parallel_moves_answer(
@@ -195,7 +221,7 @@ pub fn free(patch: &Patch) -> Vec<u32> {
 }
 
 /// The bytes of a target and a function: a job without patch count and patches.
-fn beginning(draft: &Draft) -> Vec<u8> {
+pub fn beginning(draft: &Draft) -> Vec<u8> {
     let empty = Draft {
         patches: Vec::new(),
         ..draft.clone()
@@ -270,6 +296,107 @@ pub extern "C" fn timed_ours_patch(job: &mut Job, memory: &mut Memory, patch: us
         )
     };
     if refusal == 0 { count } else { usize::MAX }
+}
+
+/// A function opened at a setting.
+pub struct Opened(Tables);
+
+impl Opened {
+    pub fn new(kept_evictions: u32, beginning: &[u8]) -> Self {
+        let mut tables = Tables::new();
+        // SAFETY: each array is as long as the function says.
+        let refusal = unsafe {
+            parallel_moves_open(
+                kept_evictions,
+                beginning.as_ptr(),
+                beginning.len(),
+                tables.target.as_mut_ptr(),
+                tables.function.as_mut_ptr(),
+                tables.cache.as_mut_ptr(),
+            )
+        };
+        assert_eq!(refusal, 0, "ours refuses the target or the function");
+        Opened(tables)
+    }
+}
+
+/// Resolves a patch of numbers without free units: how many edits it has, or the refusal.
+#[inline(never)]
+pub fn timed_ours_drawn(
+    opened: &mut Opened,
+    numbers: &[u32],
+    memory: &mut Memory,
+) -> Result<usize, u8> {
+    let Opened(tables) = opened;
+    let mut refusal = 0;
+    let mut position = 0;
+    // SAFETY: the tables are as `parallel_moves_open` and the last call left
+    // them, each array is as long as the function says, the flags are 0 or 1.
+    let count = unsafe {
+        parallel_moves_resolve(
+            tables.target.as_ptr(),
+            tables.function.as_ptr(),
+            numbers.as_ptr(),
+            0,
+            numbers.as_ptr(),
+            numbers.len(),
+            tables.cache.as_mut_ptr(),
+            memory.list.as_mut_ptr(),
+            memory.list.len(),
+            &mut refusal,
+            &mut position,
+            memory.entries.as_mut_ptr(),
+            memory.writers.as_mut_ptr(),
+            memory.available.as_mut_ptr(),
+            memory.sources.as_mut_ptr(),
+            memory.edits.as_mut_ptr(),
+            memory.slots.as_mut_ptr(),
+            memory.diverted.as_mut_ptr(),
+            memory.marks.as_mut_ptr(),
+            memory.carried.as_mut_ptr(),
+        )
+    };
+    if refusal == 0 { Ok(count) } else { Err(refusal) }
+}
+
+/// Tries both settings on drawn patches.
+#[inline(never)]
+pub fn timed_ours_try(
+    bytes: &[u8],
+    prices: [u32; 4],
+    seed: u32,
+    patches: usize,
+    tallies: &mut [[u64; 263]; 2],
+    memory: &mut Memory,
+) {
+    let [one, two] = tallies;
+    // SAFETY: each array is as long as the function says, the flags are 0 or 1.
+    let refusal = unsafe {
+        parallel_moves_try(
+            bytes.as_ptr(),
+            bytes.len(),
+            &prices,
+            seed,
+            patches,
+            one,
+            two,
+            memory.tables.target.as_mut_ptr(),
+            memory.tables.function.as_mut_ptr(),
+            memory.tables.cache.as_mut_ptr(),
+            &mut [0; 64],
+            memory.list.as_mut_ptr(),
+            memory.entries.as_mut_ptr(),
+            memory.writers.as_mut_ptr(),
+            memory.available.as_mut_ptr(),
+            memory.sources.as_mut_ptr(),
+            memory.edits.as_mut_ptr(),
+            memory.slots.as_mut_ptr(),
+            memory.diverted.as_mut_ptr(),
+            memory.marks.as_mut_ptr(),
+            memory.carried.as_mut_ptr(),
+        )
+    };
+    assert_eq!(refusal, 0, "trying is refused");
 }
 
 /// Answers a whole job: how many words there are; none if it is refused.

@@ -19,6 +19,8 @@ mod reduce;
 mod rewrite;
 #[path = "beside/tasks.rs"]
 mod tasks;
+#[path = "beside/tried.rs"]
+mod tried;
 
 use std::collections::BTreeMap;
 use std::error::Error;
@@ -62,6 +64,8 @@ Options:
                     give that number, and never 17
     --priced        what each patch costs is asked for too, and which of two costs less,
                     with prices and run counts in range and not
+    --tried         both settings are tried on patches drawn for each job's function, and
+                    nothing else
     --difference F  the file that a job with different answers is written to
     --spoil text N, --spoil words N
                     spoils ours' text of the N-th job, or its words, which must
@@ -273,6 +277,7 @@ struct Options {
     planned: bool,
     rewritten: bool,
     priced: bool,
+    tried: bool,
     difference: Option<PathBuf>,
     /// Of which job, counted from 0, something is spoiled.
     spoiled: Option<(Spoiled, usize)>,
@@ -286,6 +291,7 @@ impl Options {
             planned: false,
             rewritten: false,
             priced: false,
+            tried: false,
             difference: None,
             spoiled: None,
         };
@@ -312,6 +318,11 @@ impl Options {
                 }
                 ["--priced", ref rest @ ..] => {
                     options.priced = true;
+                    rest
+                }
+                ["--tried", ref rest @ ..] => {
+                    options.tried = true;
+                    options.settings.truncate(1);
                     rest
                 }
                 ["--difference", file, ref rest @ ..] => {
@@ -342,6 +353,7 @@ impl Options {
             planned: self.planned,
             rewritten: self.rewritten,
             priced: self.priced.then_some(number as u64),
+            tried: self.tried.then_some(number as u64),
         }
     }
 }
@@ -593,6 +605,9 @@ fn compare_one(
         Way {
             priced: Some(seed), ..
         } => priced::compare(ours, kept_evictions, job, way, seed),
+        Way {
+            tried: Some(seed), ..
+        } => tried::compare(ours, job, seed),
         _ => compare::compare(ours, kept_evictions, job, way),
     }
 }

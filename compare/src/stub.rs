@@ -16,10 +16,10 @@ use judge::enough::{Miscount, miscounted};
 use judge::number::{Reader, Refused};
 use judge::plain::Slip;
 use judge::target::{Register, Target};
-use judge::{answer, reading, words};
+use judge::{answer, reading, tries, words};
 
 /// The faults, each in some answers only.
-const FAULTS: [&str; 67] = [
+const FAULTS: [&str; 72] = [
     "order",        // two edits change places in a patch with four or more
     "place",        // a copy into slot 3 goes to slot 1
     "made",         // a slot too many is counted from the second patch on
@@ -87,6 +87,11 @@ const FAULTS: [&str; 67] = [
     "cheaper-tie",  // of two lists: the second where both cost the same
     "cheaper-same", // 19 is not given where one list is the other
     "cheaper-head", // a head costs what a move does
+    "try-second",   // of trying: with two kept evictions the counts are those with one
+    "try-number",   // patches refused by 21 count as refused by 12
+    "try-price",    // 19 comes after the tests of the function
+    "try-patches",  // 2 for the patch count comes after the tests of the job
+    "try-set",      // a refused asking clears the counts
 ];
 
 /// The judge that stands behind the library's place.
@@ -703,4 +708,81 @@ pub unsafe extern "C" fn parallel_moves_cheaper(
         Ordering::Equal => at_a_tie,
         Ordering::Greater => 1,
     }
+}
+
+/// # Safety
+/// As the library's.
+#[unsafe(export_name = "parallel_moves_try_4")]
+pub unsafe extern "C" fn parallel_moves_try(
+    job: *const u8,
+    job_len: usize,
+    prices: &[u32; 4],
+    seed: u32,
+    patches: usize,
+    one: &mut [u64; 263],
+    two: &mut [u64; 263],
+    _target: *mut u16,
+    _function: *mut u16,
+    _cache: *mut u16,
+    _numbers: &mut [u32; 64],
+    _list: *mut u64,
+    _entries: *mut u16,
+    _writers: *mut u16,
+    _available: *mut u8,
+    _sources: *mut u8,
+    _edits: *mut u64,
+    _slots: *mut u16,
+    _diverted: *mut u16,
+    _marks: *mut u8,
+    _carried: *mut u16,
+) -> u8 {
+    let job = unsafe { slice::from_raw_parts(job, job_len) };
+    let asked = tries::Asked {
+        seed: seed.into(),
+        patches: patches as u64,
+        prices: prices.map(u64::from),
+    };
+    let mut tried = tries::tried(asked, job).map(|tried| tried.counts);
+    let one_patch = tries::Asked {
+        patches: 1,
+        ..asked
+    };
+    let late = match (fault(), &tried) {
+        ("try-price", Err(Refused(19))) => tries::Asked {
+            prices: [0; 4],
+            ..asked
+        },
+        _ => one_patch,
+    };
+    let is_late = match fault() {
+        "try-price" => matches!(tried, Err(Refused(19))),
+        "try-patches" => !(1..=1024).contains(&patches),
+        _ => false,
+    };
+    if is_late && let Err(refused) = tries::tried(late, job) {
+        tried = Err(refused);
+    }
+    let counts = match tried {
+        Ok(counts) => counts,
+        Err(refused) => {
+            if fault() == "try-set" {
+                one.fill(0);
+            }
+            return refused.0;
+        }
+    };
+    for (index, tally) in [one, two].into_iter().enumerate() {
+        let index = if fault() == "try-second" { 0 } else { index };
+        let counts = &counts[index];
+        tally[0] = counts.accepted;
+        tally[1..5].copy_from_slice(&counts.edits);
+        tally[5] = counts.evictions;
+        tally[6] = counts.price;
+        tally[7..].copy_from_slice(&counts.refusals);
+        if fault() == "try-number" {
+            tally[7 + 12] += tally[7 + 21];
+            tally[7 + 21] = 0;
+        }
+    }
+    0
 }

@@ -10,7 +10,7 @@
 //! lays out the frame, [`ParallelMoves::enough_slots`] says how many emergency slots
 //! are enough for a function. With a target's [`Prices`], [`ResolvedPatch::price`] and
 //! [`Edits::price`] say what an edge costs, and [`cheaper()`] chooses one of two lists of
-//! edits.
+//! edits. [`try_settings`] compares one and two kept evictions on patches that it draws.
 //!
 //! A [`JobBuilder`] makes these bytes in the words of the trade, and says which register,
 //! class, value or entry is refused; [`write()`] and [`JobWriter`] make them of numbers, and
@@ -41,7 +41,7 @@
 //!
 //! The static library is linked when a program is: from `target/staticlib` of
 //! the repository, where `rt staticlib` makes its archives `parallel_moves_c`,
-//! `calls_c`, `job_writer_c` and `price_c`, or from the folder that
+//! `calls_c`, `job_writer_c`, `price_c` and `trying_c`, or from the folder that
 //! `PARALLEL_MOVES_LIB_DIR` names. `cargo check` and `cargo doc` do without it.
 //! [`BUILD`] tells builds apart.
 
@@ -60,6 +60,7 @@ mod sys;
 #[cfg(test)]
 mod tests;
 pub mod text;
+mod trying;
 mod writer;
 
 pub use answer::{Answer, Patches, RefusedJob, ResolvedPatch};
@@ -74,6 +75,7 @@ pub use patch::Patch;
 pub use price::{Edge, Prices, cheaper};
 pub use refusal::{Refusal, Unnamed};
 pub use resolver::Resolver;
+pub use trying::{Refusals, Tally, try_settings};
 pub use writer::{JobWriter, write};
 
 /// The snippets of the repository's README and of its paper on jobs are compiled with the

@@ -26,6 +26,12 @@ type Slots = [u16; 32_835];
 type Diverted = [u16; 12_288];
 /// What an M, an R, an S and an L costs.
 type Prices = [u32; 4];
+/// Accepted patches, M, R, S, L, evictions and price; then the refusals by number.
+pub(crate) type Tally = [u64; 263];
+/// The numbers of a drawn patch, four to an entry.
+type Numbers = [u32; 64];
+/// The edits of a patch.
+type List = [u64; 1024];
 /// Which moves are visited, and which open.
 type Marks = [u8; 129];
 /// The values that moves still carry.
@@ -113,6 +119,31 @@ unsafe extern "C" {
         second: *const u64,
         second_length: usize,
         prices: &Prices,
+    ) -> u8;
+
+    #[link_name = "parallel_moves_try_4"]
+    fn parallel_moves_try(
+        job: *const u8,
+        job_length: usize,
+        prices: &Prices,
+        seed: u32,
+        patches: usize,
+        one: &mut Tally,
+        two: &mut Tally,
+        target: &mut RegInfo,
+        function: &mut Function,
+        cache: &mut SlotCache,
+        numbers: &mut Numbers,
+        list: &mut List,
+        entries: &mut Entries,
+        writers: &mut SparseMap,
+        available: &mut RegUnitSet,
+        sources: &mut RegUnitSet,
+        edits: &mut EditBuffer,
+        slots: &mut Slots,
+        diverted: &mut Diverted,
+        marks: &mut Marks,
+        carried: &mut Carried,
     ) -> u8;
 
     #[link_name = "parallel_moves_answer_4"]
@@ -481,6 +512,50 @@ pub(crate) fn cheaper(first: &[u64], second: &[u64], prices: Prices) -> Result<C
         1 => Ok(Choice::First),
         2 => Ok(Choice::Second),
         number => Err(number),
+    }
+}
+
+/// Draws patches of a function and counts what becomes of them at each setting; if it is
+/// refused, the number.
+pub(crate) fn try_settings(
+    job: &[u8],
+    prices: Prices,
+    seed: u32,
+    patches: usize,
+) -> Result<[Tally; 2], u8> {
+    let mut tables = Tables::new();
+    let (mut one, mut two) = ([0; 263], [0; 263]);
+    // SAFETY: `job` is as long as the function is told, and each table has the length
+    // that it is declared with and is borrowed mutably. The function keeps no pointer.
+    let refusal = unsafe {
+        parallel_moves_try(
+            job.as_ptr(),
+            job.len(),
+            &prices,
+            seed,
+            patches,
+            &mut one,
+            &mut two,
+            &mut tables.target,
+            &mut tables.function,
+            &mut tables.cache,
+            &mut [0; 64],
+            &mut table(),
+            &mut tables.entries,
+            &mut tables.writers,
+            &mut tables.available,
+            &mut tables.sources,
+            &mut tables.edits,
+            &mut tables.slots,
+            &mut tables.diverted,
+            &mut tables.marks,
+            &mut tables.carried,
+        )
+    };
+    if refusal == 0 {
+        Ok([one, two])
+    } else {
+        Err(refusal)
     }
 }
 

@@ -13,7 +13,13 @@ use common::root;
 /// Names of types and constants, and what they stand for.
 type Names = HashMap<String, String>;
 
-const LIBRARIES: &[&str] = &["parallel_moves_c", "calls_c", "job_writer_c", "price_c"];
+const LIBRARIES: &[&str] = &[
+    "parallel_moves_c",
+    "calls_c",
+    "job_writer_c",
+    "price_c",
+    "trying_c",
+];
 
 const FUNCTIONS: &[&str] = &[
     "parallel_moves_open",
@@ -26,6 +32,7 @@ const FUNCTIONS: &[&str] = &[
     "parallel_moves_price",
     "parallel_moves_price_edits",
     "parallel_moves_cheaper",
+    "parallel_moves_try",
 ];
 
 /// Where the C header has a pointer to one number, and not to many.
@@ -251,10 +258,7 @@ fn memory_agrees() {
 fn archives_agree() {
     let build: Vec<String> = LIBRARIES.iter().map(|name| format!("{name:?}")).collect();
     let rust = read("rust/build.rs");
-    assert_eq!(
-        between(&rust, "LIBRARIES: &[&str] = &[", "];"),
-        build.join(", ")
-    );
+    assert!(listed(between(&rust, "LIBRARIES: &[&str] = &[", "];")).eq(build));
     let listed = format!("libraries=({})", LIBRARIES.join(" "));
     for file in ["rust/test", "bench/run", "compare/link"] {
         assert!(read(file).contains(&listed), "{file}");

@@ -5,12 +5,12 @@ mod common;
 
 use std::collections::HashMap;
 use std::fs;
-use std::io::{self, Write};
+use std::io::Write;
 use std::process::{Command, Stdio};
 
 use common::machine::{Machine, Place, Register};
 use common::{encoded, numbers, root, text};
-use parallel_moves::{Edge, Prices, Resolver};
+use parallel_moves::Resolver;
 
 fn paper() -> String {
     fs::read_to_string(root().join("docs/JOB.md")).unwrap()
@@ -158,66 +158,44 @@ fn wrong_splits_lose_a_value() {
     assert_eq!([0, 1, 2].map(|s| slots[&s][0]), [8, 8, 8]);
 }
 
-/// The paper's command `price_job` prints what stands below it: so say the crate and, if
-/// it is built, the program.
+/// What the paper's commands `price_job` and `try_settings` print stands below them: so say
+/// `parallel-moves`, and these programs.
 #[test]
-fn prices_are_as_shown() {
+fn commands_print_what_is_shown() {
     let paper = paper();
-    let mut shown = 0;
-    for part in paper.split("`price_job ").skip(1) {
-        let (command, rest) = part.split_once('`').unwrap();
-        let (_, block) = rest.split_once("```price\n").unwrap();
-        let (printed, _) = block.split_once("```").unwrap();
-        let (given, file) = command.split_once(" < ").unwrap();
-        let job = fs::read(root().join(file)).unwrap();
-        let words = numbers(given);
-        let prices = Prices {
-            moves: words[1],
-            rebuilds: words[2],
-            saves: words[3],
-            reloads: words[4],
-        };
-        let answer = Resolver::new().answer(words[0], &job).unwrap();
-        let mut text = String::new();
-        let runs = &words[5..];
-        assert_eq!(runs.len(), answer.patches().count());
-        for ((patch, &runs), number) in answer.patches().zip(runs).zip(1..) {
-            let edge = patch.price(prices, runs.into()).unwrap();
-            let edits = patch.edits().len();
-            let Edge {
-                total,
-                runs,
-                product,
-            } = edge;
-            text += &format!(
-                "patch {number} edits {edits} total {total} runs {runs} product {product}\n"
-            );
+    for (program, command, block) in [
+        ("price_job", "price", "```price\n"),
+        ("try_settings", "try", "```tries\n"),
+    ] {
+        let start = format!("`{program} ");
+        let mut shown = 0;
+        for part in paper.split(&start).skip(1) {
+            let (given, rest) = part.split_once('`').unwrap();
+            let (_, rest) = rest.split_once(block).unwrap();
+            let (expected, _) = rest.split_once("```").unwrap();
+            let (given, file) = given.split_once(" < ").unwrap();
+            let job = fs::read(root().join(file)).unwrap();
+            let ours = Command::new(env!("CARGO_BIN_EXE_parallel-moves"));
+            let given: Vec<&str> = given.split(' ').collect();
+            let with_file = [&[command, "-"], &given[..]].concat();
+            assert_eq!(printed(ours, &with_file, &job), expected);
+            let path = root().join("target/bin").join(program);
+            assert!(path.is_file(), "run `rt check {program}`");
+            assert_eq!(printed(Command::new(path), &given, &job), expected);
+            shown += 1;
         }
-        assert_eq!(text, printed);
-        if let Some(given) = program_prints("price_job", given, &job) {
-            assert_eq!(given, printed);
-        }
-        shown += 1;
+        assert!(shown > 0, "{program}");
     }
-    assert!(shown > 0);
 }
 
-/// What a program prints of a job, if it is built; else says what is left out.
-fn program_prints(name: &str, given: &str, job: &[u8]) -> Option<String> {
-    let program = root().join("target/bin").join(name);
-    if !program.is_file() {
-        // Written so that it is seen when the test passes, too.
-        let line = format!("skipped: the program {name}; run `rt check {name}`\n");
-        io::stderr().write_all(line.as_bytes()).unwrap();
-        return None;
-    }
-    let mut child = Command::new(program)
-        .args(given.split(' '))
+/// What a program prints that is given a job on standard input.
+fn printed(mut program: Command, given: &[&str], job: &[u8]) -> String {
+    let program = program
+        .args(given)
         .stdin(Stdio::piped())
-        .stdout(Stdio::piped())
-        .spawn()
-        .unwrap();
+        .stdout(Stdio::piped());
+    let mut child = program.spawn().unwrap();
     child.stdin.take().unwrap().write_all(job).unwrap();
     let output = child.wait_with_output().unwrap();
-    Some(String::from_utf8(output.stdout).unwrap())
+    String::from_utf8(output.stdout).unwrap()
 }

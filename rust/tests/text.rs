@@ -469,7 +469,7 @@ fn the_command() {
     let help = command(&["--help"], none, None);
     let help_of_all = String::from_utf8(help.stdout.clone()).unwrap();
     assert_eq!(ended(&help), 0);
-    for name in ["text", "bytes"] {
+    for name in ["text", "bytes", "price", "try"] {
         let help = command(&[name, "--help"], none, None);
         let help_of_one = String::from_utf8(help.stdout).unwrap();
         assert!(help_of_one.starts_with(&format!("parallel-moves {name} ")));

@@ -24,6 +24,8 @@ pub struct Way {
     pub rewritten: bool,
     /// What its patches cost is asked for, as the seed decides.
     pub priced: Option<u64>,
+    /// Both settings are tried on its function, as the seed decides, and nothing else.
+    pub tried: Option<u64>,
 }
 
 /// What of an answer is spoiled.

@@ -5,6 +5,7 @@ use std::ops::Range;
 use judge::answer::{MOST_BYTES, MOST_PATCHES};
 use judge::calls::MOST_EDITS;
 use judge::prices::{Asked, Prices};
+use judge::tries;
 
 /// The words of the longest answer: a move has four bytes of a job and at most
 /// 8 edits, a rebuild three and 5.
@@ -19,6 +20,7 @@ extern crate stub;
 #[cfg_attr(not(stub), link(name = "calls_c", kind = "static"))]
 #[cfg_attr(not(stub), link(name = "job_writer_c", kind = "static"))]
 #[cfg_attr(not(stub), link(name = "price_c", kind = "static"))]
+#[cfg_attr(not(stub), link(name = "trying_c", kind = "static"))]
 unsafe extern "C" {
     #[link_name = "parallel_moves_open_4"]
     fn parallel_moves_open(
@@ -122,6 +124,31 @@ unsafe extern "C" {
         prices: &Prices,
     ) -> u8;
 
+    #[link_name = "parallel_moves_try_4"]
+    fn parallel_moves_try(
+        job: *const u8,
+        job_len: usize,
+        prices: &Prices,
+        seed: u32,
+        patches: usize,
+        one: &mut [u64; TALLY],
+        two: &mut [u64; TALLY],
+        target: *mut u16,
+        function: *mut u16,
+        cache: *mut u16,
+        numbers: &mut [u32; 64],
+        list: *mut u64,
+        entries: *mut u16,
+        writers: *mut u16,
+        available: *mut u8,
+        sources: *mut u8,
+        edits: *mut u64,
+        slots: *mut u16,
+        diverted: *mut u16,
+        marks: *mut u8,
+        carried: *mut u16,
+    ) -> u8;
+
     #[link_name = "parallel_moves_text_4"]
     fn parallel_moves_text(
         words: *const u64,
@@ -146,6 +173,10 @@ unsafe extern "C" {
         writers: *mut u16,
     ) -> usize;
 }
+
+/// How many cells a tally has, and what is found in one that is not set.
+pub const TALLY: usize = 263;
+pub const NOT_TALLIED: u64 = u64::MAX / 7;
 
 /// What an asking for a price gives.
 #[derive(Clone, Copy, Debug, PartialEq)]
@@ -514,6 +545,41 @@ impl Ours {
                 &asked.prices,
             )
         }
+    }
+
+    /// What is counted at each setting, and the refusal.
+    pub fn try_settings(&mut self, job: &[u8], asked: tries::Asked) -> ([[u64; TALLY]; 2], u8) {
+        let mut tallies = [[NOT_TALLIED; TALLY]; 2];
+        let [one, two] = &mut tallies;
+        let prices = asked.prices.map(|price| price as u32);
+        // SAFETY: each array is as long as the function says, the flags are 0 or 1, and
+        // none lies on another.
+        let refusal = unsafe {
+            parallel_moves_try(
+                job.as_ptr(),
+                job.len(),
+                &prices,
+                asked.seed as u32,
+                asked.patches as usize,
+                one,
+                two,
+                self.target.pointer(),
+                self.function.pointer(),
+                self.cache.pointer(),
+                &mut [u32::MAX / 3; 64],
+                self.list.pointer(),
+                self.entries.pointer(),
+                self.writers.pointer(),
+                self.available.pointer(),
+                self.sources.pointer(),
+                self.edits.pointer(),
+                self.slots.pointer(),
+                self.diverted.pointer(),
+                self.marks.pointer(),
+                self.carried.pointer(),
+            )
+        };
+        (tallies, refusal)
     }
 
     /// Whether nothing was written past the end of an array.
