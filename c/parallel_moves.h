@@ -98,8 +98,6 @@
 #define PARALLEL_MOVES_MARKS 129
 #define PARALLEL_MOVES_CARRIED 2049
 #define PARALLEL_MOVES_TALLY 263
-#define PARALLEL_MOVES_NUMBERS 64
-#define PARALLEL_MOVES_LIST 1024
 
 #ifdef __cplusplus
 extern "C" {
@@ -508,23 +506,21 @@ enum parallel_moves_tally_cell {
 
 /* Draws `patches` patches of a function from a seed, and counts what becomes of them with
  * one kept eviction, in `one`, and with two, in `two`; docs/JOB.md says how they are
- * drawn. `job` is a target and a function, and whatever follows them, which is not read.
- * `prices` are as for parallel_moves_price. Returns 0, or the number of the refusal, and
- * then leaves both tallies alone: 2, tested first, where `patches` is not from 1 to 1,024;
- * then as a job is refused, with 19 for a price above its bound after the target's 7. The
- * working tables are `target` to `carried`. */
+ * drawn. Of the job's own patches only their count is read. `prices` are as for
+ * parallel_moves_price. Returns 0, or the number of the refusal, and then leaves both
+ * tallies alone: 2, tested first, where `patches` is not from 1 to 1,024; then as a job is
+ * refused, with 19 for a price above its bound after the target's 7. The working tables are
+ * `target` to `carried`. */
 PARALLEL_MOVES_LOOK_AT_IT uint8_t parallel_moves_try(
     const uint8_t *job, size_t job_length,
     const uint32_t prices[PARALLEL_MOVES_PRICES],
     uint32_t seed,
-    size_t patches,
+    uint32_t patches,
     uint64_t one[PARALLEL_MOVES_TALLY],
     uint64_t two[PARALLEL_MOVES_TALLY],
     uint16_t target[PARALLEL_MOVES_TARGET],
     uint16_t function[PARALLEL_MOVES_FUNCTION],
     uint16_t cache[PARALLEL_MOVES_CACHE],
-    uint32_t numbers[PARALLEL_MOVES_NUMBERS],
-    uint64_t list[PARALLEL_MOVES_LIST],
     uint16_t entries[PARALLEL_MOVES_ENTRIES],
     uint16_t writers[PARALLEL_MOVES_WRITERS],
     bool available[PARALLEL_MOVES_UNITS],
@@ -537,21 +533,19 @@ PARALLEL_MOVES_LOOK_AT_IT uint8_t parallel_moves_try(
     PARALLEL_MOVES_SYMBOL("parallel_moves_try");
 
 /* parallel_moves_try with the tables of `memory`, which has no opened function
- * afterwards, and 9 KiB of stack besides. */
+ * afterwards. */
 PARALLEL_MOVES_LOOK_AT_IT static inline uint8_t parallel_moves_try_in(
     struct parallel_moves_memory *memory,
     const uint8_t *job, size_t job_length,
     const uint32_t prices[PARALLEL_MOVES_PRICES],
     uint32_t seed,
-    size_t patches,
+    uint32_t patches,
     uint64_t one[PARALLEL_MOVES_TALLY],
     uint64_t two[PARALLEL_MOVES_TALLY])
 {
-    uint32_t numbers[PARALLEL_MOVES_NUMBERS];
-    uint64_t list[PARALLEL_MOVES_LIST];
     return parallel_moves_try(
         job, job_length, prices, seed, patches, one, two,
-        memory->target, memory->function, memory->cache, numbers, list,
+        memory->target, memory->function, memory->cache,
         memory->entries, memory->writers, memory->available, memory->sources,
         memory->edits, memory->slots, memory->diverted, memory->marks,
         memory->carried);

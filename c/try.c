@@ -45,8 +45,9 @@ int main(int count, char **given)
     for (int i = 0; i < PARALLEL_MOVES_TALLY; i++) {
         tallies[0][i] = tallies[1][i] = LEFT_ALONE;
     }
-    uint8_t refusal = seed > UINT32_MAX ? PARALLEL_MOVES_AS(uint8_t, 2) : parallel_moves_try_in(
-        &memory, job, length, prices, PARALLEL_MOVES_AS(uint32_t, seed), patches, tallies[0], tallies[1]);
+    uint8_t refusal = seed > UINT32_MAX || patches > UINT32_MAX ? PARALLEL_MOVES_AS(uint8_t, 2) : parallel_moves_try_in(
+        &memory, job, length, prices, PARALLEL_MOVES_AS(uint32_t, seed), PARALLEL_MOVES_AS(uint32_t, patches),
+        tallies[0], tallies[1]);
     if (refusal != 0) {
         for (int i = 0; i < PARALLEL_MOVES_TALLY; i++) {
             if (tallies[0][i] != LEFT_ALONE || tallies[1][i] != LEFT_ALONE) {

@@ -9,7 +9,7 @@ use crate::ours::{self, Memory, Opened, timed_ours_drawn, timed_ours_try};
 use crate::time::{self, Clock, part};
 
 const SEED: u32 = 7;
-const PATCHES: usize = 1024;
+const PATCHES: u32 = 1024;
 const PRICES: [u32; 4] = [4, 6, 16, 12];
 const ROUNDS: usize = 31;
 

@@ -718,14 +718,12 @@ pub unsafe extern "C" fn parallel_moves_try(
     job_len: usize,
     prices: &[u32; 4],
     seed: u32,
-    patches: usize,
+    patches: u32,
     one: &mut [u64; 263],
     two: &mut [u64; 263],
     _target: *mut u16,
     _function: *mut u16,
     _cache: *mut u16,
-    _numbers: &mut [u32; 64],
-    _list: *mut u64,
     _entries: *mut u16,
     _writers: *mut u16,
     _available: *mut u8,
@@ -739,7 +737,7 @@ pub unsafe extern "C" fn parallel_moves_try(
     let job = unsafe { slice::from_raw_parts(job, job_len) };
     let asked = tries::Asked {
         seed: seed.into(),
-        patches: patches as u64,
+        patches: patches.into(),
         prices: prices.map(u64::from),
     };
     let mut tried = tries::tried(asked, job).map(|tried| tried.counts);

@@ -28,10 +28,6 @@ type Diverted = [u16; 12_288];
 type Prices = [u32; 4];
 /// Accepted patches, M, R, S, L, evictions and price; then the refusals by number.
 pub(crate) type Tally = [u64; 263];
-/// The numbers of a drawn patch, four to an entry.
-type Numbers = [u32; 64];
-/// The edits of a patch.
-type List = [u64; 1024];
 /// Which moves are visited, and which open.
 type Marks = [u8; 129];
 /// The values that moves still carry.
@@ -127,14 +123,12 @@ unsafe extern "C" {
         job_length: usize,
         prices: &Prices,
         seed: u32,
-        patches: usize,
+        patches: u32,
         one: &mut Tally,
         two: &mut Tally,
         target: &mut RegInfo,
         function: &mut Function,
         cache: &mut SlotCache,
-        numbers: &mut Numbers,
-        list: &mut List,
         entries: &mut Entries,
         writers: &mut SparseMap,
         available: &mut RegUnitSet,
@@ -521,7 +515,7 @@ pub(crate) fn try_settings(
     job: &[u8],
     prices: Prices,
     seed: u32,
-    patches: usize,
+    patches: u32,
 ) -> Result<[Tally; 2], u8> {
     let mut tables = Tables::new();
     let (mut one, mut two) = ([0; 263], [0; 263]);
@@ -539,8 +533,6 @@ pub(crate) fn try_settings(
             &mut tables.target,
             &mut tables.function,
             &mut tables.cache,
-            &mut [0; 64],
-            &mut table(),
             &mut tables.entries,
             &mut tables.writers,
             &mut tables.available,

@@ -8,14 +8,14 @@ use crate::sys;
 
 /// Draws patches of a function from a seed, and counts what becomes of them with one kept
 /// eviction and with two, in this order: each time from the same seed, and with no
-/// emergency slot made before. `job` is a target and a function, and whatever follows
-/// them, which is not read. `docs/JOB.md` of the repository says how patches are drawn.
+/// emergency slot made before. Of the job's own patches only their count is read.
+/// `docs/JOB.md` of the repository says how patches are drawn.
 ///
 /// # Errors
 ///
 /// [`Refusal::NamesNothing`], before all else, if `patches` is not from 1 to 1,024; then the
 /// refusals 1 to 7 of the target, [`Refusal::OutsidePrice`] for a price above 65,535, and
-/// the refusals of the function.
+/// the refusals of the function and of the patch count.
 ///
 /// ```
 /// use parallel_moves::{Prices, Refusal, try_settings};
@@ -33,7 +33,7 @@ pub fn try_settings(
     job: &[u8],
     prices: Prices,
     seed: u32,
-    patches: usize,
+    patches: u32,
 ) -> Result<[Tally; 2], Refusal> {
     match sys::try_settings(job, prices.numbers(), seed, patches) {
         Ok(tallies) => Ok(tallies.map(|cells| Tally::of(&cells))),

@@ -129,7 +129,7 @@ fn refusals() {
         reloads: 65_535,
     };
     let job = swap_full();
-    for patches in [0, 1025, 65_536, usize::MAX] {
+    for patches in [0, 1025, 65_536, u32::MAX] {
         assert_eq!(refusal(&job, PRICES, patches), 2);
         assert_eq!(refusal(&[], too_dear, patches), 2);
     }
@@ -141,7 +141,8 @@ fn refusals() {
     assert_eq!(refusal(target, too_dear, 1), 19);
     assert_eq!(refusal(target, dearest, 1), 1);
     assert_eq!(refusal(&job[..38], too_dear, 1), 1);
-    assert_eq!(refusal(function, dearest, 1), 0);
+    assert_eq!(refusal(function, dearest, 1), 1);
+    assert_eq!(refusal(&job[..47], dearest, 1), 0);
     // A top-level class without slots.
     let mut unfit = job.clone();
     assert_eq!(unfit[20], 1);
@@ -168,16 +169,21 @@ fn refusals() {
     }
 }
 
-/// The patches of a job are not read, and neither is its patch count.
+/// Of the patches of a job only their count is read, which is from 1 to 1,024.
 #[test]
 fn patches_are_not_read() {
     let job = swap_full();
-    let function = &job[..46];
+    let tried = |behind: &[u8]| {
+        let job = [&job[..46], behind].concat();
+        try_settings(&job, PRICES, 3, 50).map_err(Refusal::number)
+    };
     let whole = try_settings(&job, PRICES, 3, 50).unwrap();
-    assert_eq!(try_settings(function, PRICES, 3, 50).unwrap(), whole);
-    let mut noise = function.to_vec();
-    noise.extend([0xff; 40]);
-    assert_eq!(try_settings(&noise, PRICES, 3, 50).unwrap(), whole);
+    assert_eq!(tried(&[1]).unwrap(), whole);
+    assert_eq!(tried(&[2, 255, 255, 255, 255, 255, 255]).unwrap(), whole);
+    assert_eq!(tried(&[]), Err(1));
+    assert_eq!(tried(&[0]), Err(2));
+    assert_eq!(tried(&[128, 8]).unwrap(), whole);
+    assert_eq!(tried(&[129, 8]), Err(2));
 }
 
 /// The shipped target, with N = 400 and L = 16, and for each bank b three plain values, one
@@ -208,6 +214,8 @@ fn shipped() -> Vec<u8> {
         numbers.extend([bank, 0].repeat(3));
         numbers.extend([bank, 1, 2 * bank, bank, 2, 2 * bank + 1]);
     }
+    // One patch, without entries.
+    numbers.extend([1, 0, 0]);
     encoded(numbers)
 }
 

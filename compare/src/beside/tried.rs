@@ -61,7 +61,7 @@ fn asked(random: &mut Random) -> Asked {
         _ => random.next() as u32,
     };
     let patches = match random.below(40) {
-        0 => *random.pick(&[0, 1025, 65_537, 1 << 32]),
+        0 => *random.pick(&[0, 1025, 65_537, u64::from(u32::MAX)]),
         1 => random.within(20, 200) as u64,
         _ => random.within(1, 12) as u64,
     };
