@@ -24,7 +24,7 @@ ghost use Rattle.price.specs.Price.{inRange};
 ghost use Rattle.job_tries.specs.Tries.{asked, Both, TriedBy};
 
 // Both settings, one after the other, from the same seed.
-fn try_both(
+pub fn try_both(
     t: &RegInfo,
     f: &mut Function,
     p: Prices,

@@ -1,0 +1,107 @@
+-- `main` meets its contract: what is printed has room.
+use mathlib.Core.Path.{sym}
+use borrow.Author.Needs.{needs}
+use lib.Seq.{length-take-le}
+use Rattle.try_settings.proofs.main.Statement.{statement}
+use Rattle.try_settings.proofs.main.Tie as tie
+
+number-at-requires : tie.Need-number-at-requires
+number-at-requires c κs = search needs
+
+number-at-requires-2 : tie.Need-number-at-requires-2
+number-at-requires-2 c κs = search needs
+
+narrow-requires : tie.Need-narrow-requires
+narrow-requires c κs = search needs
+
+number-at-requires-3 : tie.Need-number-at-requires-3
+number-at-requires-3 c κs = search needs
+
+narrow-requires-2 : tie.Need-narrow-requires-2
+narrow-requires-2 c κs = search needs
+
+number-at-requires-4 : tie.Need-number-at-requires-4
+number-at-requires-4 c κs = search needs
+
+narrow-requires-3 : tie.Need-narrow-requires-3
+narrow-requires-3 c κs = search needs
+
+number-at-requires-5 : tie.Need-number-at-requires-5
+number-at-requires-5 c κs = search needs
+
+narrow-requires-4 : tie.Need-narrow-requires-4
+narrow-requires-4 c κs = search needs
+
+number-at-requires-6 : tie.Need-number-at-requires-6
+number-at-requires-6 c κs = search needs
+
+narrow-requires-5 : tie.Need-narrow-requires-5
+narrow-requires-5 c κs = search needs
+
+slice-aggregate-read-full : tie.Need-slice-aggregate-read-full
+slice-aggregate-read-full c = search needs
+
+read-full-requires : tie.Need-read-full-requires
+read-full-requires c κs = search needs
+
+slice-aggregate-put-job : tie.Need-slice-aggregate-put-job
+slice-aggregate-put-job c = search needs
+
+array-share-prefix-job : tie.Need-array-share-prefix-job
+array-share-prefix-job c = search needs
+
+slice-aggregate-put-job-2 : tie.Need-slice-aggregate-put-job-2
+slice-aggregate-put-job-2 c = search needs
+
+put-job-requires : tie.Need-put-job-requires
+put-job-requires c κs = search needs
+
+array-share-prefix-out : tie.Need-array-share-prefix-out
+array-share-prefix-out c = c .before .put-job .ensures .0 .1
+
+slice-aggregate-write-all : tie.Need-slice-aggregate-write-all
+slice-aggregate-write-all c = let o = c .before .before .put-job in sym (length-take-le (o .result) (o .last .0) (o .ensures .0 .1))
+
+write-all-requires : tie.Need-write-all-requires
+write-all-requires c κs = search needs
+
+slice-aggregate-fail : tie.Need-slice-aggregate-fail
+slice-aggregate-fail c = search needs
+
+fail-requires : tie.Need-fail-requires
+fail-requires c κs = search needs
+
+returns : tie.Need-returns
+returns c = search needs
+
+returns-2 : tie.Need-returns-2
+returns-2 c = search needs
+
+pub main-spec : {M : Type 1} → statement M
+main-spec =
+    tie.close
+    (tie.spec
+    number-at-requires
+    number-at-requires-2
+    narrow-requires
+    number-at-requires-3
+    narrow-requires-2
+    number-at-requires-4
+    narrow-requires-3
+    number-at-requires-5
+    narrow-requires-4
+    number-at-requires-6
+    narrow-requires-5
+    slice-aggregate-read-full
+    read-full-requires
+    slice-aggregate-put-job
+    array-share-prefix-job
+    slice-aggregate-put-job-2
+    put-job-requires
+    array-share-prefix-out
+    slice-aggregate-write-all
+    write-all-requires
+    slice-aggregate-fail
+    fail-requires
+    returns
+    returns-2)
