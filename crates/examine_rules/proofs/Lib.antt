@@ -1,0 +1,9 @@
+pub mod ExamineTrials
+pub mod Simulation
+pub mod Given
+pub mod Generic
+pub mod Examined
+pub mod Words
+pub mod Naming
+pub mod Ours
+pub mod OursInFrame

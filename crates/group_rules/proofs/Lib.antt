@@ -1,0 +1,16 @@
+pub mod GroupTrials
+pub mod Labelled
+pub mod Lists
+pub mod Split
+pub mod Parts
+pub mod Refusals
+pub mod Running
+pub mod Joined
+pub mod Requests
+pub mod Claim
+pub mod Simulated
+pub mod Frame
+pub mod FrameTakes
+pub mod Lifted
+pub mod Independent
+pub mod RequestTrials

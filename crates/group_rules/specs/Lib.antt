@@ -1,0 +1,10 @@
+pub mod Groups
+pub mod Labelled
+pub mod Refusals
+pub mod Requests
+pub mod Claim
+pub mod GroupTrials
+pub mod Frame
+pub mod FrameTakes
+pub mod Renamed
+pub mod RequestTrials
