@@ -102,9 +102,9 @@ module _ (t : RegInfo) (f : Function) (ta : target.Accepted t) (fa : function.Ac
       record {
         lies = λ x m s low h. ⊎-elim (λ q. st s (editSize t f x) (a .lies x q s low h)) (λ q. b .lies x q s low h) (List·Memᴰ·append-cases es m);
         named = λ s lo hi.
-        any-append (namesSlot t f s) es fs
-        ∙ ⊎-elim (λ q. or-left (any (namesSlot t f s) es) (any (namesSlot t f s) fs) (a .named s lo q)) (λ q. or-right (any (namesSlot t f s) es) (any (namesSlot t f s) fs) (b .named s q hi))
-        (below? s (f .slots + d .made));
+            any-append (namesSlot t f s) es fs
+            ∙ ⊎-elim (λ q. or-left (any (namesSlot t f s) es) (any (namesSlot t f s) fs) (a .named s lo q)) (λ q. or-right (any (namesSlot t f s) es) (any (namesSlot t f s) fs) (b .named s q hi))
+            (below? s (f .slots + d .made));
       }
 
   sizes-call : (q : Patch) (room : ℕ) (c d : Cache) (es : List Edit) (n : ℕ) → resolve t f q room c ≡ resolved es d n → Sizes c es d
@@ -156,9 +156,9 @@ module _ (t : RegInfo) (f : Function) (ta : target.Accepted t) (fa : function.Ac
         once = g .ins;
         lies = λ x m s low h. ⊎-elim (λ q. st s (editSize t f x) (b .lies x q s low h)) (λ q. o .lies x q s low h) (List·Memᴰ·append-cases es m);
         named = λ s lo hi.
-        any-append (namesSlot t f s) es fs
-        ∙ ⊎-elim (λ q. or-left (any (namesSlot t f s) es) (any (namesSlot t f s) fs) (b .named s lo q)) (λ q. or-right (any (namesSlot t f s) es) (any (namesSlot t f s) fs) (o .named s q hi))
-        (below? s (f .slots + c .made));
+            any-append (namesSlot t f s) es fs
+            ∙ ⊎-elim (λ q. or-left (any (namesSlot t f s) es) (any (namesSlot t f s) fs) (b .named s lo q)) (λ q. or-right (any (namesSlot t f s) es) (any (namesSlot t f s) fs) (o .named s q hi))
+            (below? s (f .slots + c .made));
       }
 
   beside-then : (es : List Edit) (x : Request) (s : Served) → Previews t f s → Still (s .now .cache) → Between t f es (s .now .cache) → (o : Option Standing) → standing t f x s ≡ o

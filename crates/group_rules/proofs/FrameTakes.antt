@@ -185,7 +185,7 @@ module _ (limit : ℕ) (l : List Inlined) (ok : openRefusal limit l ≡ none) wh
         let q = take-now later i (left-then es c m) (omega (arith, count-then, z)) (sym y) in
         let made-is : later .formulas i .made ≡ s .formulas i .made = made-calls i k behind z ∙ made-behind in
         let vs : frame.standingIn later i (itsTakeIn s i p room) ≡ some (record { patch = p; answer = resolved es c m }) =
-            ap (λ o. takenIn o later i) (asked-then ∙ ap (λ r. askedOf (s .counter) (previewOf p room (s .formulas i .count) r)) e) ∙ ap (λ r. some (record { patch = p; answer = r })) q in
+        ap (λ o. takenIn o later i) (asked-then ∙ ap (λ r. askedOf (s .counter) (previewOf p room (s .formulas i .count) r)) e) ∙ ap (λ r. some (record { patch = p; answer = r })) q in
         let vr : frame.standingIn s i (take.resolving p room) ≡ some (record { patch = p; answer = resolved es c m }) = ap (λ r. some (record { patch = p; answer = r })) e in (
           ap (λ o. toldOf later i (answerIn o)) vs ∙ ap (λ n. edits es n m) (omega (arith, made-is, y)) ∙ sym (ap (λ o. toldOf s i (answerIn o)) vr),
           own-cache later i (takeOf s i p room) ∙ ap (λ o. stampedBy (nowIn later i) o .cache) vs ∙ sym (ap (λ o. stampedBy (nowIn s i) o .cache) vr) ∙ sym (own-cache s i (single (take.resolving p room))),

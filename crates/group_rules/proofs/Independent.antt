@@ -262,7 +262,7 @@ module _ (limit : ℕ) (l : List Inlined) (ok : openRefusal limit l ≡ none) (i
     resolving-next p room =
         ⊎-elim (λ h. inl (inl (ap (λ r. toldOf s i (some r)) h)))
         (λ h. let m : Moves (stampedBy (nowIn s i) (some (record { patch = p; answer = resolveIn s i p room }))) (stampedBy (nowIn q i) (some (record { patch = p; answer = resolveIn q i p room }))) =
-                  rw h (moves-by p p (resolveIn q i p room) (grown p room (resolveIn q i p room) refl)) in
+        rw h (moves-by p p (resolveIn q i p room) (grown p room (resolveIn q i p room) refl)) in
         inr (
           ρ′,
           same (single (resolving p room)) (ap (λ r. toldOf s i (some r)) h ∙ told-like (resolveIn q i p room)),
@@ -294,9 +294,9 @@ module _ (limit : ℕ) (l : List Inlined) (ok : openRefusal limit l ≡ none) (i
         let vs : frame.standingIn s i (taking n) ≡ some (record { patch = a .preview .patch; answer = takeIn a s i }) = ap (λ o. takenIn o s i) ea in
         let vq : frame.standingIn q i (taking n) ≡ some (record { patch = b .preview .patch; answer = takeIn b q i }) = ap (λ o. takenIn o q i) eb in
         let m : Moves (stampedBy (nowIn s i) (frame.standingIn s i (taking n))) (stampedBy (nowIn q i) (frame.standingIn q i (taking n))) =
-            subst (λ o. Moves (stampedBy (nowIn s i) o) (stampedBy (nowIn q i) (frame.standingIn q i (taking n)))) (sym vs)
-            (subst (λ o. Moves (stampedBy (nowIn s i) (some (record { patch = a .preview .patch; answer = takeIn a s i }))) (stampedBy (nowIn q i) o)) (sym vq)
-            (rw h (moves-by (a .preview .patch) (b .preview .patch) (takeIn b q i) k))) in
+        subst (λ o. Moves (stampedBy (nowIn s i) o) (stampedBy (nowIn q i) (frame.standingIn q i (taking n)))) (sym vs)
+        (subst (λ o. Moves (stampedBy (nowIn s i) (some (record { patch = a .preview .patch; answer = takeIn a s i }))) (stampedBy (nowIn q i) o)) (sym vq)
+        (rw h (moves-by (a .preview .patch) (b .preview .patch) (takeIn b q i) k))) in
         inr (
           ρ′,
           same (single (taking n)) (ap (λ o. toldOf s i (answerIn o)) vs ∙ ap (λ r. toldOf s i (some r)) h ∙ told-like (takeIn b q i) ∙ sym (ap (λ o. renTold ρ′ (toldOf q i (answerIn o))) vq)),
@@ -332,7 +332,7 @@ module _ (limit : ℕ) (l : List Inlined) (ok : openRefusal limit l ≡ none) (i
         let vs : frame.standingIn s i (taking n) ≡ none = ap (λ o. takenIn o s i) ea in
         let vq : frame.standingIn q i (taking n) ≡ none = ap (λ o. takenIn o q i) eb in
         let m : Moves (stampedBy (nowIn s i) (frame.standingIn s i (taking n))) (stampedBy (nowIn q i) (frame.standingIn q i (taking n))) =
-            subst (λ o. Moves (stampedBy (nowIn s i) o) (stampedBy (nowIn q i) (frame.standingIn q i (taking n)))) (sym vs) (subst (λ o. Moves (nowIn s i) (stampedBy (nowIn q i) o)) (sym vq) stays-so) in
+        subst (λ o. Moves (stampedBy (nowIn s i) o) (stampedBy (nowIn q i) (frame.standingIn q i (taking n)))) (sym vs) (subst (λ o. Moves (nowIn s i) (stampedBy (nowIn q i) o)) (sym vq) stays-so) in
         inr (
           ρ′,
           same (single (taking n)) (ap (λ o. toldOf s i (answerIn o)) vs ∙ sym (ap (λ o. renTold ρ′ (toldOf q i (answerIn o))) vq)),
@@ -382,7 +382,7 @@ module _ (limit : ℕ) (l : List Inlined) (ok : openRefusal limit l ≡ none) (i
     grouping-next p room =
         ⊎-elim (λ h. inl (inl (ap (λ r. toldOf s i (some r)) h)))
         (λ h. let m : Moves (stampedBy (nowIn s i) (some (record { patch = p; answer = groupsIn s i p room }))) (stampedBy (nowIn q i) (some (record { patch = p; answer = groupsIn q i p room }))) =
-                  rw h (moves-by p p (groupsIn q i p room) (groups-grown p room (groupsIn q i p room) refl)) in
+        rw h (moves-by p p (groupsIn q i p room) (groups-grown p room (groupsIn q i p room) refl)) in
         inr (
           ρ′,
           same (grouping p room) (ap (λ r. toldOf s i (some r)) h ∙ told-like (groupsIn q i p room)),

@@ -191,7 +191,7 @@ module _ (t : RegInfo) (f : Function) (ta : target.Accepted t) (fa : function.Ac
       record {
         dests = λ e k u h y. n (sep t f ta p x g (asEntry m) e o (of-piece g e k) (meet u (entryUnits t (asEntry m)) (entryUnits t e) (source-unit u m h) (dest-unit u e y)));
         free = λ u h k. true≢false
-        (sym (mem-any (λ e. has u (sourceUnits t e)) (chosen (λ y. no (eqb y g)) ls (p .entries)) (asEntry m) (other g x n (asEntry m) o) (reg-unit (m .source) u h)) ∙ free-sub g u k .1);
+            (sym (mem-any (λ e. has u (sourceUnits t e)) (chosen (λ y. no (eqb y g)) ls (p .entries)) (asEntry m) (other g x n (asEntry m) o) (reg-unit (m .source) u h)) ∙ free-sub g u k .1);
       }
     where
       other : (g x : ℕ) → (x ≡ g → ⊥) → (e : Entry) → Of x e → List·Memᴰ e (chosen (λ y. no (eqb y g)) ls (p .entries))
@@ -248,10 +248,10 @@ module _ (t : RegInfo) (f : Function) (ta : target.Accepted t) (fa : function.Ac
           units = b .units;
           slots = b .slots;
           survives = λ i il.
-          let x = kept t f p content i in
-          let y = sp .somewhere x (at-mem noMove (sorted t f p .moves) i il) in
-          let o = sp .piece (y .0) .own x (y .1) in
-          (x .dest, b .done (y .0) (at-rest D m w b (y .0) (covers t f ta p (y .0) (asEntry x) o)) (asEntry x) o, inl (i, il, refl, inr refl));
+              let x = kept t f p content i in
+              let y = sp .somewhere x (at-mem noMove (sorted t f p .moves) i il) in
+              let o = sp .piece (y .0) .own x (y .1) in
+              (x .dest, b .done (y .0) (at-rest D m w b (y .0) (covers t f ta p (y .0) (asEntry x) o)) (asEntry x) o, inl (i, il, refl, inr refl));
         }
 
     finished-last : (D : ℕ → Type 0) (m : Memory) (w : List Written) → Begun D [] m → Finished t f p content (extended w (begin m))
@@ -300,7 +300,7 @@ module _ (t : RegInfo) (f : Function) (ta : target.Accepted t) (fa : function.Ac
             v .0,
             v .1 ∙ ap content q,
             ⊎-elim (λ h. inl (subst (OfValue t f p content (v .0)) q (of-value g (v .0) (kept t f (piece g) content (z .0) .value) h)))
-            (λ h. inr (Memᴰ·append-left w (subst (λ (n : ℕ). IsScratch t f p content s (v .0) n) q h))) (v .2),
+                (λ h. inr (Memᴰ·append-left w (subst (λ (n : ℕ). IsScratch t f p content s (v .0) n) q h))) (v .2),
           )
       lives w i il x k (inr (inl d)) = let y = kept t f p content i in (y .dest, dest-stands x d (asEntry y) (sp .piece x .own y k), inl (i, il, refl, inr refl))
       lives w i il x k (inr (inr h)) = let y = kept t f p content i in (y .source, source-stands x h y k, inl (i, il, refl, inl refl))
@@ -328,9 +328,9 @@ module _ (t : RegInfo) (f : Function) (ta : target.Accepted t) (fa : function.Ac
             units = frame-units;
             slots = frame-slots;
             survives = λ i il.
-            let x = kept t f p content i in
-            let y = sp .somewhere x (at-mem noMove (sorted t f p .moves) i il) in
-            lives w i il (y .0) (y .1) (whose (y .0) (covers t f ta p (y .0) (asEntry x) (sp .piece (y .0) .own x (y .1))));
+                let x = kept t f p content i in
+                let y = sp .somewhere x (at-mem noMove (sorted t f p .moves) i il) in
+                lives w i il (y .0) (y .1) (whose (y .0) (covers t f ta p (y .0) (asEntry x) (sp .piece (y .0) .own x (y .1))));
           }
 
       -- the group has run
@@ -425,8 +425,8 @@ module _ (t : RegInfo) (f : Function) (ta : target.Accepted t) (fa : function.Ac
           units = λ u l nd nf. (refl, refl);
           slots = λ x l nd. refl;
           holds = λ g h j jl.
-          let z = index g j jl in
-          ap (λ (x : KeptMove). read t f start (x .source)) (sym (z .2)) ∙ hold (z .0) (z .1) ∙ ap (λ (x : KeptMove). content (x .value)) (z .2);
+              let z = index g j jl in
+              ap (λ (x : KeptMove). read t f start (x .source)) (sym (z .2)) ∙ hold (z .0) (z .1) ∙ ap (λ (x : KeptMove). content (x .value)) (z .2);
           done = λ g d e o. absurd d;
           all = λ g h. inr h;
           apart = λ g d h. d;

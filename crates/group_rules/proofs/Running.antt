@@ -84,7 +84,6 @@ map-same : (h k : ℕ → ℕ) (l : List ℕ) → ((u : ℕ) → List·Memᴰ u 
 map-same h k [] e = refl
 map-same h k (x ∷ l) e = rw (e x (List·Memᴰ·head refl), map-same h k l (λ u m. e u (List·Memᴰ·tail m)))
 
-
 module _ (t : RegInfo) (f : Function) (ta : target.Accepted t) where
   -- no unit of p is one of q
   abbrev pub Off : Place → Place → Type 0

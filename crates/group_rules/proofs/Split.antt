@@ -93,8 +93,12 @@ module _ (t : RegInfo) (f : Function) where
   unfolding destinations
   any-dests q a =
       any-append q (map (λ (m : KeptMove). m .dest) (a .moves)) _
-      ∙ rw (any-append q (map (λ (r : Remat). r .dest) (a .remats)) (map (λ (r : Remat). r .dest) (a .rematsWithScratch)),
-      any-map q (λ (m : KeptMove). m .dest) (a .moves), any-map q (λ (r : Remat). r .dest) (a .remats), any-map q (λ (r : Remat). r .dest) (a .rematsWithScratch)) refl
+      ∙ rw (
+        any-append q (map (λ (r : Remat). r .dest) (a .remats)) (map (λ (r : Remat). r .dest) (a .rematsWithScratch)),
+        any-map q (λ (m : KeptMove). m .dest) (a .moves),
+        any-map q (λ (r : Remat). r .dest) (a .remats),
+        any-map q (λ (r : Remat). r .dest) (a .rematsWithScratch),
+      ) refl
 
   -- `Own g e`: e is an entry of the group g; entries that are near are of one group
   module _ (Own : ℕ → Entry → Type 0) (sep : (x y : ℕ) (e e′ : Entry) → Own x e → Own y e′ → near t e e′ ≡ true → x ≡ y) where
@@ -224,13 +228,13 @@ module _ (t : RegInfo) (f : Function) where
           subst (λ (z : Sorted). Split gs z (after x e b)) (sym ga)
           (record {
             piece = λ g. branch (Piece g (grown k a)) (eqb x g) (add t f e (b g)) (b g)
-            (λ y. let z : x ≡ g = eqb-true x g y in
-            subst (Piece g (grown k a)) (sym (ap (λ (w : ℕ). add t f e (b w)) (sym z) ∙ gb ∙ ap (λ (w : ℕ). grown k (b w)) z)) (piece-in g a (b g) k (sp .piece g) (λ m q. subst (λ (w : ℕ). Own w (asEntry m)) z (owned e o m q))))
-            (λ y. piece-out g a (b g) k (sp .piece g));
+                (λ y. let z : x ≡ g = eqb-true x g y in
+                subst (Piece g (grown k a)) (sym (ap (λ (w : ℕ). add t f e (b w)) (sym z) ∙ gb ∙ ap (λ (w : ℕ). grown k (b w)) z)) (piece-in g a (b g) k (sp .piece g) (λ m q. subst (λ (w : ℕ). Own w (asEntry m)) z (owned e o m q))))
+                (λ y. piece-out g a (b g) k (sp .piece g));
             somewhere = λ m h. ⊎-elim (λ y. let w = sp .somewhere m y in (w .0, stays (w .0) e m (w .1)))
-            (λ y. (x, subst (λ (z : Sorted). List·Memᴰ m (z .moves)) (sym bx) y)) (moves-new k a (b x) m h);
+                (λ y. (x, subst (λ (z : Sorted). List·Memᴰ m (z .moves)) (sym bx) y)) (moves-new k a (b x) m h);
             bounds = bound-grown k a ∙ ap (λ (z : ℕ). z + dear k) (sp .bounds)
-            ∙ sym (total-grows (λ g. bound (b g)) (λ g. bound (after x e b g)) gs x (dear k) hx once (ap bound bx ∙ bound-grown k (b x)) (λ g n. ap bound (other g n)));
+                ∙ sym (total-grows (λ g. bound (b g)) (λ g. bound (after x e b g)) gs x (dear k) hx once (ap bound bx ∙ bound-grown k (b x)) (λ g n. ap bound (other g n)));
           })
         where
           stays : (g : ℕ) (e : Entry) (m : KeptMove) → List·Memᴰ m (b g .moves) → List·Memᴰ m (after x e b g .moves)
@@ -256,19 +260,39 @@ module _ (t : RegInfo) (f : Function) where
       unfolding entryConditions
       entry-passes (move s d v) o so h =
           let q = same-dropped s d v o so in
-          every-first (entryConditions t f (b x) (move s d v))
-          (fewer (first-none _ h 0 (omega arith)),
-          (first-none _ h 1 (omega arith),
-          (first-none _ h 2 (omega arith),
-          (first-none _ h 3 (omega arith),
-          (rw (← q) (and-less (overlapsEarlier t f a d) (overlapsEarlier t f (b x) d) (no (dropped t f a s d v)) (dests-less (λ p. overlap t p d)) (first-none _ h 4 (omega arith))),
-          (rw (← q) (and-right (and (no (becomesRemat t f s d v)) (no (dropped t f a s d v))) (overlapsSource t a s) (overlapsSource t (b x) s) (any-sub _ (b x .moves) (a .moves) (sp .piece x .moves)) (first-none _ h 5 (omega arith))),
-          tt))))))
+          every-first (entryConditions t f (b x) (move s d v)) (
+            fewer (first-none _ h 0 (omega arith)),
+            (
+              first-none _ h 1 (omega arith),
+              (
+                first-none _ h 2 (omega arith),
+                (
+                  first-none _ h 3 (omega arith),
+                  (
+                    rw (← q) (and-less (overlapsEarlier t f a d) (overlapsEarlier t f (b x) d) (no (dropped t f a s d v)) (dests-less (λ p. overlap t p d)) (first-none _ h 4 (omega arith))),
+                    (
+                      rw (← q) (and-right (and (no (becomesRemat t f s d v)) (no (dropped t f a s d v))) (overlapsSource t a s) (overlapsSource t (b x) s) (any-sub _ (b x .moves) (a .moves) (sp .piece x .moves)) (first-none _ h 5 (omega arith))),
+                      tt,
+                    ),
+                  ),
+                ),
+              ),
+            ),
+          )
       entry-passes (remat d v) o so h =
-          every-first (entryConditions t f (b x) (remat d v))
-          (fewer (first-none _ h 0 (omega arith)),
-          (first-none _ h 1 (omega arith),
-          (first-none _ h 2 (omega arith),
-          (first-none _ h 3 (omega arith),
-          (not-then (overlapsEarlier t f a d) (overlapsEarlier t f (b x) d) (dests-less (λ p. overlap t p d)) (first-none _ h 4 (omega arith)),
-          tt)))))
+          every-first (entryConditions t f (b x) (remat d v)) (
+            fewer (first-none _ h 0 (omega arith)),
+            (
+              first-none _ h 1 (omega arith),
+              (
+                first-none _ h 2 (omega arith),
+                (
+                  first-none _ h 3 (omega arith),
+                  (
+                    not-then (overlapsEarlier t f a d) (overlapsEarlier t f (b x) d) (dests-less (λ p. overlap t p d)) (first-none _ h 4 (omega arith)),
+                    tt,
+                  ),
+                ),
+              ),
+            ),
+          )
