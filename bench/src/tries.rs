@@ -71,7 +71,10 @@ fn drawn(seed: &mut u32, registers: usize, draft: &Draft) -> Vec<u32> {
 
 /// A function, and the patches that are drawn at each setting, refused ones among them.
 struct Row {
+    /// Its target and function.
     bytes: Vec<u8>,
+    /// The same, with a patch count behind them.
+    job: Vec<u8>,
     drawn: [Vec<Vec<u32>>; 2],
     accepted: u64,
 }
@@ -80,9 +83,10 @@ impl Row {
     /// Draws the patches, and sees that the counts of trying are those of resolving them.
     fn new(draft: &Draft, memory: &mut Memory) -> Row {
         let bytes = ours::beginning(draft);
+        let job = [&bytes[..], &[1]].concat();
         let registers = draft.target.registers.len();
         let mut tallies = [[0; 263]; 2];
-        timed_ours_try(&bytes, PRICES, SEED, PATCHES, &mut tallies, memory);
+        timed_ours_try(&job, PRICES, SEED, PATCHES, &mut tallies, memory);
         let mut all = [Vec::new(), Vec::new()];
         for (index, patches) in all.iter_mut().enumerate() {
             let mut opened = Opened::new(index as u32 + 1, &bytes);
@@ -107,6 +111,7 @@ impl Row {
         }
         Row {
             bytes,
+            job,
             drawn: all,
             accepted: tallies[0][0] + tallies[1][0],
         }
@@ -141,7 +146,7 @@ impl Row {
     fn time_trying(&self, clock: &Clock, memory: &mut Memory) -> f64 {
         let mut tallies = [[0; 263]; 2];
         let from = time::ticks();
-        timed_ours_try(&self.bytes, PRICES, SEED, PATCHES, &mut tallies, memory);
+        timed_ours_try(&self.job, PRICES, SEED, PATCHES, &mut tallies, memory);
         let ticks = (time::ticks() - from) as f64;
         black_box(tallies);
         clock.ns(ticks)

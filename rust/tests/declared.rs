@@ -78,7 +78,11 @@ fn listed(parameters: &str) -> impl Iterator<Item = &str> {
 /// The types that `type NAME = TYPE;` names.
 fn types(text: &str, names: &mut Names) {
     for line in text.lines() {
-        let line = line.strip_prefix("pub ").unwrap_or(line);
+        let public = ["pub ", "pub(crate) "];
+        let line = public
+            .iter()
+            .find_map(|public| line.strip_prefix(public))
+            .unwrap_or(line);
         if let Some((name, meaning)) = line.strip_prefix("type ").and_then(|l| l.split_once(" = "))
         {
             let meaning = meaning.trim_end_matches(';').replace('_', "");
