@@ -1,6 +1,5 @@
 -- The trials of 02 m, by computation.
 use mathlib.Core.Path.{refl}
-use lib.ListN.{replicate}
 use Rattle.entity.specs.Logic.{any, all, has, meets, twice, lastOr, indices}
 use Rattle.entity.specs.Place.{placeAt}
 use Rattle.reginfo.specs.RegInfo.{spillslotSize, topLevelClass, stackToStackClass, regMemory, bankForReg, regUnits, bankForClass, classSlots, classMembers, allocationOrder}

@@ -1,16 +1,15 @@
 -- 02 m: the answer is the one that is asked for.
-use mathlib.Core.Path.{_≡_, refl, sym, _∙_, ap, ap₂, subst}
+use mathlib.Core.Path.{_≡_, refl, sym, _∙_, ap, ap₂}
 use mathlib.Core.Bool.{Bool, true, false, false≢true, true≢false}
 use mathlib.Core.List.{List, [], _∷_, List·Memᴰ, List·Memᴰ·head, List·Memᴰ·tail}
 use mathlib.Core.Option.{Option, none, some}
-use mathlib.Core.Logic.{_⊎_, inl, inr, ⊎-elim, _↔_}
+use mathlib.Core.Logic.{_⊎_, inl, inr}
 use Prim.Native.Nat.{ℕ, zero, suc, _+_, _<_, _≤_}
 use native.Mathlib.Omega.{arith}
 use lib.Dec.{eqb}
 use lib.ListN.{length, getD}
 use borrow.Author.Tests.{eqb-true, eq-eqb}
-use Rattle.entity.specs.Logic.{pick, and, or, no, any, all, has, indices}
-use Rattle.entity.specs.Place.{Place, slot, samePlace}
+use Rattle.entity.specs.Logic.{pick, and, or, no, all, has, indices}
 use Rattle.entity.proofs.Laws.{and-true, never-true}
 use Rattle.reginfo.specs.RegInfo.{RegInfo}
 use Rattle.reginfo.specs.Refused as target
@@ -20,11 +19,10 @@ use Rattle.rules.specs.Edit.{Edit}
 use Rattle.rules.specs.Order.{KeptMove, noMove}
 use Rattle.rules.specs.Patch.{Entry, Patch, Sorted, sorted}
 use Rattle.rules.specs.Sorted.{SortedOk}
-use Rattle.rules.proofs.Tested.{Tested}
-use Rattle.machine.specs.Machine.{Memory, inSlot, Machine, begin, read, steps}
-use Rattle.machine.specs.Claim.{entryDest, entryValue, Contents, Holding}
+use Rattle.machine.specs.Machine.{Memory, Machine, begin, read, steps}
+use Rattle.machine.specs.Claim.{entryDest, entryValue}
 use Rattle.machine.proofs.Entries.{Became, entry-ends}
-use Rattle.examine_rules.specs.Examine.{Verdict, Yes, No, Refused, sameWords, isDestUnit, isDestSlot, Ends, DoneFrom, Does, Fails, genericContent, genericStart, noStart, endsRight, judged, judgedFrom, named, examine, patchRefusal}
+use Rattle.examine_rules.specs.Examine.{Verdict, Yes, No, Refused, sameWords, isDestUnit, isDestSlot, Ends, Does, Fails, genericContent, genericStart, noStart, endsRight, judged, judgedFrom, named, examine, patchRefusal}
 use Rattle.examine_rules.specs.Examined.{AllNamed, AnswersOf, Examined}
 use Rattle.examine_rules.proofs.Given.{tested-of, low, narrow}
 use Rattle.examine_rules.proofs.Simulation.{read-image, steps-image}

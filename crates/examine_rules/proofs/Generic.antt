@@ -1,14 +1,14 @@
 -- The generic start: it is a start where there is one, and every start is it with its words and lists renamed.
-use mathlib.Core.Path.{_≡_, refl, sym, _∙_, ap, ap₂, subst}
+use mathlib.Core.Path.{_≡_, refl, sym, _∙_, ap, ap₂}
 use mathlib.Core.Bool.{Bool, true, false, false≢true, true≢false}
 use mathlib.Core.List.{List, [], _∷_, map}
 use mathlib.Core.Logic.{_⊎_, inl, inr, ⊎-elim}
 use Prim.Native.Nat.{ℕ, zero, suc, _+_, _-_, _*_, _/_, _%_, _<_, _≤_}
 use native.Mathlib.Omega.{arith}
-use lib.Dec.{T, eqb, ltb, T-not}
-use lib.ListN.{length, getD, length-map}
-use borrow.Author.Tests.{eqb-true, eqb-false, eq-eqb, ltb-true, lt-ltb, le-ltb}
-use Rattle.entity.specs.Logic.{pick, and, or, no, any, has, indices}
+use lib.Dec.{eqb, ltb}
+use lib.ListN.{length, getD}
+use borrow.Author.Tests.{eqb-true, eqb-false, eq-eqb, lt-ltb, le-ltb}
+use Rattle.entity.specs.Logic.{pick, and, or, no, any, indices}
 use Rattle.entity.specs.Place.{Place, reg, slot, samePlace}
 use Rattle.entity.proofs.Laws.{or-false, and-true, and-false, no-false, never-true, any-at, length-indices}
 use Rattle.reginfo.specs.RegInfo.{RegInfo, isMemory, placeUnits, overlap}
@@ -17,20 +17,19 @@ use Rattle.function.specs.Function.{Function, numValues}
 use Rattle.function.specs.Refused as function
 use Rattle.rules.specs.Edit.{updated}
 use Rattle.rules.specs.Order.{KeptMove, noMove}
-use Rattle.rules.specs.Patch.{Patch, Sorted, sorted}
+use Rattle.rules.specs.Patch.{Sorted}
 use Rattle.rules.specs.Sorted.{SortedOk}
 use Rattle.rules.proofs.Accepted.{same-is}
 use Rattle.rules.proofs.Steps.{updated-at}
-use Rattle.rules.proofs.Tested.{Tested}
 use Rattle.machine.specs.Machine.{Memory, cell, put, read, write, fits}
-use Rattle.machine.specs.Claim.{Contents, Holding}
+use Rattle.machine.specs.Claim.{Contents}
 use Rattle.machine.proofs.Tests.{yes-of}
 use Rattle.machine.proofs.Memory.{put-self, covers, write-off, read-off, read-write}
 use Rattle.machine.proofs.Premises.{place-fits}
 use Rattle.group_rules.specs.Groups.{Together, self, link, chain, labels}
 use Rattle.group_rules.specs.Labelled.{Labelled}
 use Rattle.group_rules.proofs.Labelled.{labelled}
-use Rattle.examine_rules.specs.Examine.{width, tied, numberIn, numberOf, genericContent, unknown, blank, laid, genericStart, noStart}
+use Rattle.examine_rules.specs.Examine.{width, tied, numberIn, numberOf, genericContent, unknown, laid, genericStart, noStart}
 use Rattle.examine_rules.proofs.Given.{targetOk, apart-of, low, narrow, width-of, width-is, width-small}
 use Rattle.examine_rules.proofs.Simulation.{Image, write-image}
 

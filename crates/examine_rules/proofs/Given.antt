@@ -2,17 +2,16 @@
 use mathlib.Core.Path.{_≡_, refl, sym, _∙_, ap, subst}
 use mathlib.Core.Bool.{Bool, true, false, not, _&&_, _||_, false≢true}
 use mathlib.Core.List.{List, [], _∷_, _++_, append-assoc}
-use mathlib.Core.Option.{Option, none, some}
-use mathlib.Core.Logic.{_⊎_, inl, inr, ⊎-elim}
+use mathlib.Core.Option.{none}
 use Prim.Native.Nat.{ℕ, zero, suc, _+_, _<_, _≤_}
 use native.Mathlib.Omega.{arith}
 use native.Mathlib.Decide.{decLt}
 use lib.Dec.{T}
-use lib.ListN.{length, getD, length-append, List·getD-append}
+use lib.ListN.{length, List·getD-append}
 use borrow.Author.Tests.{le-ltb}
 use Rattle.entity.specs.Logic.{has, twice}
 use Rattle.entity.specs.Place.{Place, reg, slot}
-use Rattle.reginfo.specs.RegInfo.{RegInfo, numRegs, numBanks, numClasses, bankForReg, regUnits, isMemoryReg, isMemory, placeUnits, overlap, lastInOrder, stackToStackClass, allocationOrder, classMembers}
+use Rattle.reginfo.specs.RegInfo.{RegInfo, numRegs, bankForReg, regUnits, isMemoryReg, isMemory, placeUnits, overlap, lastInOrder, stackToStackClass}
 use Rattle.reginfo.specs.Refused as target
 use Rattle.reginfo.specs.Refused.{Condition, cond, firstOf}
 use Rattle.reginfo.specs.Given.{Given, NoneHolds, conditionAt}
@@ -26,9 +25,9 @@ use Rattle.rules.specs.Scratch.{Cache, emptyCache}
 use Rattle.rules.specs.Patch.{Patch, nothingSorted, sorted, bound, Answer, refused, resolved, patchConditions, run, resolve}
 use Rattle.rules.specs.Refusals.{ranOut, entriesConditions, callConditions}
 use Rattle.rules.proofs.Refusals.{refusals}
-use Rattle.rules.proofs.Tested.{Tested, Late, tested}
+use Rattle.rules.proofs.Tested.{Tested, tested}
 use Rattle.machine.specs.Claim.{Contents}
-use Rattle.machine.proofs.Tests.{hasIn, yes-of, no-of, of-yes, of-no}
+use Rattle.machine.proofs.Tests.{yes-of, no-of, of-yes, of-no}
 use Rattle.machine.proofs.Memory.{distinct, TargetOk, Apart}
 use Rattle.machine.proofs.Search.{place-covers}
 use Rattle.machine.proofs.Premises.{disjoint, no-units, reg-low, reg-once, reg-own, reg-kinds}

@@ -1,14 +1,14 @@
 -- Every edit of a run names a register of the target, a value of the function and a slot that there is.
 use Prim.Native.Nat.{ℕ, zero, suc, pred, _+_, _<_, _≤_}
-use mathlib.Core.Path.{_≡_, refl, sym, ap, subst, _∙_}
+use mathlib.Core.Path.{_≡_, refl, subst}
 use mathlib.Core.Bool.{Bool, true, false}
 use mathlib.Core.List.{List, [], _∷_, _++_, reverse}
 use mathlib.Core.Option.{Option, none, some}
 use native.Mathlib.Omega.{arith}
 use lib.Dec.{eqb, ltb}
-use lib.ListN.{length, getD, take, drop}
+use lib.ListN.{length, take, drop}
 use borrow.Author.Tests.{ltb-true, lt-ltb}
-use Rattle.entity.specs.Logic.{pick, and, or, no, any, has, indices}
+use Rattle.entity.specs.Logic.{and, or, no, any, has, indices}
 use Rattle.entity.specs.Place.{Place, reg, slot, names}
 use Rattle.reginfo.specs.RegInfo.{RegInfo, numRegs, numBanks, numClasses, allocationOrder, classMembers, includesSpillslots, lastInOrder, spillslotSize, topLevelClass, stackToStackClass, bankForClass, isMemory}
 use Rattle.reginfo.specs.Refused as target
@@ -16,9 +16,9 @@ use Rattle.reginfo.proofs.Accepted.{regs-fit, top-fits, stack-fits, class-bank-
 use Rattle.function.specs.Function.{Function, numValues, valueBank, rematClass}
 use Rattle.rules.specs.Edit.{Edit, Move, Rematerialize, EmergencySpill, EmergencyReload, updated, andThen, each, find, filter}
 use Rattle.rules.specs.Scratch.{Cache, ScratchAllocator, Evicted, Found, Acquired, acquireFrom, acquire, release, push, unevict, unevictAll, unevictBut, overlapsEvicted, unevictForReg, makeRoom, usable, meeting, searchedTo, slotScratch, evictLast, reuse, orScratch, getScratchReg, nothingBarred, moveEdits, doMove, releasePlace, withEvicted}
-use Rattle.rules.specs.Order.{KeptMove, noMove, Remat, State, ParallelMoves, Diverted, carryOne, carry, doRemat, remats, rematWithScratch, source, dest, value, writers, cycleMoveSources, emit, noted, divert, carried, lead, lost, undivert, undivertAll, close, visit, visitUnlessMemory, start, moves, withState, Pending, Done, isNew, isPending}
+use Rattle.rules.specs.Order.{KeptMove, Remat, State, ParallelMoves, Diverted, carryOne, carry, doRemat, remats, rematWithScratch, source, dest, value, writers, cycleMoveSources, emit, noted, divert, carried, lead, lost, undivert, undivertAll, close, visit, visitUnlessMemory, start, moves, withState, Pending, Done, isNew, isPending}
 use Rattle.rules.specs.Patch.{Patch, Sorted, run}
-use Rattle.rules.proofs.Steps.{All, all-then, all-after, all-map, branch, Every, every-reverse, every-index, all-each, updated-at}
+use Rattle.rules.proofs.Steps.{All, all-then, all-map, branch, Every, every-reverse, every-index, all-each, updated-at}
 use Rattle.rules.proofs.Writers.{writers-low}
 use Rattle.machine.proofs.Tests.{find-all, of-yes}
 use Rattle.examine_rules.specs.Examine.{named}

@@ -1,12 +1,12 @@
 -- 02 m: every list of ours gets a yes.
-use Prim.Native.Nat.{ℕ, zero, suc, _+_, _<_, _≤_}
+use Prim.Native.Nat.{ℕ, _+_, _<_, _≤_}
 use mathlib.Core.Path.{_≡_, refl, sym, ap, subst, _∙_}
-use mathlib.Core.Bool.{Bool, true, false}
+use mathlib.Core.Bool.{true}
 use mathlib.Core.List.{List, [], _∷_, _++_, map, List·Memᴰ, List·Memᴰ·head, List·Memᴰ·tail, List·Memᴰ·not-nil}
 use mathlib.Core.Option.{Option, none, some}
 use mathlib.Core.Logic.{_⊎_, inl, inr, ⊎-elim}
 use native.Mathlib.Omega.{arith}
-use lib.Dec.{T, ltb}
+use lib.Dec.{ltb}
 use lib.ListN.{length, getD, take}
 use borrow.Author.Tests.{ltb-true, lt-ltb}
 use Rattle.entity.specs.Logic.{has}
@@ -18,29 +18,29 @@ use Rattle.function.specs.Function.{Function, numValues, valueBank, rematClass}
 use Rattle.function.specs.Refused as function
 use Rattle.function.proofs.Laws.{bank-there, class-there, low-limit}
 use Rattle.rules.specs.Edit.{Edit, Move, Rematerialize, EmergencySpill, EmergencyReload}
-use Rattle.rules.specs.Scratch.{Cache, ScratchAllocator, emptyCache}
+use Rattle.rules.specs.Scratch.{Cache, ScratchAllocator}
 use Rattle.rules.specs.Order.{noMove}
 use Rattle.rules.specs.Patch.{Patch, Sorted, sorted, Answer, refused, resolved, run, resolve, cacheAfter}
 use Rattle.rules.specs.Refusals.{withLimit}
-use Rattle.rules.specs.Sorted.{SortedOk, RematOk, noRemat, Ran}
+use Rattle.rules.specs.Sorted.{SortedOk, noRemat}
 use Rattle.rules.specs.Take as take
 use Rattle.rules.specs.Take.{resolving, asking, taking, Preview, Served, fresh, Standing, takenOf, takeAnswer, stampedBy}
 use Rattle.rules.proofs.Accepted.{accepted}
 use Rattle.rules.proofs.Limit.{by-limit, made-within}
 use Rattle.rules.proofs.Steps.{All, Every, every-getD, every-map}
 use Rattle.rules.proofs.Take.{Previews, previews-fresh, is-call, stands}
-use Rattle.machine.specs.Machine.{Memory, Machine, begin, steps, counted, seen}
-use Rattle.machine.specs.Claim.{entryDest, Contents, Holding, Stopped, Accepted}
+use Rattle.machine.specs.Machine.{Machine, begin, steps, counted, seen}
+use Rattle.machine.specs.Claim.{Stopped, Accepted}
 use Rattle.machine.proofs.Cache.{CacheOk}
 use Rattle.machine.proofs.Demand.{called, cache-fresh}
 use Rattle.machine.proofs.Tests.{yes-of}
-use Rattle.group_rules.specs.Groups.{parts, resolveParts, resolveByGroups}
+use Rattle.group_rules.specs.Groups.{parts, resolveByGroups}
 use Rattle.group_rules.specs.Requests.{Request, single, grouping, standing, after, afterAll, reached}
 use Rattle.group_rules.proofs.Claim.{parts-each}
 use Rattle.group_rules.proofs.Joined.{passed-whole, grouped}
 use Rattle.group_rules.proofs.Requests.{previews-after, previews-all}
 use Rattle.edit.specs.Word.{wordOf}
-use Rattle.examine_rules.specs.Examine.{Yes, Ends, Does, named, patchRefusal}
+use Rattle.examine_rules.specs.Examine.{Yes, Does, named, patchRefusal}
 use Rattle.examine_rules.specs.Examined.{AllNamed}
 use Rattle.examine_rules.specs.Words.{examinePatch}
 use Rattle.examine_rules.specs.Ours.{EditsNamed, Passes, AllPass, handed, Ours}
@@ -156,14 +156,14 @@ module _ (t : RegInfo) (f : Function) where
     passes p acc most few es n a = words-examined t f ta fa p acc most few (map wordOf es) .yes-if .1 (es, refl, n, right-does p es a)
 
     -- between calls
-    abbrev Held : Cache → Type 0
+    abbrev pub Held : Cache → Type 0
     Held c = CacheOk t f c × (c .made ≤ f .limit)
 
     -- a call names slots below N + L, and leaves such a cache
-    abbrev Names : Cache → List Edit → Cache → Type 0
+    abbrev pub Names : Cache → List Edit → Cache → Type 0
     Names c es c′ = Held c → AllNamed t f (f .limit) es × Held c′
 
-    call-names : (p : Patch) (room : ℕ) (c c′ : Cache) (es : List Edit) (m : ℕ) → resolve t f p room c ≡ resolved es c′ m → Names c es c′
+    pub call-names : (p : Patch) (room : ℕ) (c c′ : Cache) (es : List Edit) (m : ℕ) → resolve t f p room c ≡ resolved es c′ m → Names c es c′
     call-names p room c c′ es m e h =
         let r = accepted t f p room c c′ es m e in
         let b : c′ .made ≤ f .limit = subst (λ (y : Cache). y .made ≤ f .limit) (sym (r .cache)) (made-within t f p (sorted t f p) c (r .allocator) (h .1) (r .ran) .1) in (
@@ -180,7 +180,7 @@ module _ (t : RegInfo) (f : Function) where
         let y = b (x .1) in
         (λ e m. ⊎-elim (x .0 e) (y .0 e) (mem-either es fs e m), y .1)
 
-    groups-name : (p : Patch) (room : ℕ) (c c′ : Cache) (es : List Edit) (m : ℕ) → resolveByGroups t f p room c ≡ resolved es c′ m → Names c es c′
+    pub groups-name : (p : Patch) (room : ℕ) (c c′ : Cache) (es : List Edit) (m : ℕ) → resolveByGroups t f p room c ≡ resolved es c′ m → Names c es c′
     groups-name p room c c′ es m e =
         parts-each t f room Names none-named (λ q c d c′ es fs n e r. then-named c d c′ es fs (call-names q room c d es n e) r) (parts t p) c c′ es m
         (passed-whole t f p room c c′ es m e .1)

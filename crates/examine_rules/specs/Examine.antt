@@ -7,7 +7,7 @@ use mathlib.Core.Option.{Option, none, some}
 use lib.Dec.{eqb, ltb}
 use lib.ListN.{length, replicate}
 use Rattle.entity.specs.Logic.{pick, and, or, no, any, all, has, indices}
-use Rattle.entity.specs.Place.{Place, slot, samePlace, names}
+use Rattle.entity.specs.Place.{slot, samePlace, names}
 use Rattle.reginfo.specs.RegInfo.{RegInfo, numRegs, regUnits, lastInOrder, stackToStackClass}
 use Rattle.reginfo.specs.Refused.{firstOf}
 use Rattle.function.specs.Function.{Function, numValues, valueBank}

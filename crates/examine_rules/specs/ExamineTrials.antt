@@ -1,12 +1,12 @@
 -- 02 m: trials, each over a patch, with its edits as words.
-use Prim.Native.Nat.{ℕ, _+_, _*_}
+use Prim.Native.Nat.{ℕ}
 use mathlib.Core.Path.{_≡_}
 use mathlib.Core.List.{List, [], _∷_, map}
 use Rattle.entity.specs.Place.{reg, slot, codeOf}
 use Rattle.reginfo.specs.RegInfo.{RegInfo}
 use Rattle.function.specs.Function.{Function}
 use Rattle.rules.specs.Edit.{Edit, Move, Rematerialize, EmergencySpill, EmergencyReload}
-use Rattle.rules.specs.Patch.{Entry, move, remat, Patch}
+use Rattle.rules.specs.Patch.{move, remat, Patch}
 use Rattle.rules.specs.Trials.{single, three, halves, fixed, over, plain, rebuildable, patch, swap}
 use Rattle.edit.specs.Word.{wordOf, packed}
 use Rattle.examine_rules.specs.Examine.{Verdict, Yes, No, Refused}

@@ -2,7 +2,7 @@
 use Prim.Native.Nat.{ℕ, _+_, _<_}
 use mathlib.Core.Path.{_≡_}
 use mathlib.Core.Bool.{true}
-use mathlib.Core.List.{List, [], _∷_, map}
+use mathlib.Core.List.{List, map}
 use mathlib.Core.Option.{Option, none, some}
 use lib.ListN.{length, getD}
 use Rattle.entity.specs.Logic.{has}
@@ -13,11 +13,11 @@ use Rattle.function.specs.Refused as function
 use Rattle.rules.specs.Edit.{Edit}
 use Rattle.rules.specs.Scratch.{Cache}
 use Rattle.rules.specs.Patch.{Patch, Answer, refused, resolved, resolve}
-use Rattle.rules.specs.Take as take
 use Rattle.rules.specs.Take.{resolving, asking, taking, Served, Standing, takenOf}
-use Rattle.frame_rules.specs.Frame.{Inlined, openRefusal, Frame, noFormula, opened, resolveIn, takenIn, FrameCall, afterCalls, Named}
+use Rattle.frame_rules.specs.Frame.{Inlined, openRefusal, Frame, noFormula, opened, resolveIn, takenIn}
 use Rattle.group_rules.specs.Groups.{resolveByGroups}
 use Rattle.group_rules.specs.Requests.{Request, single, grouping, reached}
+use Rattle.group_rules.specs.Frame.{groupsIn, FrameCall, afterCalls, Named}
 use Rattle.edit.specs.Word.{wordOf}
 use Rattle.examine_rules.specs.Examine.{Yes}
 use Rattle.examine_rules.specs.Examined.{AllNamed}
@@ -53,10 +53,11 @@ abbrev pub Ours : Type 0
 Ours = (t : RegInfo) (f : Function) → target.Accepted t → function.Accepted t f → (l : List Request) (x : Request) → AllPass t f (f .limit) (handed t f x (reached t f l))
 
 -- the same in a shared frame
-unfoldable pub handedIn : Frame → ℕ → take.Request → Option Standing
-handedIn s i (resolving p room) = some (record { patch = p; answer = resolveIn s i p room })
-handedIn s i (asking p room) = some (record { patch = p; answer = resolveIn s i p room })
-handedIn s i (taking n) = takenIn (getD (s .formulas i .asked) n none) s i
+unfoldable pub handedIn : Frame → ℕ → Request → Option Standing
+handedIn s i (single (resolving p room)) = some (record { patch = p; answer = resolveIn s i p room })
+handedIn s i (single (asking p room)) = some (record { patch = p; answer = resolveIn s i p room })
+handedIn s i (single (taking n)) = takenIn (getD (s .formulas i .asked) n none) s i
+handedIn s i (grouping p room) = some (record { patch = p; answer = groupsIn s i p room })
 
 -- by the formula's own target and function, where a slot below N plus the frame's limit may be named: of every call after every list of calls
 abbrev pub OursInFrame : Type 0
