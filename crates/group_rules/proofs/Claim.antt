@@ -1,38 +1,37 @@
 -- Demand 3, the stacks and 02 j over lists in which patches are resolved by groups too.
-use Prim.Native.Nat.{ℕ, zero, suc, _+_, _*_, _<_, _≤_}
+use Prim.Native.Nat.{ℕ, _+_, _*_, _≤_}
 use mathlib.Core.Path.{_≡_, refl, sym, ap, subst, _∙_}
-use mathlib.Core.Bool.{Bool, true, false, false≢true}
-use mathlib.Core.List.{List, [], _∷_, _++_, append-nil, List·Memᴰ, List·Memᴰ·not-nil, List·Memᴰ·append-cases}
+use mathlib.Core.List.{List, [], _∷_, _++_, append-nil, List·Memᴰ·not-nil, List·Memᴰ·append-cases}
 use mathlib.Core.Option.{Option, none, some}
-use mathlib.Core.Logic.{_⊎_, inl, inr, ⊎-elim}
+use mathlib.Core.Logic.{⊎-elim}
 use native.Mathlib.Omega.{arith}
-use lib.ListN.{length}
 use Rattle.entity.specs.Logic.{any}
 use Rattle.reginfo.specs.RegInfo.{RegInfo}
 use Rattle.reginfo.specs.Refused as target
 use Rattle.reginfo.specs.Refused.{firstOf}
-use Rattle.function.specs.Function.{Function}
+use Rattle.function.specs.Function.{Function, valueBank}
 use Rattle.function.specs.Refused as function
 use Rattle.rules.specs.Edit.{Edit}
-use Rattle.rules.specs.Scratch.{Cache, emptyCache}
-use Rattle.rules.specs.Patch.{Patch, Answer, refused, resolved, unlessRefused, Call, cacheAfter, resolve}
+use Rattle.rules.specs.Scratch.{Cache}
+use Rattle.rules.specs.Patch.{Patch, Answer, refused, resolved, unlessRefused, cacheAfter, resolve}
 use Rattle.rules.specs.Take as take
-use Rattle.rules.specs.Take.{Served, fresh, Standing, stampedBy, answerIn}
+use Rattle.rules.specs.Take.{Served, fresh, Standing, stampedBy}
 use Rattle.rules.proofs.Accepted.{accepted}
 use Rattle.rules.proofs.Take.{Previews, previews-fresh, stands, answers}
 use Rattle.machine.specs.Claim.{Owed}
 use Rattle.machine.specs.Slots.{InStacks, Stays}
-use Rattle.machine.specs.Enough.{numSizes, editSize, namesSlot, OfItsSize, Sized, SizedIn, editsOf, editsIn, Between}
+use Rattle.machine.specs.Enough.{numSizes, enoughSlots, planned, editSize, namesSlot, OfItsSize, Sized, SizedIn, editsOf, editsIn, Between}
 use Rattle.machine.proofs.Cache.{CacheOk}
 use Rattle.machine.proofs.Demand.{cache-fresh, requested}
 use Rattle.machine.proofs.Slots.{slots-empty, slots-ok}
+use Rattle.machine.proofs.EnoughSlots as machine
 use Rattle.machine.proofs.EnoughSlots.{Quiet, never-out, quiet-after, quiet-fresh}
 use Rattle.group_rules.specs.Groups.{followedBy, behind, parts, resolveParts, wholeConditions, resolveByGroups}
 use Rattle.group_rules.specs.Requests.{Request, single, grouping, standing, answered, after}
-use Rattle.group_rules.specs.Claim.{RequestsClaim, SlotsClaim, RequestsNeverOut, RequestsSizes, Demand3, SlotsLie, EachOfItsSize, Enough, FewerEnough}
+use Rattle.group_rules.specs.Claim.{RequestsClaim, SlotsClaim, RequestsNeverOut, RequestsSizes, Demand3, SlotsLie, EachOfItsSize, Enough, FewerEnough, Plan}
 use Rattle.group_rules.proofs.Lists.{below?, or-left, or-right, any-append}
 use Rattle.group_rules.proofs.Refusals.{by-number}
-use Rattle.group_rules.proofs.Joined.{Joint, joint, passed-whole, grouped}
+use Rattle.group_rules.proofs.Joined.{joint, passed-whole, grouped}
 use Rattle.group_rules.proofs.Requests.{previews-after}
 
 -- what holds of each group's call, from its cache to the next, holds of them all
@@ -224,3 +223,9 @@ fewer-enough t f ta fa enough requests = never t f ta fa enough requests fresh (
 
 pub enough : Enough
 enough t f ta fa h requests = fewer-enough t f ta fa (omega arith) requests
+
+pub plan : Plan
+unfolding valueBank
+plan t f ta fa =
+    let y = machine.plan t f ta fa in
+    (y .0, y .1, enough t (planned t f) ta (y .1) (omega (arith, ap (λ (n : ℕ). (128 + f .kept) * n) (machine.same-sizes t f (enoughSlots t f)))))

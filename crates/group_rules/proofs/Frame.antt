@@ -1,8 +1,8 @@
 -- Demand 3, the slots, the promised shares and 02 j in a frame, over lists in which patches are resolved by groups too.
-use Prim.Native.Nat.{ℕ, zero, suc, _+_, _-_, _*_, _<_, _≤_}
+use Prim.Native.Nat.{ℕ, _+_, _-_, _*_, _<_, _≤_}
 use mathlib.Core.Path.{_≡_, refl, sym, ap, subst, _∙_}
 use mathlib.Core.Bool.{Bool, true, false, true≢false, _&&_}
-use mathlib.Core.List.{List, [], _∷_, _++_, map}
+use mathlib.Core.List.{List, [], _∷_, _++_}
 use mathlib.Core.Option.{Option, none, some}
 use mathlib.Core.Logic.{_⊎_, inl, inr, ⊎-elim}
 use native.Mathlib.Omega.{arith}
@@ -12,12 +12,10 @@ use Rattle.entity.specs.Logic.{no, has, twice}
 use Rattle.entity.proofs.Laws.{or-false}
 use Rattle.reginfo.specs.RegInfo.{RegInfo}
 use Rattle.reginfo.specs.Refused.{Condition, orElse, firstOf}
-use Rattle.reginfo.specs.Refused as target
 use Rattle.function.specs.Function.{Function}
-use Rattle.function.specs.Refused as function
 use Rattle.rules.specs.Edit.{Edit}
 use Rattle.rules.specs.Scratch.{Cache, ScratchAllocator}
-use Rattle.rules.specs.Patch.{Entry, Patch, Sorted, nothingSorted, bound, Answer, refused, resolved, answerOf, unlessRefused, cacheAfter, add, sorted, entryConditions, freeDestination, lastOverlaps, patchConditions, run, resolve}
+use Rattle.rules.specs.Patch.{Entry, Patch, Sorted, nothingSorted, bound, Answer, refused, resolved, answerOf, unlessRefused, cacheAfter, add, sorted, entryConditions, freeDestination, lastOverlaps, patchConditions, resolve}
 use Rattle.rules.specs.Refusals.{entriesConditions, EndsWithSlots}
 use Rattle.rules.specs.Take as take
 use Rattle.rules.specs.Take.{Counted, Standing, answerIn, stampedBy}
@@ -29,13 +27,13 @@ use Rattle.machine.specs.Enough.{numSizes}
 use Rattle.machine.proofs.Cache.{CacheOk}
 use Rattle.machine.proofs.Demand.{called}
 use Rattle.machine.proofs.Memory.{distinct}
-use Rattle.machine.proofs.Tests.{yes-of, of-yes, hasIn}
+use Rattle.machine.proofs.Tests.{of-yes}
 use Rattle.frame_rules.specs.Frame as frame
-use Rattle.frame_rules.specs.Frame.{Inlined, openRefusal, firstSlots, Asked, Formula, Frame, noFormula, opened, lacks, reach, cacheIn, nowIn, functionIn, resolveIn, takeIn, takenIn, madeTo, withCache}
+use Rattle.frame_rules.specs.Frame.{Inlined, openRefusal, firstSlots, Asked, Formula, Frame, noFormula, opened, reach, cacheIn, nowIn, functionIn, resolveIn, takenIn, madeTo, withCache}
 use Rattle.frame_rules.specs.Promise.{Kept, PromisedTo}
 use Rattle.frame_rules.specs.Claim.{FrameStacks}
 use Rattle.frame_rules.specs.Takes.{Unchanged}
-use Rattle.frame_rules.proofs.Calls.{reach-same, Took, Moved, Stands, PreviewsIn, moved, previews-after, previews-opened, at-own, at-other, resolve-same, lacks-stay, take-now, take-late, fresh-or-late}
+use Rattle.frame_rules.proofs.Calls.{reach-same, Moved, Stands, PreviewsIn, moved, previews-after, previews-opened, at-own, at-other, resolve-same, lacks-stay, take-now, take-late, fresh-or-late}
 use Rattle.frame_rules.proofs.Promise.{promised-to}
 use Rattle.frame_rules.proofs.Given.{Known, known, is-target, is-within, is-slots}
 use Rattle.frame_rules.proofs.Claim as claims
@@ -45,10 +43,9 @@ use Rattle.frame_rules.proofs.Takes as takes
 use Rattle.group_rules.specs.Groups.{followedBy, behind, parts, resolveParts, wholeConditions, resolveByGroups}
 use Rattle.group_rules.specs.Requests.{Request, single, grouping}
 use Rattle.group_rules.specs.Frame.{groupsIn, standingIn, answeredIn, askedIn, afterIn, FrameCall, afterCall, afterCalls, Named, FrameClaim, FrameDemand3, FrameSlots, OutAbove, PromisedToGroups, Promised, EnoughShare, RefusedUnchanged}
-use Rattle.group_rules.proofs.Lists.{first-both, first-join}
 use Rattle.group_rules.proofs.Refusals.{by-number}
 use Rattle.group_rules.proofs.Joined.{passed-whole, grouped}
-use Rattle.group_rules.proofs.Simulated.{SameBut, same-self, same-reach, same-resolve, same-kept, same-stacks, Then, then-with, then-same, then-cache, by, Led, led-one, led-parts, Refused, parts-refused}
+use Rattle.group_rules.proofs.Simulated.{SameBut, same-self, same-reach, same-resolve, same-kept, same-stacks, then-with, then-same, by, Led, led-one, led-parts, parts-refused}
 
 -- ---- answers to take, after a call by groups
 -- the cache and its count stay, or the count is raised
@@ -98,9 +95,6 @@ module _ (s : Frame) (j : ℕ) (v : Counted) (l : List (Option Asked)) (up : s .
 previews-on : (s : Frame) (j : ℕ) (v : Counted) → s .counter ≤ v .cache .made → Raised s j v → ((i : ℕ) → PreviewsIn s i) → (i : ℕ) → PreviewsIn (withCache s j v (s .formulas j .asked)) i
 previews-on s j v up m k i n a e = ⊎-elim own other (same? i j)
   where
-    l : List (Option Asked)
-    l = s .formulas j .asked
-
     own : i ≡ j → Stands (withCache s j v (s .formulas j .asked)) i a
     own q =
         let e′ : getD (withCache s j v (s .formulas j .asked) .formulas j .asked) n none ≡ some a = subst (λ (y : ℕ). getD (withCache s j v (s .formulas j .asked) .formulas y .asked) n none ≡ some a) q e in

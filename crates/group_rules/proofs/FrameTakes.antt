@@ -1,10 +1,10 @@
 -- What a take is answered in a frame, over lists in which patches are resolved by groups too.
 use Prim.Native.Nat.{ℕ, zero, suc, _+_, _-_, _<_, _≤_}
 use mathlib.Core.Path.{_≡_, refl, sym, ap, subst, _∙_}
-use mathlib.Core.Bool.{Bool, true, false}
+use mathlib.Core.Bool.{Bool}
 use mathlib.Core.List.{List, [], _∷_, _++_}
 use mathlib.Core.Option.{Option, none, some}
-use mathlib.Core.Logic.{_⊎_, inl, inr, ⊎-elim, _↔_}
+use mathlib.Core.Logic.{_⊎_, inl, inr, ⊎-elim}
 use native.Mathlib.Omega.{arith}
 use lib.Dec.{eqb}
 use lib.ListN.{length, getD, length-append, List·getD-append}
@@ -17,12 +17,12 @@ use Rattle.rules.specs.Take as take
 use Rattle.rules.specs.Take.{Counted, counts, previewOf, Standing, answerIn, stampedBy, countsIn}
 use Rattle.rules.proofs.Steps.{same?}
 use Rattle.frame_rules.specs.Frame as frame
-use Rattle.frame_rules.specs.Frame.{Inlined, openRefusal, Asked, Formula, Frame, opened, cacheIn, nowIn, resolveIn, takeIn, takenIn, askedOf, withCache, toldOf, edits}
+use Rattle.frame_rules.specs.Frame.{Inlined, openRefusal, Asked, Formula, Frame, opened, cacheIn, nowIn, resolveIn, takeIn, takenIn, askedOf, toldOf, edits}
 use Rattle.frame_rules.specs.Takes.{behindIn, itsTakeIn, Unchanged}
 use Rattle.frame_rules.proofs.Calls.{PreviewsIn, at-own, at-other, take-now, take-late, fresh-or-late}
 use Rattle.group_rules.specs.Requests.{Request, single, grouping}
-use Rattle.group_rules.specs.Frame.{standingIn, answeredIn, askedIn, afterIn, FrameCall, afterCall, afterCalls, Named, told}
-use Rattle.group_rules.specs.FrameTakes.{settledBy, takeOf, TwentyIn, AsResolvedIn, TakesAnswered, TakesInFrame}
+use Rattle.group_rules.specs.Frame.{standingIn, answeredIn, askedIn, afterIn, FrameCall, afterCall, afterCalls, Named}
+use Rattle.group_rules.specs.FrameTakes.{settledBy, takeOf, TwentyIn, AsResolvedIn, TakesInFrame}
 use Rattle.group_rules.proofs.Frame.{Sim, sim, sim-after, goes-up, unmoved}
 
 counted-by : (c : Counted) (o : Option Standing) → stampedBy c o .count ≡ c .count + countsIn o

@@ -10,32 +10,31 @@ use native.Mathlib.Omega.{arith}
 use lib.Dec.{eqb}
 use lib.ListN.{length, getD}
 use borrow.Author.Tests.{eq-eqb, ne-eqb}
-use Rattle.entity.specs.Logic.{pick, and, no, has}
+use Rattle.entity.specs.Logic.{pick}
 use Rattle.reginfo.specs.RegInfo.{RegInfo}
 use Rattle.reginfo.specs.Refused as target
 use Rattle.function.specs.Function.{Function}
-use Rattle.rules.specs.Edit.{Edit}
 use Rattle.rules.specs.Scratch.{Cache}
 use Rattle.rules.specs.Counts.{sum}
-use Rattle.rules.specs.Patch.{Patch, Answer, refused, resolved, resolve, cacheAfter}
+use Rattle.rules.specs.Patch.{Patch, Answer, refused, resolved, resolve}
 use Rattle.rules.specs.Refusals.{withLimit}
-use Rattle.rules.specs.Take.{Counted, Preview, resolving, asking, taking, counts, previewOf, Standing, stampedBy, answerIn}
+use Rattle.rules.specs.Take.{Counted, resolving, asking, taking, previewOf, stampedBy, answerIn}
 use Rattle.rules.proofs.Steps.{same?}
 use Rattle.rules.proofs.Sum.{sum-change, sum-le}
 use Rattle.frame_rules.specs.Frame as frame
-use Rattle.frame_rules.specs.Frame.{Inlined, firstSlots, openRefusal, Asked, Formula, Frame, noFormula, opened, lacks, othersLack, reach, cacheIn, nowIn, functionIn, resolveIn, takeIn, takenIn, askedOf, madeTo, withCache, Told, nothing, number, edits, toldOf}
+use Rattle.frame_rules.specs.Frame.{Inlined, firstSlots, openRefusal, Asked, Formula, Frame, noFormula, opened, lacks, othersLack, reach, cacheIn, nowIn, resolveIn, takeIn, takenIn, askedOf, withCache, number, edits, toldOf}
 use Rattle.frame_rules.specs.Promise.{Kept}
-use Rattle.frame_rules.specs.Renamed.{renEdit, renTold, Renaming, suchOf}
-use Rattle.frame_rules.proofs.Calls.{reach-far, resolved-within, Stands, PreviewsIn, at-own, at-other, take-now, take-late, asked-where, left}
+use Rattle.frame_rules.specs.Renamed.{renEdit, renTold, Renaming}
+use Rattle.frame_rules.proofs.Calls.{reach-far, resolved-within, at-own, at-other, take-now, take-late, asked-where, left}
 use Rattle.frame_rules.proofs.Promise.{reach-is}
 use Rattle.frame_rules.proofs.Given.{Known, known-opened, is-target, is-slots}
 use Rattle.frame_rules.proofs.Claim.{Lying}
 use Rattle.frame_rules.proofs.Lifted.{renCache, renAnswer, resolve-more}
-use Rattle.frame_rules.proofs.Beside.{ext, ext-old, ext-later, Beside, Low, ahead, now, now-renaming, stacks-now, cache-now, answers-beside, own-beside, other-beside}
+use Rattle.frame_rules.proofs.Beside.{ext-old, ext-later, Beside, Low, ahead, now, now-renaming, stacks-now, cache-now, answers-beside, own-beside, other-beside}
 use Rattle.group_rules.specs.Groups.{parts, resolveByGroups}
 use Rattle.group_rules.specs.Requests.{Request, single, grouping}
 use Rattle.group_rules.specs.Frame.{groupsIn, standingIn, answeredIn, askedIn, afterIn, FrameCall, afterCall, Named, told}
-use Rattle.group_rules.specs.Renamed.{such, Ends, Same, Alike, Independent}
+use Rattle.group_rules.specs.Renamed.{Ends, Same, Alike, Independent}
 use Rattle.group_rules.proofs.Lifted.{parts-make, groups-more, groups-like}
 use Rattle.group_rules.proofs.Joined.{passed-whole}
 use Rattle.group_rules.proofs.Frame.{Sim, sim-after, sim-opened, goes-up, known-here, stacks}

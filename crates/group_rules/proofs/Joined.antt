@@ -1,6 +1,6 @@
 -- Demand 3 of a call by groups: while a group runs the machine changes at its destinations, its free units and emergency slots alone. A later
 -- group's sources are none of these, nor an earlier group's destinations. So what holds of each group holds of the joined list.
-use Prim.Native.Nat.{ℕ, zero, suc, _+_, _-_, _<_, _≤_}
+use Prim.Native.Nat.{ℕ, zero, suc, _-_, _<_, _≤_}
 use mathlib.Core.Path.{_≡_, refl, sym, ap, _∙_, subst}
 use mathlib.Core.Bool.{Bool, true, false, false≢true, true≢false}
 use mathlib.Core.List.{List, [], _∷_, _++_, map, List·Memᴰ, List·Memᴰ·head, List·Memᴰ·tail, List·Memᴰ·not-nil, List·Memᴰ·cases-cons, Memᴰ·append-left, Memᴰ·cast}
@@ -9,8 +9,8 @@ use mathlib.Core.Logic.{_⊎_, inl, inr, ⊎-elim}
 use native.Mathlib.Omega.{arith}
 use lib.Dec.{eqb, ltb}
 use lib.ListN.{length, getD, take, length-append}
-use borrow.Author.Tests.{eqb-true, eq-eqb, ne-eqb, ltb-true}
-use Rattle.entity.specs.Logic.{pick, and, or, no, any, has, meets, twice}
+use borrow.Author.Tests.{eqb-true, eq-eqb, ne-eqb}
+use Rattle.entity.specs.Logic.{pick, or, no, any, has, meets, twice}
 use Rattle.entity.specs.Place.{Place, reg, slot, samePlace}
 use Rattle.entity.proofs.Laws.{or-false, no-false, never-true}
 use Rattle.reginfo.specs.RegInfo.{RegInfo, placeUnits}
@@ -22,20 +22,19 @@ use Rattle.function.specs.Refused as function
 use Rattle.rules.specs.Edit.{Edit}
 use Rattle.rules.specs.Scratch.{Cache, unitsOfReg}
 use Rattle.rules.specs.Order.{KeptMove, noMove}
-use Rattle.rules.specs.Patch.{Entry, move, remat, Patch, Sorted, nothingSorted, destinations, bound, Answer, refused, resolved, unlessRefused, Call, cacheAfter, add, sorted, namesPlace, entryConditions, freeDestination, patchConditions, resolve}
+use Rattle.rules.specs.Patch.{Entry, move, remat, Patch, Sorted, nothingSorted, bound, Answer, refused, resolved, unlessRefused, cacheAfter, add, sorted, namesPlace, entryConditions, patchConditions, resolve}
 use Rattle.rules.specs.Refusals.{entriesConditions}
-use Rattle.rules.proofs.Steps.{same?}
 use Rattle.machine.specs.Machine.{Memory, inSlot, Waiting, Written, Machine, begin, read, steps, seen, counted}
-use Rattle.machine.specs.Claim.{entryDest, entryValue, Contents, kept, numKept, Holding, OfValue, IsScratch, Stopped, Finished, RightFrom, Right, Accepted, Answered}
+use Rattle.machine.specs.Claim.{entryDest, entryValue, Contents, kept, numKept, Holding, OfValue, IsScratch, Stopped, Finished, RightFrom, Accepted, Answered}
 use Rattle.machine.proofs.Entries.{dests-are}
 use Rattle.machine.proofs.Cache.{CacheOk}
 use Rattle.machine.proofs.Demand.{called}
-use Rattle.group_rules.specs.Groups.{near, entryUnits, sourceUnits, chosen, firsts, heldByAnother, part, labelsOf, parts, greater, behind, followedBy, resolveParts, wholeConditions, resolveByGroups}
+use Rattle.group_rules.specs.Groups.{entryUnits, sourceUnits, chosen, firsts, heldByAnother, part, labelsOf, parts, behind, followedBy, resolveParts, wholeConditions, resolveByGroups}
 use Rattle.group_rules.specs.Refusals.{noEntry}
-use Rattle.group_rules.proofs.Lists.{not-then, below?, or-left, or-right, any-mem, mem-any, any-sub, mem-at, at-mem, has-mem, mem-has, has-append, meet, met, filter-has, total, first-both}
+use Rattle.group_rules.proofs.Lists.{not-then, below?, or-left, or-right, mem-any, any-sub, mem-at, at-mem, has-append, meet, filter-has, total, first-both}
 use Rattle.group_rules.proofs.Split.{asEntry, Split}
 use Rattle.group_rules.proofs.Parts.{lab, Own, sep, covers, once, split}
-use Rattle.group_rules.proofs.Running.{extended, take-short, take-long, take-all, none-any, steps-then, steps-extended, Off, Clear, unmoved}
+use Rattle.group_rules.proofs.Running.{extended, take-short, take-long, take-all, steps-then, steps-extended, Clear, unmoved}
 
 -- ---- the entries chosen
 chosen-from : (q : ℕ → Bool) (ls : List ℕ) (es : List Entry) (e : Entry) → List·Memᴰ e (chosen q ls es) → (i : ℕ) × (i < length es) × (q (getD ls i 0) ≡ true) × (getD es i noEntry ≡ e)

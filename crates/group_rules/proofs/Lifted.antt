@@ -1,5 +1,5 @@
 -- A call by groups with other slot numbers, and with more slots.
-use Prim.Native.Nat.{ℕ, zero, suc, _+_, _-_, _<_, _≤_}
+use Prim.Native.Nat.{ℕ, _+_, _<_, _≤_}
 use mathlib.Core.Path.{_≡_, refl, sym, ap, subst, _∙_}
 use mathlib.Core.List.{List, [], _∷_, _++_, map}
 use mathlib.Core.Option.{Option, none, some}
@@ -18,7 +18,7 @@ use Rattle.rules.proofs.Limit.{made-within}
 use Rattle.frame_rules.specs.Renamed.{renEdit}
 use Rattle.frame_rules.proofs.Unread.{add-same, sorted-same}
 use Rattle.frame_rules.proofs.Lifted.{renCache, renAnswer, resolve-more, resolve-like}
-use Rattle.group_rules.proofs.Joined.{Joint, joint}
+use Rattle.group_rules.proofs.Joined.{joint}
 use Rattle.group_rules.specs.Groups.{greater, behind, followedBy, parts, resolveParts, wholeConditions, resolveByGroups}
 
 map-append : {A B : Type 0} (g : A → B) (l m : List A) → map g (l ++ m) ≡ map g l ++ map g m

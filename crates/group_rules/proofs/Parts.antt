@@ -2,14 +2,14 @@
 use Prim.Native.Nat.{ℕ, zero, suc, _+_, _<_, _≤_}
 use mathlib.Core.Path.{_≡_, refl, sym, ap, _∙_, subst, fun-ext}
 use mathlib.Core.Bool.{Bool, true, false, false≢true}
-use mathlib.Core.List.{List, [], _∷_, _++_, map, List·Memᴰ, List·Memᴰ·not-nil, List·Memᴰ·head, List·Memᴰ·tail}
-use mathlib.Core.Option.{Option, none, some}
-use mathlib.Core.Logic.{_⊎_, inl, inr, ⊎-elim}
+use mathlib.Core.List.{List, [], _∷_, List·Memᴰ·not-nil}
+use mathlib.Core.Option.{none}
+use mathlib.Core.Logic.{⊎-elim}
 use native.Mathlib.Omega.{arith}
 use lib.Dec.{eqb, ltb}
 use lib.ListN.{length, getD}
-use borrow.Author.Tests.{eqb-true, eqb-false, eq-eqb, ne-eqb, ltb-true, ltb-false, le-ltb}
-use Rattle.entity.specs.Logic.{pick, and, or, no, any, has, meets, twice, indices}
+use borrow.Author.Tests.{eqb-true, eqb-false, eq-eqb, ltb-true, ltb-false, le-ltb}
+use Rattle.entity.specs.Logic.{pick, or, no, has, meets, twice, indices}
 use Rattle.entity.specs.Place.{Place, reg, slot}
 use Rattle.entity.proofs.Laws.{or-false, no-false, never-true, has-getD, meets-comm}
 use Rattle.reginfo.specs.RegInfo.{RegInfo, numRegs, placeUnits, regUnits}
@@ -18,17 +18,15 @@ use Rattle.reginfo.specs.Refused.{firstOf}
 use Rattle.reginfo.proofs.First.{first-none}
 use Rattle.reginfo.proofs.Accepted.{width-fits}
 use Rattle.function.specs.Function.{Function, numValues}
-use Rattle.rules.specs.Edit.{filter}
-use Rattle.rules.specs.Order.{KeptMove, Remat}
 use Rattle.rules.specs.Scratch.{unitsOfReg}
 use Rattle.rules.specs.Patch.{Entry, move, remat, Patch, Sorted, nothingSorted, destinations, bound, add, sortedFrom, sorted, namesPlace, entryConditions, freeDestination, lastOverlaps, patchConditions}
 use Rattle.rules.specs.Refusals.{entriesConditions}
-use Rattle.group_rules.specs.Groups.{Together, link, near, entryUnits, chosen, firsts, heldByAnother, part, labelsOf, labels, parts, wholeConditions}
+use Rattle.group_rules.specs.Groups.{link, near, entryUnits, chosen, firsts, heldByAnother, part, labelsOf, wholeConditions}
 use Rattle.group_rules.specs.Labelled.{Labelled}
 use Rattle.group_rules.specs.Refusals.{noEntry}
 use Rattle.group_rules.proofs.Labelled.{labelled}
-use Rattle.group_rules.proofs.Lists.{not-then, or-left, or-right, or-case, any-mem, mem-any, any-sub, meet, met, filter-has, has-filter, filter-once, total, total-holds, every-first, first-both, first-join}
-use Rattle.group_rules.proofs.Split.{asEntry, Piece, Split, after, Solid, split-add, entry-passes, dests-less}
+use Rattle.group_rules.proofs.Lists.{not-then, or-left, or-case, any-mem, mem-any, any-sub, meet, met, filter-has, has-filter, filter-once, total, total-holds, every-first, first-both, first-join}
+use Rattle.group_rules.proofs.Split.{Split, after, Solid, split-add, entry-passes, dests-less}
 
 has-indices : (i n x : ℕ) → i ≤ x → x < i + n → has x (indices i n) ≡ true
 unfolding has indices

@@ -1,19 +1,18 @@
 -- The numbers of a call by groups: those of the whole patch, and then 17; where all entries are one group, `resolve`'s.
 use Prim.Native.Nat.{ℕ, zero, suc, _+_, _<_, _≤_}
 use mathlib.Core.Path.{_≡_, refl, sym, ap, _∙_, subst}
-use mathlib.Core.Bool.{Bool, true, false, false≢true}
+use mathlib.Core.Bool.{Bool, true, false}
 use mathlib.Core.List.{List, [], _∷_, _++_, map, append-nil, append-assoc, List·Memᴰ, List·Memᴰ·head, List·Memᴰ·tail}
 use mathlib.Core.Option.{Option, none, some}
 use mathlib.Core.Logic.{_↔_, _⊎_, inl, inr, ⊎-elim}
 use native.Mathlib.Omega.{arith}
-use lib.Dec.{eqb, ltb}
+use lib.Dec.{eqb}
 use lib.ListN.{length, getD}
-use borrow.Author.Tests.{eqb-true, eq-eqb, ne-eqb, le-ltb}
-use Rattle.entity.specs.Logic.{pick, no, any, has, indices}
+use borrow.Author.Tests.{eq-eqb, ne-eqb, le-ltb}
+use Rattle.entity.specs.Logic.{no, any, indices}
 use Rattle.reginfo.specs.RegInfo.{RegInfo}
 use Rattle.reginfo.specs.Refused as target
-use Rattle.reginfo.specs.Refused.{Condition, cond, firstOf}
-use Rattle.reginfo.specs.Given.{Given, NoneHolds}
+use Rattle.reginfo.specs.Refused.{cond, firstOf}
 use Rattle.reginfo.proofs.First.{first-none, none-first, given-first, first-given}
 use Rattle.function.specs.Function.{Function}
 use Rattle.rules.specs.Edit.{Edit, filter, andThen, each}
@@ -23,8 +22,8 @@ use Rattle.rules.specs.Patch.{Entry, Patch, Sorted, nothingSorted, destinations
 use Rattle.rules.specs.Refusals.{entriesConditions, callConditions, ranOut}
 use Rattle.rules.proofs.Refusals as rules
 use Rattle.rules.proofs.Steps.{Every}
-use Rattle.group_rules.specs.Groups.{Together, near, chosen, firsts, part, labelsOf, labels, labelsFrom, parts, heldByAnother, greater, behind, followedBy, resolveParts, wholeConditions, resolveByGroups}
-use Rattle.group_rules.specs.Refusals.{noEntry, outOr, someOut, groupConditions, OnlySlots, Refusals, GroupRefusals, OneGroup}
+use Rattle.group_rules.specs.Groups.{Together, near, chosen, firsts, part, labelsOf, labels, labelsFrom, parts, greater, followedBy, resolveParts, wholeConditions, resolveByGroups}
+use Rattle.group_rules.specs.Refusals.{noEntry, outOr, someOut, groupConditions, OnlySlots, GroupRefusals, OneGroup}
 use Rattle.group_rules.proofs.Lists.{mem-has, first-both, first-join, first-some}
 use Rattle.group_rules.proofs.Labelled.{labelled}
 use Rattle.group_rules.proofs.Parts.{near-comm, part-passes}

@@ -1,10 +1,9 @@
 -- 02 g over lists in which patches are resolved by groups too.
-use Prim.Native.Nat.{ℕ, zero, suc, _+_, _<_, _≤_}
-use mathlib.Core.Path.{_≡_, refl, sym, ap, subst, _∙_}
-use mathlib.Core.Bool.{Bool, true, false}
+use Prim.Native.Nat.{ℕ, zero, suc, _+_, _<_}
+use mathlib.Core.Path.{_≡_, refl, sym, ap, _∙_}
 use mathlib.Core.List.{List, [], _∷_, _++_}
 use mathlib.Core.Option.{Option, none, some}
-use mathlib.Core.Logic.{_⊎_, inl, inr, ⊎-elim, _↔_}
+use mathlib.Core.Logic.{_⊎_, inl, inr, ⊎-elim}
 use native.Mathlib.Omega.{arith}
 use lib.ListN.{length, getD, length-append, List·getD-append}
 use Rattle.reginfo.specs.RegInfo.{RegInfo}
@@ -13,7 +12,7 @@ use Rattle.rules.specs.Edit.{Edit}
 use Rattle.rules.specs.Scratch.{Cache}
 use Rattle.rules.specs.Patch.{Patch, Answer, refused, resolved, resolve, cacheAfter}
 use Rattle.rules.specs.Take as take
-use Rattle.rules.specs.Take.{Counted, Preview, Served, fresh, takeAnswer, counts, previewOf, Standing, stampedBy, countsIn, behind, itsTake}
+use Rattle.rules.specs.Take.{Counted, Preview, Served, fresh, takeAnswer, counts, previewOf, Standing, stampedBy, countsIn, behind}
 use Rattle.rules.proofs.Take.{taken-late, taken-now, Previews, previews-fresh, is-call}
 use Rattle.rules.proofs.Take as rules
 use Rattle.group_rules.specs.Requests.{Request, single, grouping, standing, answered, askedAfter, after, afterAll, settled, reached, CountIs, TakesAreCalls, TwentyAfter, AsResolved, Twenty, AskingThenTaking}

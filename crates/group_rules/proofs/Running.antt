@@ -1,15 +1,14 @@
 -- The machine over edits joined: one list after another, with what was written before, and what a patch leaves where it was.
-use Prim.Native.Nat.{ℕ, zero, suc, _+_, _-_, _<_, _≤_}
-use mathlib.Core.Path.{_≡_, refl, sym, ap, _∙_, subst}
-use mathlib.Core.Bool.{Bool, true, false, false≢true, true≢false}
-use mathlib.Core.List.{List, [], _∷_, _++_, map, List·Memᴰ, List·Memᴰ·head, List·Memᴰ·tail, Memᴰ·append-left}
+use Prim.Native.Nat.{ℕ, zero, suc, _+_, _-_, _≤_}
+use mathlib.Core.Path.{_≡_, refl, ap, _∙_}
+use mathlib.Core.Bool.{Bool, true, false, false≢true}
+use mathlib.Core.List.{List, [], _∷_, _++_, map, List·Memᴰ, List·Memᴰ·head, List·Memᴰ·tail}
 use mathlib.Core.Option.{Option, none, some}
-use mathlib.Core.Logic.{_⊎_, inl, inr, ⊎-elim}
 use native.Mathlib.Omega.{arith}
-use lib.Dec.{eqb, ltb}
+use lib.Dec.{eqb}
 use lib.ListN.{length, getD, take}
 use borrow.Author.Tests.{eqb-true, eq-eqb, ltb-true}
-use Rattle.entity.specs.Logic.{pick, and, or, no, any, has}
+use Rattle.entity.specs.Logic.{pick, and, no, any, has}
 use Rattle.entity.specs.Place.{Place, reg, slot, samePlace}
 use Rattle.entity.proofs.Laws.{never-true, has-getD}
 use Rattle.reginfo.specs.RegInfo.{RegInfo, numRegs, placeUnits, regUnits, isMemory, isMemoryReg, inClass}
@@ -19,7 +18,7 @@ use Rattle.function.specs.Function.{Function, canRematerialize, rematClass}
 use Rattle.rules.specs.Edit.{Edit, Move, Rematerialize, EmergencySpill, EmergencyReload, andThen}
 use Rattle.rules.specs.Scratch.{unitsOfReg}
 use Rattle.rules.specs.Patch.{Entry, Patch, namesPlace}
-use Rattle.machine.specs.Machine.{Memory, inSlot, Waiting, Written, Machine, begin, without, cell, read, fits, wrote, when, step, steps, seen}
+use Rattle.machine.specs.Machine.{Memory, inSlot, Written, Machine, without, cell, read, fits, wrote, when, step, steps, seen}
 use Rattle.machine.specs.Claim.{entryDest, Stopped}
 use Rattle.group_rules.proofs.Lists.{any-mem, or-left, mem-has}
 

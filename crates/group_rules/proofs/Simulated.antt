@@ -1,34 +1,30 @@
 -- A call by groups in a frame leads where resolving its groups one after the other leads, but for the count: so every frame that mixed calls
 -- lead to is, but for counts and answers to take, one that 02 l's calls lead to.
-use Prim.Native.Nat.{ℕ, zero, suc, _+_, _-_, _<_, _≤_}
+use Prim.Native.Nat.{ℕ, _-_, _<_, _≤_}
 use mathlib.Core.Path.{_≡_, refl, sym, ap, subst, _∙_}
-use mathlib.Core.Bool.{Bool, true, false}
-use mathlib.Core.List.{List, [], _∷_, _++_, map}
+use mathlib.Core.List.{List, [], _∷_, _++_}
 use mathlib.Core.Option.{Option, none, some}
-use mathlib.Core.Logic.{_⊎_, inl, inr, ⊎-elim}
+use mathlib.Core.Logic.{⊎-elim}
 use native.Mathlib.Omega.{arith}
 use lib.Dec.{eqb}
-use lib.ListN.{length, getD}
-use borrow.Author.Tests.{eq-eqb, ne-eqb}
+use lib.ListN.{length}
+use borrow.Author.Tests.{eq-eqb}
 use Rattle.entity.specs.Logic.{pick, has, twice}
-use Rattle.reginfo.specs.RegInfo.{RegInfo}
-use Rattle.function.specs.Function.{Function}
 use Rattle.rules.specs.Edit.{Edit}
 use Rattle.rules.specs.Scratch.{Cache}
 use Rattle.rules.specs.Counts.{sum}
-use Rattle.rules.specs.Patch.{Patch, Answer, refused, resolved, resolve, cacheAfter}
+use Rattle.rules.specs.Patch.{Patch, Answer, refused, resolved, resolve}
 use Rattle.rules.specs.Take as take
-use Rattle.rules.specs.Take.{Counted, Standing, stampedBy}
+use Rattle.rules.specs.Take.{Counted, stampedBy}
 use Rattle.rules.proofs.Steps.{same?}
 use Rattle.frame_rules.specs.Frame as frame
-use Rattle.frame_rules.specs.Frame.{Inlined, openRefusal, firstSlots, Asked, Formula, Frame, opened, lacks, othersLack, reach, cacheIn, nowIn, functionIn, resolveIn, madeTo, withCache}
+use Rattle.frame_rules.specs.Frame.{Inlined, openRefusal, Asked, Formula, Frame, opened, lacks, othersLack, reach, cacheIn, nowIn, functionIn, resolveIn, madeTo, withCache}
 use Rattle.frame_rules.specs.Promise.{Kept}
 use Rattle.frame_rules.specs.Claim.{FrameStacks}
-use Rattle.frame_rules.proofs.Calls.{sum-cong, reach-same, resolved-within, Took, Moved, Stands, PreviewsIn, moved, at-own, at-other, resolve-same}
-use Rattle.frame_rules.proofs.Calls as calls
+use Rattle.frame_rules.proofs.Calls.{sum-cong, reach-same, resolved-within, at-own, at-other, resolve-same}
 use Rattle.frame_rules.proofs.Promise.{reach-is, sound}
 use Rattle.group_rules.specs.Groups.{followedBy, behind, resolveParts}
-use Rattle.group_rules.proofs.Joined.{Joint, joint}
+use Rattle.group_rules.proofs.Joined.{joint}
 
 -- the same frame but for counts and answers to take
 pub record SameBut (s s′ : Frame) : Type 0 where
@@ -147,9 +143,6 @@ then-lacks s s′ i c a =
 pub then-reach : (s s′ : Frame) (i : ℕ) (c : Cache) → i < s .number → Kept s → Kept s′ → Then s s′ i c → reach s′ i ≡ reach s i
 then-reach s s′ i c h k k′ a =
     reach-is s′ i (omega (arith, a .number, h)) k′ ∙ ap (λ (n : ℕ). n - othersLack s′ i) (a .limit) ∙ ap (λ (n : ℕ). s .limit - n) (then-lacks s s′ i c a) ∙ sym (reach-is s i h k)
-
-pub then-cache : (s s′ : Frame) (i : ℕ) (c : Cache) → Then s s′ i c → cacheIn s′ i ≡ c
-then-cache s s′ i c a = rw (a .stacks, a .counter) refl
 
 -- ---- lists of 02 l's calls
 after-append : (a b : List frame.FrameCall) (s : Frame) → frame.afterCalls (a ++ b) s ≡ frame.afterCalls b (frame.afterCalls a s)

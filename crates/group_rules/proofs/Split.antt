@@ -1,30 +1,28 @@
 -- What the entries of a patch become, group by group: each group's kept moves and rebuilds are those of the whole patch that come of its
 -- entries, and a move is dropped in its group exactly where it is in the whole patch.
-use Prim.Native.Nat.{ℕ, suc, _+_, _*_, _<_, _≤_}
-use mathlib.Core.Path.{_≡_, refl, sym, ap, _∙_, subst, fun-ext}
+use Prim.Native.Nat.{ℕ, suc, _+_, _≤_}
+use mathlib.Core.Path.{_≡_, refl, sym, ap, _∙_, subst}
 use mathlib.Core.Bool.{Bool, true, false}
-use mathlib.Core.List.{List, [], _∷_, _++_, map, List·Memᴰ, List·Memᴰ·head, Memᴰ·append-left, Memᴰ·append-right, List·Memᴰ·append-cases, List·Memᴰ·eq-of-singleton, Memᴰ·cast}
+use mathlib.Core.List.{List, [], _∷_, _++_, map, List·Memᴰ, Memᴰ·append-left, Memᴰ·append-right, List·Memᴰ·append-cases, List·Memᴰ·eq-of-singleton}
 use mathlib.Core.Option.{none}
 use mathlib.Core.Logic.{_⊎_, inl, inr, ⊎-elim}
 use native.Mathlib.Omega.{arith}
-use lib.Dec.{eqb, ltb, leb}
-use lib.ListN.{length, getD, length-append}
-use borrow.Author.Tests.{eqb-true, eqb-false, eq-eqb, ne-eqb, leb-false, lt-leb, ltb-false, le-ltb}
-use Rattle.entity.specs.Logic.{pick, and, or, no, any, has, meets, twice}
-use Rattle.entity.specs.Place.{Place, reg, slot, samePlace}
+use lib.Dec.{eqb, leb}
+use lib.ListN.{length-append}
+use borrow.Author.Tests.{eqb-true, eq-eqb, ne-eqb, leb-false, lt-leb}
+use Rattle.entity.specs.Logic.{pick, and, or, no, any, has, twice}
+use Rattle.entity.specs.Place.{Place, samePlace}
 use Rattle.entity.proofs.Laws.{and-true}
 use Rattle.reginfo.specs.RegInfo.{RegInfo, placeUnits, overlap}
-use Rattle.reginfo.specs.Refused.{Condition, cond, firstOf}
+use Rattle.reginfo.specs.Refused.{firstOf}
 use Rattle.reginfo.proofs.First.{first-none}
 use Rattle.function.specs.Function.{Function}
 use Rattle.rules.specs.Order.{KeptMove, Remat}
-use Rattle.rules.specs.Scratch.{unitsOfReg}
-use Rattle.rules.specs.Patch.{Entry, move, remat, Patch, Sorted, nothingSorted, destinations, bound, needsScratch, becomesRemat, sameMove, dropped, add, sortedFrom, sorted, overlapsEarlier, overlapsSource, entryConditions, freeDestination, lastOverlaps, patchConditions}
-use Rattle.rules.specs.Refusals.{entriesConditions}
+use Rattle.rules.specs.Patch.{Entry, move, remat, Sorted, destinations, bound, needsScratch, becomesRemat, sameMove, dropped, add, overlapsEarlier, overlapsSource, entryConditions}
 use Rattle.rules.proofs.Steps.{branch}
 use Rattle.rules.proofs.Accepted.{same-is}
-use Rattle.group_rules.specs.Groups.{near, entryUnits, chosen}
-use Rattle.group_rules.proofs.Lists.{same-test, not-then, and-less, and-right, or-more, or-left, or-right, Sub, any-mem, mem-any, any-sub, any-append, any-map, has-append, meet, met, total, total-grows, every-first, first-both, first-join}
+use Rattle.group_rules.specs.Groups.{near, entryUnits}
+use Rattle.group_rules.proofs.Lists.{same-test, not-then, and-less, and-right, or-more, or-right, Sub, any-mem, mem-any, any-sub, any-append, any-map, has-append, meet, total, total-grows, every-first}
 
 -- what an entry becomes
 data Becomes : Type 0 where

@@ -2,7 +2,7 @@
 use Prim.Native.Nat.{ℕ, _+_, _*_, _≤_}
 use mathlib.Core.Path.{_≡_}
 use mathlib.Core.List.{List, [], _∷_, _++_}
-use mathlib.Core.Option.{none, some}
+use mathlib.Core.Option.{some}
 use Rattle.reginfo.specs.RegInfo.{RegInfo}
 use Rattle.reginfo.specs.Refused as target
 use Rattle.function.specs.Function.{Function}
@@ -12,7 +12,7 @@ use Rattle.rules.specs.Patch.{refused}
 use Rattle.rules.specs.Take.{Served, fresh}
 use Rattle.machine.specs.Claim.{Owed}
 use Rattle.machine.specs.Slots.{InStacks, Stays}
-use Rattle.machine.specs.Enough.{numSizes, numBankSizes, enoughSlots, planned, SizedIn, editsIn, Between}
+use Rattle.machine.specs.Enough.{numSizes, enoughSlots, planned, SizedIn, editsIn, Between}
 use Rattle.group_rules.specs.Requests.{Request, standing, answered, after}
 
 module _ (t : RegInfo) (f : Function) where
@@ -57,3 +57,9 @@ Enough = EnoughWith 128
 
 abbrev pub FewerEnough : Type 0
 FewerEnough = EnoughWith 127
+
+-- "an L to plan with"
+abbrev pub Plan : Type 0
+Plan =
+    (t : RegInfo) (f : Function) → target.Accepted t → function.Accepted t f
+    → (enoughSlots t f ≤ 1040) × function.Accepted t (planned t f) × ((requests : List Request) → RequestsNeverOut t (planned t f) requests fresh)

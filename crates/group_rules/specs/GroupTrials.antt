@@ -1,16 +1,15 @@
 -- 02 k: patches resolved by groups, on the target of swap-full with one register more.
 use Prim.Native.Nat.{ℕ}
 use mathlib.Core.Path.{_≡_}
-use mathlib.Core.List.{List, [], _∷_, map}
-use Rattle.entity.specs.Logic.{indices}
+use mathlib.Core.List.{List, [], _∷_}
 use Rattle.entity.specs.Place.{reg, slot}
 use Rattle.reginfo.specs.RegInfo.{RegInfo}
 use Rattle.reginfo.specs.Refused as target
 use Rattle.function.specs.Function.{Function}
-use Rattle.rules.specs.Edit.{Edit, Move, Rematerialize, EmergencySpill, EmergencyReload}
+use Rattle.rules.specs.Edit.{Move, Rematerialize, EmergencySpill, EmergencyReload}
 use Rattle.rules.specs.Scratch.{emptyCache}
-use Rattle.rules.specs.Patch.{Entry, move, remat, Patch, Answer, refused, resolved, cacheAfter}
-use Rattle.rules.specs.Trials.{three, single, fixed, over, patch, swap, plain, rebuildable, Gives}
+use Rattle.rules.specs.Patch.{Entry, move, Answer, refused, resolved, cacheAfter}
+use Rattle.rules.specs.Trials.{three, single, fixed, over, patch, rebuildable, Gives}
 use Rattle.group_rules.specs.Groups.{labelsOf, parts, resolveByGroups}
 
 unfoldable pub four : RegInfo

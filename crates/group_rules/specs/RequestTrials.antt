@@ -16,7 +16,7 @@ use Rattle.frame_rules.specs.Frame.{Inlined, Frame, opened}
 use Rattle.group_rules.specs.GroupTrials.{four, vals, mixed, slots-first}
 use Rattle.group_rules.specs.Requests as requests
 use Rattle.group_rules.specs.Requests.{Request, single, grouping, answered, reached}
-use Rattle.group_rules.specs.Frame.{FrameCall, afterCall, afterCalls, told}
+use Rattle.group_rules.specs.Frame.{FrameCall, afterCall, told}
 
 module _ (f : Function) where
   abbrev pub toldFrom : List Request → Served → List told.Told
