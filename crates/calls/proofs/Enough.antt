@@ -34,7 +34,7 @@ use Rattle.calls.specs.Enough.{EnoughWith, Enough, FewerEnough, EachOfIt
 use Rattle.calls.proofs.Claimed.{asked, turned, let-in, known, demand-3-of-the-calls}
 
 -- a free unit is not refused with 17
-free-other : (units least : ℕ) (us : List ℕ) (n : ℕ) → freeFrom units least us ≡ some n → n ≡ 17 → ⊥
+pub free-other : (units least : ℕ) (us : List ℕ) (n : ℕ) → freeFrom units least us ≡ some n → n ≡ 17 → ⊥
 unfolding freeFrom
 free-other units least [] n e q = let z : _≡_ {A = ℕ} 0 1 = cc in omega arith
 free-other units least (u ∷ us) n e q = go (no (ltb u units)) (ltb u least) e (λ h. free-other units (u + 1) us n h q)
@@ -93,7 +93,7 @@ all-of : (x y : job.Opened) (q rest : List ℕ) → ended x q ≡ read.got y res
 all-of x y [] rest e = cc
 all-of x y (b ∷ q) rest e = absurd (let z : _≡_ {A = ℕ} 0 1 = cc in omega arith)
 
-setting : (kept : ℕ) (bytes t f cache cache′ : List ℕ) → OpenedAs (opened kept bytes) Yes t f cache cache′ → functionOf f .kept ≡ kept
+pub setting : (kept : ℕ) (bytes t f cache cache′ : List ℕ) → OpenedAs (opened kept bytes) Yes t f cache cache′ → functionOf f .kept ≡ kept
 unfolding opened
 setting kept bytes t f cache cache′ h = go (opened kept bytes) refl h
   where

@@ -14,9 +14,15 @@ use Rattle.reginfo.specs.Table.{regInfoOf}
 use Rattle.function.specs.Table.{functionOf}
 use Rattle.small_set.specs.Set.{setOf, emptySet, inserted}
 use Rattle.slots.specs.Stacks.{cacheOf}
+use Rattle.rules.specs.Refusals.{withLimit}
+use Rattle.rules.specs.Patch.{Answer}
+use Rattle.parallel_moves.specs.declared.Asked as A
+use Rattle.parallel_moves.specs.declared.Asked.{Asked}
+use Rattle.parallel_moves.specs.declared.Grant.{Grant}
 use Rattle.parallel_moves.specs.declared.Resolved as R
 use Rattle.parallel_moves.specs.declared.Resolved.{Resolved}
-use Rattle.parallel_moves.specs.Answers.{Gives, ResolvesPatch}
+use Rattle.parallel_moves.specs.Given.{withMade, own}
+use Rattle.parallel_moves.specs.Answers.{Gives, GivesGranted, Asks, ResolvesPatch, ResolvesPatchGranted, AsksPatchGranted}
 use Rattle.job_patch.proofs.Freeing.{or-none, shifted}
 use Rattle.calls.specs.Call.{freeFrom, freeRefusal, patchOf, callOf, FreeTaken}
 
@@ -82,3 +88,32 @@ module _ (t f us numbers list cache : List ℕ) (set : List Bool) where
       → Gives f (callOf (regInfoOf t) (functionOf f) us numbers (length list) (cacheOf cache)) r list list′ cache cache′
   unfolding callOf
   free-taken r list′ cache′ h g = rw (← h .is) (g (patchOf us numbers) (record { free-is = h .has-all refl; are = refl }))
+
+-- the same under a grant
+module _ (g : Grant) (t f us numbers list cache : List ℕ) (set : List Bool) where
+  abbrev answered : Answer
+  answered = callOf (regInfoOf t) (withLimit (regInfoOf t) (functionOf f) (g .limit)) us numbers (length list) (withMade (g .made) (cacheOf cache))
+
+  pub refused-granted : (n : ℕ) → FreeTaken (regInfoOf t .units) us (some n) set → GivesGranted f g answered (R.the-variants.Refused n) list list cache cache
+  unfolding callOf
+  refused-granted n h = rw (← h .is) (refl, refl, refl)
+
+  pub taken-granted : (r : Resolved) (list′ cache′ : List ℕ) → FreeTaken (regInfoOf t .units) us none set → ResolvesPatchGranted g t f set numbers r list list′ cache cache′
+      → GivesGranted f g answered r list list′ cache cache′
+  unfolding callOf
+  taken-granted r list′ cache′ h out = rw (← h .is) (out (patchOf us numbers) (record { free-is = h .has-all refl; are = refl }))
+
+  pub refused-asked : (n : ℕ) (slots : List ℕ) → FreeTaken (regInfoOf t .units) us (some n) set → Asks f (g .limit) answered (A.the-variants.Refused n) list list cache slots
+  unfolding callOf
+  refused-asked n slots h = rw (← h .is) (refl, refl, tt)
+
+  pub taken-asked : (r : Asked) (list′ slots : List ℕ) → FreeTaken (regInfoOf t .units) us none set → AsksPatchGranted g t f set numbers r list list′ cache slots
+      → Asks f (g .limit) answered r list list′ cache slots
+  unfolding callOf
+  taken-asked r list′ slots h out = rw (← h .is) (out (patchOf us numbers) (record { free-is = h .has-all refl; are = refl }))
+
+-- a function alone
+pub asked-own : (g : Grant) (t f us numbers list cache : List ℕ) → g ≡ own f cache → (r : Asked) (list′ slots : List ℕ)
+    → Asks f (g .limit) (callOf (regInfoOf t) (withLimit (regInfoOf t) (functionOf f) (g .limit)) us numbers (length list) (withMade (g .made) (cacheOf cache))) r list list′ cache slots
+    → Asks f (functionOf f .limit) (callOf (regInfoOf t) (functionOf f) us numbers (length list) (cacheOf cache)) r list list′ cache slots
+asked-own g t f us numbers list cache is r list′ slots h = rw is at h

@@ -1,11 +1,13 @@
 // One function's calls: a target and a function are opened once, then one patch after the other is resolved on that function's cache,
-// refused ones among them.
+// refused ones among them; 02 g: or asked for, to be taken by `parallel_moves::take`.
 use carried::Carried;
 use edit::Edits;
 use entity::RegUnit;
 use entries::Added;
 use entries::Entries;
 use function::Function;
+use parallel_moves::Asked;
+use parallel_moves::Grant;
 use parallel_moves::Resolved;
 use reading::Next;
 use reginfo::RegInfo;
@@ -26,8 +28,9 @@ ghost use Rattle.function.specs.Known.{Checked};
 ghost use Rattle.function.specs.Table.{functionOf};
 ghost use Rattle.slots.specs.Stacks.{cacheOf};
 ghost use Rattle.entries.specs.Answers.{addedOf};
-ghost use Rattle.parallel_moves.specs.Given.{CacheOk};
-ghost use Rattle.parallel_moves.specs.Answers.{Gives};
+ghost use Rattle.rules.specs.Refusals.{withLimit};
+ghost use Rattle.parallel_moves.specs.Given.{withMade, GrantOk, CacheOk};
+ghost use Rattle.parallel_moves.specs.Answers.{Gives, GivesGranted, Asks};
 ghost use Rattle.calls.specs.Opening.{opened, TablesAs, OpenedAs};
 ghost use Rattle.calls.specs.Call.{callOf, FreeTaken};
 
@@ -73,7 +76,7 @@ pub fn open(
 }
 
 // The free units of a patch, rising, as a set. What the set held does not matter.
-fn take_free(t: &RegInfo, free: &[u32], available: &mut RegUnitSet) -> Added
+pub fn take_free(t: &RegInfo, free: &[u32], available: &mut RegUnitSet) -> Added
     requires { ⌜ Accepted (regInfoOf (now t)) ⌝ }
     ensures { λ r. ⌜ FreeTaken (regInfoOf (now (t .entry)) .units) (now (free .entry)) (addedOf r) (now (available .exit)) ⌝ }
 {
@@ -97,7 +100,7 @@ fn take_free(t: &RegInfo, free: &[u32], available: &mut RegUnitSet) -> Added
 }
 
 // Whether a free unit is given.
-fn some_given(free: &[u32]) -> bool
+pub fn some_given(free: &[u32]) -> bool
     ensures { λ r. ⌜ (r ≡ false → now (free .entry) ≡ []) ⌝ }
 {
     0 < free.len()
@@ -137,6 +140,143 @@ pub fn resolve(
         cache,
         list,
         given,
+        e,
+        w,
+        available,
+        sources,
+        edits,
+        slots,
+        d,
+        marks,
+        c,
+    )
+}
+
+// The same under a grant (02 l).
+pub fn resolve_granted(
+    g: Grant,
+    t: &RegInfo,
+    f: &Function,
+    free: &[u32],
+    numbers: &[u32],
+    cache: &mut SlotCache,
+    list: &mut [u64],
+    e: &mut Entries,
+    w: &mut SparseMap,
+    available: &mut RegUnitSet,
+    sources: &mut RegUnitSet,
+    edits: &mut Edits,
+    slots: &mut Slots,
+    d: &mut Diverted,
+    marks: &mut Marks,
+    c: &mut Carried,
+) -> Resolved
+    requires { ⌜ Checked (now t) (now f) × GrantOk (now f) g (now cache) ⌝ }
+    ensures { λ r. ⌜ GivesGranted (now (f .entry)) g (callOf (regInfoOf (now (t .entry))) (withLimit (regInfoOf (now (t .entry))) (functionOf (now (f .entry))) (g .limit)) (now (free .entry)) (now (numbers .entry)) (length (now (list .entry))) (withMade (g .made) (cacheOf (now (cache .entry))))) r (now (list .entry)) (now (list .exit)) (now (cache .entry)) (now (cache .exit)) ⌝ }
+    ensures { λ _. ⌜ Anything (now (e .exit)) × Anything (now (w .exit)) × Anything (now (available .exit)) × Anything (now (sources .exit)) × Anything (now (edits .exit)) × Anything (now (slots .exit)) × Anything (now (d .exit)) × Anything (now (marks .exit)) × Anything (now (c .exit)) ⌝ }
+{
+    if let Added::Refused(k) = take_free(t, free, available) {
+        return Resolved::Refused(k);
+    }
+    let given = some_given(free);
+    parallel_moves::resolve_patch_granted(
+        g,
+        t,
+        f,
+        numbers,
+        cache,
+        list,
+        given,
+        e,
+        w,
+        available,
+        sources,
+        edits,
+        slots,
+        d,
+        marks,
+        c,
+    )
+}
+
+// Asks for a patch under a grant, given as to `resolve`. The cache is only read; the table of slots keeps what a take of the answer needs.
+pub fn ask_granted(
+    g: Grant,
+    t: &RegInfo,
+    f: &Function,
+    free: &[u32],
+    numbers: &[u32],
+    cache: &SlotCache,
+    list: &mut [u64],
+    e: &mut Entries,
+    w: &mut SparseMap,
+    available: &mut RegUnitSet,
+    sources: &mut RegUnitSet,
+    edits: &mut Edits,
+    slots: &mut Slots,
+    d: &mut Diverted,
+    marks: &mut Marks,
+    c: &mut Carried,
+) -> Asked
+    requires { ⌜ Checked (now t) (now f) × GrantOk (now f) g (now cache) ⌝ }
+    ensures { λ r. ⌜ Asks (now (f .entry)) (g .limit) (callOf (regInfoOf (now (t .entry))) (withLimit (regInfoOf (now (t .entry))) (functionOf (now (f .entry))) (g .limit)) (now (free .entry)) (now (numbers .entry)) (length (now (list .entry))) (withMade (g .made) (cacheOf (now (cache .entry))))) r (now (list .entry)) (now (list .exit)) (now (cache .entry)) (now (slots .exit)) ⌝ }
+    ensures { λ _. ⌜ Anything (now (e .exit)) × Anything (now (w .exit)) × Anything (now (available .exit)) × Anything (now (sources .exit)) × Anything (now (edits .exit)) × Anything (now (d .exit)) × Anything (now (marks .exit)) × Anything (now (c .exit)) ⌝ }
+{
+    if let Added::Refused(k) = take_free(t, free, available) {
+        return Asked::Refused(k);
+    }
+    let given = some_given(free);
+    parallel_moves::ask_patch_granted(
+        g,
+        t,
+        f,
+        numbers,
+        cache,
+        list,
+        given,
+        e,
+        w,
+        available,
+        sources,
+        edits,
+        slots,
+        d,
+        marks,
+        c,
+    )
+}
+
+// The same of a function alone.
+pub fn ask(
+    t: &RegInfo,
+    f: &Function,
+    free: &[u32],
+    numbers: &[u32],
+    cache: &SlotCache,
+    list: &mut [u64],
+    e: &mut Entries,
+    w: &mut SparseMap,
+    available: &mut RegUnitSet,
+    sources: &mut RegUnitSet,
+    edits: &mut Edits,
+    slots: &mut Slots,
+    d: &mut Diverted,
+    marks: &mut Marks,
+    c: &mut Carried,
+) -> Asked
+    requires { ⌜ Checked (now t) (now f) × CacheOk (now f) (now cache) ⌝ }
+    ensures { λ r. ⌜ Asks (now (f .entry)) (functionOf (now (f .entry)) .limit) (callOf (regInfoOf (now (t .entry))) (functionOf (now (f .entry))) (now (free .entry)) (now (numbers .entry)) (length (now (list .entry))) (cacheOf (now (cache .entry)))) r (now (list .entry)) (now (list .exit)) (now (cache .entry)) (now (slots .exit)) ⌝ }
+    ensures { λ _. ⌜ Anything (now (e .exit)) × Anything (now (w .exit)) × Anything (now (available .exit)) × Anything (now (sources .exit)) × Anything (now (edits .exit)) × Anything (now (d .exit)) × Anything (now (marks .exit)) × Anything (now (c .exit)) ⌝ }
+{
+    let g = parallel_moves::own_grant(f, cache);
+    ask_granted(
+        g,
+        t,
+        f,
+        free,
+        numbers,
+        cache,
+        list,
         e,
         w,
         available,

@@ -43,7 +43,7 @@ module _ (t f : List ℕ) where
 module _ (f : List ℕ) (position : ℕ) (list list′ cache cache′ : List ℕ) where
   pub gave-edits : (a : Answer) (n m : ℕ) → Gives f a (R.Edits n m) list list′ cache cache′ → CalledAs f a n 0 position m list list′ cache cache′
   gave-edits (refused k) n m h = absurd (let z : _≡_ {A = ℕ} 0 1 = cc in omega arith)
-  gave-edits (resolved es c i) n m h = (h .1, refl, h .6, h .2, h .3, h .4, h .5)
+  gave-edits (resolved es c i) n m h = (h .1, refl, h .6, h .2, h .3, h .4, h .5, h .7)
 
   pub gave-number : (a : Answer) (k : ℕ) → Gives f a (R.Refused k) list list′ cache cache′ → CalledAs f a 0 k position position list list′ cache cache′
   gave-number (refused n) k h = let e : k ≡ n = cc in (refl, e, refl, h .1, h .2)

@@ -10,7 +10,7 @@ use Rattle.function.specs.Table.{functionOf}
 use Rattle.rules.specs.Patch.{Answer, refused, resolved}
 use Rattle.machine.specs.Enough.{enoughSlots}
 use Rattle.edit.specs.Word.{wordOf, AllInRange}
-use Rattle.slots.specs.Stacks.{cacheOf}
+use Rattle.slots.specs.Stacks.{cacheOf, stampOf, raised}
 use Rattle.slots.specs.Steps.{Cleared}
 use Rattle.number.specs.Read as read
 use Rattle.number.specs.Read.{Read}
@@ -33,3 +33,4 @@ abbrev pub CalledAs : (f : List ℕ) → Answer → (r refusal position position
 CalledAs f (refused n) r refusal position position′ list list′ cache cache′ = (r ≡ 0) × (refusal ≡ n) × (position′ ≡ position) × (list′ ≡ list) × (cache′ ≡ cache)
 CalledAs f (resolved es c n) r refusal position position′ list list′ cache cache′ =
     (r ≡ length es) × (refusal ≡ 0) × (position′ ≡ n) × (list′ ≡ map wordOf es ++ drop (length es) list) × AllInRange es × (cacheOf cache′ ≡ c) × CacheOk f cache′
+    × (stampOf cache′ ≡ raised (stampOf cache))

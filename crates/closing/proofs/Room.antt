@@ -15,7 +15,7 @@ use Rattle.edit.specs.Buffer.{countOf}
 use Rattle.scratch.proofs.Bounds as bounds
 use Rattle.scratch.proofs.Unlimited.{owed-is}
 use Rattle.scratch.specs.declared.ScratchAllocator.{ScratchAllocator}
-use Rattle.scratch.specs.State.{owed}
+use Rattle.scratch.specs.State.{evictedIn, owed}
 use Rattle.scratch.specs.Contracts.{Tables, FitsIn}
 use Rattle.visits.specs.Marks.{isDone}
 use Rattle.closing.specs.State.{Work, Stands, unclosed}
@@ -23,7 +23,7 @@ use Rattle.closing.specs.Steps.{PaidFor}
 
 module _ (t f cache : List ℕ) where
   -- the same tables, with room for n edits
-  pub refit : {a b m : ℕ} (n : ℕ) (k : ScratchAllocator) (w : Tables) → FitsIn t f cache a b m k w → countOf (w .edits) + owed (k .evicted) + n ≤ 1024 → FitsIn t f cache a b n k w
+  pub refit : {a b m : ℕ} (n : ℕ) (k : ScratchAllocator) (w : Tables) → FitsIn t f cache a b m k w → countOf (w .edits) + owed (evictedIn k) + n ≤ 1024 → FitsIn t f cache a b n k w
   refit n k w h few = bounds.refit n few h
 
   -- what is paid for leaves room

@@ -11,19 +11,22 @@ use Rattle.entity.specs.Place.{placeAt}
 use Rattle.entity.proofs.Laws.{drop-step}
 use Rattle.reginfo.specs.Refused.{firstOf}
 use Rattle.function.specs.Table.{functionOf}
-use Rattle.rules.specs.Patch.{Entry, move, remat, Patch, nothingSorted, entryConditions, sortedFrom, resolve}
+use Rattle.rules.specs.Patch.{Entry, move, remat, Patch, nothingSorted, entryConditions, sortedFrom}
 use Rattle.rules.specs.Refusals.{entriesConditions}
 use Rattle.scratch.specs.State.{T}
 use Rattle.entries.specs.Table.{sortedOf}
 use Rattle.entries.specs.Known.{EntriesOk}
 use Rattle.entries.specs.Answers.{AddedAs}
 use Rattle.slots.specs.Stacks.{cacheOf}
+use Rattle.parallel_moves.specs.declared.Grant.{Grant}
+use Rattle.parallel_moves.specs.declared.Asked as A
+use Rattle.parallel_moves.specs.declared.Asked.{Asked}
 use Rattle.parallel_moves.specs.declared.Resolved as R
 use Rattle.parallel_moves.specs.declared.Resolved.{Resolved}
-use Rattle.parallel_moves.specs.Given.{nothingNamed, entryOf, entriesOf, Numbered, Built}
-use Rattle.parallel_moves.specs.Answers.{Gives, Resolves}
+use Rattle.parallel_moves.specs.Given.{nothingNamed, entryOf, entriesOf, withMade, Numbered, Built}
+use Rattle.parallel_moves.specs.Answers.{answerGranted, GivesGranted, ResolvesGranted, Asks, AsksGranted}
 use Rattle.parallel_moves.specs.Steps.{AllAdded}
-use Rattle.parallel_moves.proofs.First.{first-append, resolve-first, resolve-built}
+use Rattle.parallel_moves.proofs.First.{first-append, first-within, built-within}
 
 -- an entry by its first number
 module _ (t f e w e′ w′ : List ℕ) (kind x y z : ℕ) (r : Option ℕ) where
@@ -134,16 +137,26 @@ module _ (t f e : List ℕ) (numbers : List ℕ) where
     adding-short e″ w″ (some n) a b one = stopped n e″ w″ nothingNamed [] (left-over a b) one
 
 -- all entries of a patch
-module _ (t f e e′ w′ : List ℕ) (free : List Bool) (numbers list cache : List ℕ) (empty : sortedOf e ≡ nothingSorted) (p : Patch) (given : Numbered free numbers p) where
+module _ (t f e e′ w′ : List ℕ) (g : Grant) (free : List Bool) (numbers list cache : List ℕ) (empty : sortedOf e ≡ nothingSorted) (p : Patch) (given : Numbered free numbers p) where
   pub patch-refused : (n : ℕ) → AllAdded t f e e′ w′ (entriesOf numbers) (some n)
-      → Gives f (resolve (T t) (functionOf f) p (length list) (cacheOf cache)) (R.the-variants.Refused n) list list cache cache
+      → GivesGranted f g (answerGranted t f g p (length list) cache) (R.the-variants.Refused n) list list cache cache
   patch-refused n h =
       let first : firstOf (entriesConditions (T t) (functionOf f) (p .entries) nothingSorted) ≡ some n = rw (given .are) (rw empty at (sym (h .is))) in
-      rw (resolve-first (T t) (functionOf f) p (length list) (cacheOf cache), first) (refl, refl, refl)
+      rw (first-within (T t) (functionOf f) (g .limit) p (length list) (withMade (g .made) (cacheOf cache)), first) (refl, refl, refl)
 
   patch-built : AllAdded t f e e′ w′ (entriesOf numbers) none → Built t f free e′ p
   patch-built h = record { free-is = given .free-is; taken = rw (given .are) (rw empty at (sym (h .is))); is = rw (given .are) (rw empty at (h .yes refl)) }
 
-  pub patch-resolved : (r : Resolved) (list′ cache′ : List ℕ) → AllAdded t f e e′ w′ (entriesOf numbers) none → Resolves t f free e′ r list list′ cache cache′
-      → Gives f (resolve (T t) (functionOf f) p (length list) (cacheOf cache)) r list list′ cache cache′
-  patch-resolved r list′ cache′ h g = rw (resolve-built t f free e′ p (patch-built h) (length list) (cacheOf cache)) (g p (given .free-is))
+  pub patch-resolved : (r : Resolved) (list′ cache′ : List ℕ) → AllAdded t f e e′ w′ (entriesOf numbers) none → ResolvesGranted g t f free e′ r list list′ cache cache′
+      → GivesGranted f g (answerGranted t f g p (length list) cache) r list list′ cache cache′
+  patch-resolved r list′ cache′ h out = rw (built-within t f (g .limit) free e′ p (patch-built h) (length list) (withMade (g .made) (cacheOf cache))) (out p (given .free-is))
+
+  pub asked-refused : (n : ℕ) (slots : List ℕ) → AllAdded t f e e′ w′ (entriesOf numbers) (some n)
+      → Asks f (g .limit) (answerGranted t f g p (length list) cache) (A.the-variants.Refused n) list list cache slots
+  asked-refused n slots h =
+      let first : firstOf (entriesConditions (T t) (functionOf f) (p .entries) nothingSorted) ≡ some n = rw (given .are) (rw empty at (sym (h .is))) in
+      rw (first-within (T t) (functionOf f) (g .limit) p (length list) (withMade (g .made) (cacheOf cache)), first) (refl, refl, tt)
+
+  pub patch-asked : (r : Asked) (list′ slots : List ℕ) → AllAdded t f e e′ w′ (entriesOf numbers) none → AsksGranted g t f free e′ r list list′ cache slots
+      → Asks f (g .limit) (answerGranted t f g p (length list) cache) r list list′ cache slots
+  patch-asked r list′ slots h out = rw (built-within t f (g .limit) free e′ p (patch-built h) (length list) (withMade (g .made) (cacheOf cache))) (out p (given .free-is))

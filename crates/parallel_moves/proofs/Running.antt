@@ -1,6 +1,6 @@
 -- The run of a patch.
 use Prim.Native.Nat.{ℕ, zero, suc, _+_, _*_, _<_, _≤_}
-use mathlib.Core.Path.{_≡_, refl, sym, fun-ext}
+use mathlib.Core.Path.{_≡_, refl, sym, ap, fun-ext}
 use mathlib.Core.Bool.{Bool, true, false}
 use mathlib.Core.List.{List, [], _∷_}
 use mathlib.Core.Option.{none}
@@ -11,7 +11,7 @@ use borrow.Author.Tests.{eq-eqb, ne-eqb}
 use Rattle.entity.specs.Logic.{has}
 use Rattle.function.specs.Known.{Checked}
 use Rattle.function.specs.Table.{functionOf}
-use Rattle.function.proofs.Laws.{few-slots, low-limit}
+use Rattle.function.proofs.Laws.{few-slots}
 use Rattle.small_set.specs.Set.{setOf}
 use Rattle.rules.specs.Edit.{andThen, each}
 use Rattle.rules.specs.Scratch as rules
@@ -22,7 +22,7 @@ use Rattle.slots.specs.Stacks.{cacheOf, stacksOf}
 use Rattle.slots.specs.Steps.{Begun}
 use Rattle.scratch.specs.declared.Evicted.the-variants.{Nothing}
 use Rattle.scratch.specs.declared.ScratchAllocator.{ScratchAllocator}
-use Rattle.scratch.specs.State.{T, F, Fits, Stacked, owed}
+use Rattle.scratch.specs.State.{T, F, madeOf, evictedIn, Fits, Stacked, owed}
 use Rattle.scratch.specs.Contracts.{Tables, tables, stateOf}
 use Rattle.scratch.proofs.Bounds.{fewer, refit}
 use Rattle.entries.specs.Table.{sortedOf}
@@ -31,7 +31,8 @@ use Rattle.visits.specs.Marks.{movesOf, rematsOf, rematsWithScratchOf}
 use Rattle.rebuilds.specs.Rebuilds.{Rematted, Rebuilt}
 use Rattle.rebuilds.proofs.Direct.{rematted-fits}
 use Rattle.visiting.specs.Steps.{Moves}
-use Rattle.parallel_moves.specs.Given.{freeFrom, freeOf, CacheOk}
+use Rattle.parallel_moves.specs.declared.Grant.{Grant}
+use Rattle.parallel_moves.specs.Given.{freeFrom, freeOf, withMade, GrantOk}
 use Rattle.parallel_moves.specs.Steps.{Ran}
 
 -- a unit is listed as free exactly where its flag is set
@@ -53,25 +54,22 @@ pub free-is : (free : List Bool) (u : ℕ) → has u (freeOf free) ≡ setOf fre
 unfolding setOf
 free-is free u = let q : 0 + u ≡ u = omega arith in rw q at (free-at u 0 free)
 
-module _ (t f cache e w : List ℕ) (known : Checked t f) (ok : EntriesOk t f e w) (cached : CacheOk f cache) where
+module _ (t f cache e w : List ℕ) (known : Checked t f) (ok : EntriesOk t f e w) (g : Grant) (granted : GrantOk f g cache) where
   -- the tables as a run begins
-  module _ (edits slots : List ℕ) (made : ℕ) (none : editsOf edits ≡ []) (nil : countOf edits ≡ 0) (written : Written edits) (begun : Begun cache slots) (is : made ≡ cacheOf cache .made) where
-    abbrev k₀ : ScratchAllocator
-    k₀ = record { evicted = Nothing; made = made }
-
+  module _ (edits slots : List ℕ) (none : editsOf edits ≡ []) (nil : countOf edits ≡ 0) (written : Written edits) (begun : Begun cache slots) (k₀ : ScratchAllocator) (new : (evictedIn k₀ ≡ Nothing) × (madeOf k₀ ≡ g .made)) where
     low : Stacked (stacksOf slots cache)
-    low = rw (begun .stacks) (λ z s h. omega (arith, cached .stacks .stacked .below s z h, cached .made, few-slots (T t) (functionOf f) (known .function), low-limit (T t) (functionOf f) (known .function)))
+    low = rw (begun .stacks) (λ z s h. omega (arith, granted .stacks .below s z h, granted .made, granted .limit, few-slots (T t) (functionOf f) (known .function)))
 
     fits₀ : Fits 0 2 1024 t k₀ edits slots cache
     fits₀ =
         record {
-          few = omega (arith, nil);
+          few = omega (arith, nil, ap owed (new .0));
           most = 0;
           put = begun .fits;
           own = omega arith;
-          made = omega (arith, is, cached .made, low-limit (T t) (functionOf f) (known .function));
+          made = omega (arith, new .1, granted .made, granted .limit);
           stacked = low;
-          held = tt;
+          held = rw (new .0) tt;
           written = written;
           untouched = begun .untouched;
         }
@@ -92,13 +90,13 @@ module _ (t f cache e w : List ℕ) (known : Checked t f) (ok : EntriesOk t f e 
         pub moves-room : Fits 0 2 (8 * length (movesOf e)) t k₂ (x₂ .edits) (x₂ .slots) cache
         moves-room =
             refit (8 * length (movesOf e))
-            (let q : owed (k₁ .evicted) ≡ 0 = rw (direct .kept) in omega (arith, rebuilt .few, direct .count, nil, few-places)) (rebuilt .fits)
+            (let q : owed (evictedIn k₁) ≡ 0 = rw (direct .kept, new .0) in omega (arith, rebuilt .few, direct .count, nil, few-places)) (rebuilt .fits)
 
-        begin-is : (p : Patch) → ((u : ℕ) → has u (p .free) ≡ setOf free u) → stateOf t f cache k₀ (tables edits free slots) ≡ record { edits = []; available = λ u. has u (p .free); evicted = []; cache = cacheOf cache; met = 0 }
+        begin-is : (p : Patch) → ((u : ℕ) → has u (p .free) ≡ setOf free u) → stateOf t f cache k₀ (tables edits free slots) ≡ record { edits = []; available = λ u. has u (p .free); evicted = []; cache = withMade (g .made) (cacheOf cache); met = 0 }
         begin-is p q =
             let a : setOf free ≡ (λ u. has u (p .free)) = fun-ext (λ u. sym (q u)) in
-            rw (none, begun .stacks, is, a, begun .met)
+            rw (none, begun .stacks, a, begun .met, new .0, new .1)
 
-        pub ran : (k₃ : ScratchAllocator) (x₃ : Tables) → Moves t f cache e k₂ x₂ k₃ x₃ → Ran t f cache e free k₃ x₃
+        pub ran : (k₃ : ScratchAllocator) (x₃ : Tables) → Moves t f cache e k₂ x₂ k₃ x₃ → Ran t f cache e (g .made) free k₃ x₃
         unfolding run andThen sortedOf
         ran k₃ x₃ m = record { is = λ p q. rw (← begin-is p q, ← direct .is f cache slots, rebuilt .is) (m .is); fits = m .fits }

@@ -1,5 +1,5 @@
--- What a call is given: free units as a set of flags, entries as numbers or as the table that they were added to, and the cache that the
--- last call left.
+-- What a call is given: free units as a set of flags, entries as numbers or as the table that they were added to, the cache that the
+-- last call left, and how many slots it may make.
 use Prim.Native.Nat.{ℕ, _+_, _≤_}
 use mathlib.Core.Path.{_≡_}
 use mathlib.Core.Bool.{Bool, true, false}
@@ -11,12 +11,14 @@ use Rattle.entity.specs.Place.{placeAt}
 use Rattle.reginfo.specs.Refused.{firstOf}
 use Rattle.function.specs.Table.{functionOf}
 use Rattle.small_set.specs.Set.{setOf}
+use Rattle.rules.specs.Scratch.{Cache}
 use Rattle.rules.specs.Patch.{Entry, move, remat, Patch, nothingSorted, sorted}
 use Rattle.rules.specs.Refusals.{entriesConditions}
-use Rattle.machine.specs.Slots.{InStacks}
+use Rattle.machine.specs.Slots.{Stacked}
 use Rattle.slots.specs.Stacks.{cacheOf, CacheFits}
 use Rattle.scratch.specs.State.{T}
 use Rattle.entries.specs.Table.{sortedOf}
+use Rattle.parallel_moves.specs.declared.Grant.{Grant}
 
 -- the units whose flag is set, rising, the first flag being that of unit u
 unfoldable pub freeFrom : ℕ → List Bool → List ℕ
@@ -55,8 +57,28 @@ pub record Built (t f : List ℕ) (free : List Bool) (e : List ℕ) (p : Patch) 
   pub taken : firstOf (entriesConditions (T t) (functionOf f) (p .entries) nothingSorted) ≡ none
   pub is : sortedOf e ≡ sorted (T t) (functionOf f) p
 
--- a cache that is fresh or came from a call: its stacks hold every slot made, once, and at most L were made
+-- the stacks of a cache, with n slots made
+abbrev pub withMade : ℕ → Cache → Cache
+withMade n c = record { stacks = c .stacks; made = n }
+
+-- what a function alone is granted: the slots that its cache has made, and L
+abbrev pub own : List ℕ → List ℕ → Grant
+own f cache = record { made = cacheOf cache .made; limit = functionOf f .limit }
+
+-- the counter has gone on, its limit stays
+abbrev pub gone : Grant → ℕ → Grant
+gone g n = record { made = n; limit = g .limit }
+
+-- a cache that is fresh or came from a call, with a counter that all its slots came from: what lies in its stacks lies there once, and no more
+-- were made than may be
+pub record GrantOk (f : List ℕ) (g : Grant) (cache : List ℕ) : Type 0 where
+  pub fits : CacheFits cache
+  pub stacks : Stacked (functionOf f) (withMade (g .made) (cacheOf cache))
+  pub made : g .made ≤ g .limit
+  pub limit : g .limit ≤ 2048
+
+-- the same of a function alone
 pub record CacheOk (f cache : List ℕ) : Type 0 where
   pub fits : CacheFits cache
-  pub stacks : InStacks (functionOf f) (cacheOf cache)
+  pub stacks : Stacked (functionOf f) (cacheOf cache)
   pub made : cacheOf cache .made ≤ functionOf f .limit

@@ -12,33 +12,42 @@ use Rattle.small_set.specs.Set.{setOf}
 use Rattle.rules.specs.Patch.{Entry, Patch, sortedFrom, run}
 use Rattle.rules.specs.Refusals.{entriesConditions}
 use Rattle.edit.specs.Buffer.{countOf, wordsOf}
-use Rattle.slots.specs.Stacks.{cacheOf, metOf, stacksOf, SlotsFit, Untouched}
+use Rattle.slots.specs.Stacks.{cacheOf, stampOf, metOf, stacksOf, SlotsFit, Untouched}
 use Rattle.slots.specs.Steps.{Committed}
 use Rattle.scratch.specs.declared.ScratchAllocator.{ScratchAllocator}
-use Rattle.scratch.specs.State.{T, F}
+use Rattle.scratch.specs.State.{T, F, madeOf}
 use Rattle.scratch.specs.Contracts.{Tables, stateOf, FitsIn}
 use Rattle.entries.specs.Table.{sortedOf}
 use Rattle.entries.specs.Known.{EntriesOk}
+use Rattle.parallel_moves.specs.declared.Asked as A
+use Rattle.parallel_moves.specs.declared.Asked.{Asked}
 use Rattle.parallel_moves.specs.declared.Resolved.{Resolved}
+use Rattle.parallel_moves.specs.Given.{withMade}
 use Rattle.parallel_moves.specs.Answers.{numberOf, editsIn, positionIn}
 
--- the run of a patch, with a limit that is never met
-pub record Ran (t f cache e : List ℕ) (free : List Bool) (k : ScratchAllocator) (w : Tables) : Type 0 where
-  pub is : (p : Patch) → ((u : ℕ) → has u (p .free) ≡ setOf free u) → run (T t) (F f) p (sortedOf e) (cacheOf cache) ≡ some (stateOf t f cache k w)
+-- the run of a patch from a counter, with a limit that is never met
+pub record Ran (t f cache e : List ℕ) (made : ℕ) (free : List Bool) (k : ScratchAllocator) (w : Tables) : Type 0 where
+  pub is : (p : Patch) → ((u : ℕ) → has u (p .free) ≡ setOf free u) → run (T t) (F f) p (sortedOf e) (withMade made (cacheOf cache)) ≡ some (stateOf t f cache k w)
   pub fits : FitsIn t f cache 0 2 0 k w
 
--- where not more than L slots were made, the stacks have room in the cache
-pub record CanHandOver (f cache list : List ℕ) (k : ScratchAllocator) (edits slots : List ℕ) : Type 0 where
+-- where not more slots were made than may be, the stacks have room in the cache
+pub record CanHandOver (limit : ℕ) (cache list : List ℕ) (k : ScratchAllocator) (edits slots : List ℕ) : Type 0 where
   pub few : countOf edits ≤ 1024
   pub room : countOf edits ≤ length list
   pub put : SlotsFit 1024 slots
   pub untouched : Untouched cache slots
-  pub deep : k .made ≤ functionOf f .limit → (z : ℕ) → z < 32 → length (stacksOf slots cache z) ≤ 2048
+  pub deep : madeOf k ≤ limit → (z : ℕ) → z < 32 → length (stacksOf slots cache z) ≤ 2048
 
-pub record HandedOver (f cache list : List ℕ) (k : ScratchAllocator) (edits slots : List ℕ) (r : Resolved) (list′ cache′ : List ℕ) : Type 0 where
-  pub over : functionOf f .limit < k .made → (numberOf r ≡ some 17) × (list′ ≡ list) × (cache′ ≡ cache)
-  pub within : k .made ≤ functionOf f .limit
-      → (numberOf r ≡ none) × (editsIn r ≡ countOf edits) × (list′ ≡ wordsOf edits ++ drop (countOf edits) list) × Committed slots cache cache′ (k .made) × (positionIn r ≡ metOf slots)
+pub record HandedOver (limit : ℕ) (cache list : List ℕ) (k : ScratchAllocator) (edits slots : List ℕ) (r : Resolved) (list′ cache′ : List ℕ) : Type 0 where
+  pub over : limit < madeOf k → (numberOf r ≡ some 17) × (list′ ≡ list) × (cache′ ≡ cache)
+  pub within : madeOf k ≤ limit
+      → (numberOf r ≡ none) × (editsIn r ≡ countOf edits) × (list′ ≡ wordsOf edits ++ drop (countOf edits) list) × Committed slots cache cache′ (madeOf k) × (positionIn r ≡ metOf slots)
+
+-- the same where the patch is only asked for: nothing is committed
+pub record Shown (limit : ℕ) (cache list : List ℕ) (k : ScratchAllocator) (edits slots : List ℕ) (r : Asked) (list′ : List ℕ) : Type 0 where
+  pub over : limit < madeOf k → (r ≡ A.the-variants.Refused 17) × (list′ ≡ list)
+  pub within : madeOf k ≤ limit
+      → (r ≡ A.the-variants.Ready (countOf edits) (record { made = madeOf k; position = metOf slots; stamp = stampOf cache })) × (list′ ≡ wordsOf edits ++ drop (countOf edits) list)
 
 -- entries added one after the other: the number of the first that is refused; where none is, the table holds what they became
 pub record AllAdded (t f e e′ w′ : List ℕ) (l : List Entry) (r : Option ℕ) : Type 0 where

@@ -1,13 +1,12 @@
-// 01: `resolve`, one patch at a time.
+// 01: `resolve`, one patch at a time. 02 g: a patch asked for, whose answer may be taken later.
 use carried::Carried;
 use edit::Edits;
-use entity::wide;
+use entity::narrow;
 use entries::Added;
 use entries::Entries;
 use function::Function;
 use reginfo::RegInfo;
 use scratch::Diverted;
-use scratch::Evicted;
 use scratch::ScratchAllocator;
 use slots::SlotCache;
 use slots::Slots;
@@ -25,12 +24,18 @@ ghost use Rattle.function.specs.Table.{functionOf};
 ghost use Rattle.rules.specs.Patch as rules;
 ghost use Rattle.entries.specs.Known.{EntriesOk};
 ghost use Rattle.entries.specs.Answers.{addedOf, AddedAs};
-ghost use Rattle.slots.specs.Stacks.{cacheOf};
+ghost use Rattle.slots.specs.Stacks.{cacheOf, stampOf};
 ghost use Rattle.scratch.specs.State.{T};
 ghost use Rattle.scratch.specs.Contracts.{tables};
-ghost use Rattle.parallel_moves.specs.Given.{entryOf, entriesOf, CacheOk};
-ghost use Rattle.parallel_moves.specs.Answers.{Resolves, ResolvesPatch};
-ghost use Rattle.parallel_moves.specs.Steps.{Ran, CanHandOver, HandedOver, AllAdded};
+ghost use Rattle.parallel_moves.specs.Given.{entryOf, entriesOf, own, GrantOk, CacheOk};
+ghost use Rattle.parallel_moves.specs.Answers.{Resolves, ResolvesGranted, ResolvesPatch, ResolvesPatchGranted, CanTake, AsksGranted, AsksPatchGranted, Takes};
+ghost use Rattle.parallel_moves.specs.Steps.{Ran, CanHandOver, HandedOver, Shown, AllAdded};
+
+// The counter that slot numbers come from, and how far it may go (02 l).
+pub struct Grant {
+    pub made: u16,
+    pub limit: u16,
+}
 
 // How many edits were handed out and the greatest position met, or 01's number.
 pub enum Resolved {
@@ -38,8 +43,40 @@ pub enum Resolved {
     Refused(u8),
 }
 
+// What a take needs beside the table of slots that the asking left: the slots made then, the greatest position met, and the cache's stamp at
+// the asking.
+pub struct Preview {
+    pub made: u16,
+    pub position: u16,
+    pub stamp: u64,
+}
+
+// How many edits were handed out and what to take, or 01's number.
+pub enum Asked {
+    Ready(usize, Preview),
+    Refused(u8),
+}
+
+// Whether an answer was taken, or 20.
+pub enum TakeAnswer {
+    Yes,
+    Refused(u8),
+}
+
+// What a function alone is granted.
+pub fn own_grant(f: &Function, cache: &SlotCache) -> Grant
+    requires { ⌜ functionOf (now f) .limit ≤ 2048 ⌝ }
+    ensures { λ g. ⌜ g ≡ own (now (f .entry)) (now (cache .entry)) ⌝ }
+{
+    Grant {
+        made: slots::made(cache),
+        limit: narrow(function::slot_limit(f)),
+    }
+}
+
 // The edits of a patch, whatever the limit on slots. The units that are available at first are the patch's free ones.
 fn run(
+    g: Grant,
     t: &RegInfo,
     f: &Function,
     cache: &SlotCache,
@@ -53,16 +90,13 @@ fn run(
     marks: &mut Marks,
     c: &mut Carried,
 ) -> ScratchAllocator
-    requires { ⌜ Checked (now t) (now f) × EntriesOk (now t) (now f) (now e) (now w) × CacheOk (now f) (now cache) ⌝ }
-    ensures { λ r. ⌜ Ran (now (t .entry)) (now (f .entry)) (now (cache .entry)) (now (e .entry)) (now (available .entry)) r (tables (now (edits .exit)) (now (available .exit)) (now (slots .exit))) ⌝ }
+    requires { ⌜ Checked (now t) (now f) × EntriesOk (now t) (now f) (now e) (now w) × GrantOk (now f) g (now cache) ⌝ }
+    ensures { λ r. ⌜ Ran (now (t .entry)) (now (f .entry)) (now (cache .entry)) (now (e .entry)) (g .made) (now (available .entry)) r (tables (now (edits .exit)) (now (available .exit)) (now (slots .exit))) ⌝ }
     ensures { λ _. ⌜ Anything (now (sources .exit)) × Anything (now (d .exit)) × Anything (now (marks .exit)) × Anything (now (c .exit)) ⌝ }
 {
     edit::clear(edits);
     slots::begin(slots, cache);
-    let k = ScratchAllocator {
-        evicted: Evicted::Nothing,
-        made: slots::made(cache),
-    };
+    let k = ScratchAllocator::new(g.made);
     let direct = rebuilds::remats(k, t, e, available, edits);
     let rebuilt = rebuilds::remats_with_scratch(
         direct,
@@ -92,8 +126,56 @@ fn run(
     )
 }
 
-// Resolves a patch that was built of entries and whose free units are the set `available`: its edits go to the front of the lent list. On a
+// Resolves a patch under a grant, built of entries and with the set `available` as its free units: its edits go to the front of the lent list. On a
 // refusal the list and the cache are left as they were. If `given` is false, no unit is free. What the other working tables hold does not matter.
+pub fn resolve_granted(
+    g: Grant,
+    t: &RegInfo,
+    f: &Function,
+    e: &Entries,
+    w: &SparseMap,
+    cache: &mut SlotCache,
+    list: &mut [u64],
+    given: bool,
+    available: &mut RegUnitSet,
+    sources: &mut RegUnitSet,
+    edits: &mut Edits,
+    slots: &mut Slots,
+    d: &mut Diverted,
+    marks: &mut Marks,
+    c: &mut Carried,
+) -> Resolved
+    requires { ⌜ Checked (now t) (now f) × EntriesOk (now t) (now f) (now e) (now w) × GrantOk (now f) g (now cache) × (given ≡ false → (u : ℕ) → setOf (now available) u ≡ false) ⌝ }
+    ensures { λ r. ⌜ ResolvesGranted g (now (t .entry)) (now (f .entry)) (now (available .entry)) (now (e .entry)) r (now (list .entry)) (now (list .exit)) (now (cache .entry)) (now (cache .exit)) ⌝ }
+    ensures { λ _. ⌜ Anything (now (available .exit)) × Anything (now (sources .exit)) × Anything (now (edits .exit)) × Anything (now (slots .exit)) × Anything (now (d .exit)) × Anything (now (marks .exit)) × Anything (now (c .exit)) ⌝ }
+{
+    if let Added::Refused(n) = entries::refusal(t, f, e, w, available, given, list.len()) {
+        return Resolved::Refused(n);
+    }
+    if rebuilds::only_remats(e) {
+        let n = rebuilds::hand_out(t, e, list);
+        slots::raise(cache, g.made);
+        return Resolved::Edits(n, 0);
+    }
+    let k = run(
+        g,
+        t,
+        f,
+        cache,
+        e,
+        w,
+        available,
+        sources,
+        edits,
+        slots,
+        d,
+        marks,
+        c,
+    );
+    hand_over(k, g.limit, cache, list, edits, slots)
+}
+
+// The same of a function alone.
 pub fn resolve_available(
     t: &RegInfo,
     f: &Function,
@@ -114,19 +196,16 @@ pub fn resolve_available(
     ensures { λ r. ⌜ Resolves (now (t .entry)) (now (f .entry)) (now (available .entry)) (now (e .entry)) r (now (list .entry)) (now (list .exit)) (now (cache .entry)) (now (cache .exit)) ⌝ }
     ensures { λ _. ⌜ Anything (now (available .exit)) × Anything (now (sources .exit)) × Anything (now (edits .exit)) × Anything (now (slots .exit)) × Anything (now (d .exit)) × Anything (now (marks .exit)) × Anything (now (c .exit)) ⌝ }
 {
-    if let Added::Refused(n) = entries::refusal(t, f, e, w, available, given, list.len()) {
-        return Resolved::Refused(n);
-    }
-    if rebuilds::only_remats(e) {
-        let n = rebuilds::hand_out(t, e, list);
-        return Resolved::Edits(n, 0);
-    }
-    let k = run(
+    let g = own_grant(f, cache);
+    resolve_granted(
+        g,
         t,
         f,
-        cache,
         e,
         w,
+        cache,
+        list,
+        given,
         available,
         sources,
         edits,
@@ -134,8 +213,7 @@ pub fn resolve_available(
         d,
         marks,
         c,
-    );
-    hand_over(k, f, cache, list, edits, slots)
+    )
 }
 
 // The same with the free units in a set of their own, which is only read. What the working tables hold does not matter.
@@ -178,20 +256,20 @@ pub fn resolve(
     )
 }
 
-// 17 where more slots were made than the function may have; else the edits go out and the cache becomes what the patch left.
+// 17 where more slots were made than may be; else the edits go out and the cache becomes what the patch left.
 fn hand_over(
     k: ScratchAllocator,
-    f: &Function,
+    limit: u16,
     cache: &mut SlotCache,
     list: &mut [u64],
     edits: &Edits,
     slots: &Slots,
 ) -> Resolved
-    requires { ⌜ CanHandOver (now f) (now cache) (now list) k (now edits) (now slots) ⌝ }
-    ensures { λ r. ⌜ HandedOver (now (f .entry)) (now (cache .entry)) (now (list .entry)) k (now (edits .entry)) (now (slots .entry)) r (now (list .exit)) (now (cache .exit)) ⌝ }
+    requires { ⌜ CanHandOver limit (now cache) (now list) k (now edits) (now slots) ⌝ }
+    ensures { λ r. ⌜ HandedOver limit (now (cache .entry)) (now (list .entry)) k (now (edits .entry)) (now (slots .entry)) r (now (list .exit)) (now (cache .exit)) ⌝ }
 {
-    let made = k.made;
-    if function::slot_limit(f) < wide(made) {
+    let made = k.made();
+    if limit < made {
         return Resolved::Refused(17);
     }
     let n = edit::hand_out(edits, list);
@@ -199,8 +277,107 @@ fn hand_over(
     Resolved::Edits(n, slots::met(slots))
 }
 
+// Asks for a patch under a grant, built of entries and with the set `available` as its free units: its edits go to the front of the lent list,
+// and the table of slots keeps what a take makes of the cache, which is only read.
+pub fn ask_granted(
+    g: Grant,
+    t: &RegInfo,
+    f: &Function,
+    e: &Entries,
+    w: &SparseMap,
+    cache: &SlotCache,
+    list: &mut [u64],
+    given: bool,
+    available: &mut RegUnitSet,
+    sources: &mut RegUnitSet,
+    edits: &mut Edits,
+    slots: &mut Slots,
+    d: &mut Diverted,
+    marks: &mut Marks,
+    c: &mut Carried,
+) -> Asked
+    requires { ⌜ Checked (now t) (now f) × EntriesOk (now t) (now f) (now e) (now w) × GrantOk (now f) g (now cache) × (given ≡ false → (u : ℕ) → setOf (now available) u ≡ false) ⌝ }
+    ensures { λ r. ⌜ AsksGranted g (now (t .entry)) (now (f .entry)) (now (available .entry)) (now (e .entry)) r (now (list .entry)) (now (list .exit)) (now (cache .entry)) (now (slots .exit)) ⌝ }
+    ensures { λ _. ⌜ Anything (now (available .exit)) × Anything (now (sources .exit)) × Anything (now (edits .exit)) × Anything (now (d .exit)) × Anything (now (marks .exit)) × Anything (now (c .exit)) ⌝ }
+{
+    if let Added::Refused(n) = entries::refusal(t, f, e, w, available, given, list.len()) {
+        return Asked::Refused(n);
+    }
+    if rebuilds::only_remats(e) {
+        slots::begin(slots, cache);
+        let n = rebuilds::hand_out(t, e, list);
+        let stamp = slots::stamp(cache);
+        return Asked::Ready(
+            n,
+            Preview {
+                made: g.made,
+                position: 0,
+                stamp,
+            },
+        );
+    }
+    let k = run(
+        g,
+        t,
+        f,
+        cache,
+        e,
+        w,
+        available,
+        sources,
+        edits,
+        slots,
+        d,
+        marks,
+        c,
+    );
+    show(k, g.limit, cache, list, edits, slots)
+}
+
+// 17 where more slots were made than may be; else the edits go out, and nothing is committed.
+fn show(
+    k: ScratchAllocator,
+    limit: u16,
+    cache: &SlotCache,
+    list: &mut [u64],
+    edits: &Edits,
+    slots: &Slots,
+) -> Asked
+    requires { ⌜ CanHandOver limit (now cache) (now list) k (now edits) (now slots) ⌝ }
+    ensures { λ r. ⌜ Shown limit (now (cache .entry)) (now (list .entry)) k (now (edits .entry)) (now (slots .entry)) r (now (list .exit)) ⌝ }
+{
+    let count = k.made();
+    if limit < count {
+        return Asked::Refused(17);
+    }
+    let length = edit::hand_out(edits, list);
+    let position = slots::met(slots);
+    let stamp = slots::stamp(cache);
+    Asked::Ready(
+        length,
+        Preview {
+            made: count,
+            position,
+            stamp,
+        },
+    )
+}
+
+// Takes what was asked for: the cache becomes what resolving would have made it. First 20, where the cache's stamp is not that of the asking.
+// Asked is that the table of slots is as the asking left it and the cache as its last call.
+pub fn take(a: Preview, slots: &Slots, cache: &mut SlotCache) -> TakeAnswer
+    requires { ⌜ (a .stamp ≡ stampOf (now cache) → CanTake (now slots) (now cache)) ⌝ }
+    ensures { λ r. ⌜ Takes a (now (slots .entry)) (now (cache .entry)) r (now (cache .exit)) ⌝ }
+{
+    if slots::stamp(cache) != a.stamp {
+        return TakeAnswer::Refused(20);
+    }
+    slots::commit(slots, cache, a.made);
+    TakeAnswer::Yes
+}
+
 // The entry that stands at `at`.
-fn add_entry(
+pub fn add_entry(
     t: &RegInfo,
     f: &Function,
     e: &mut Entries,
@@ -252,8 +429,54 @@ pub fn add_entries(
     Added::Yes
 }
 
-// Resolves a patch whose free units are the set `available` and whose entries are given as numbers, four to an entry: 0 source destination
+// Resolves under a grant a patch whose free units are the set `available` and whose entries are given as numbers, four to an entry: 0 source destination
 // value, or 1 destination value and a number that is not read. If `given` is false, no unit is free.
+pub fn resolve_patch_granted(
+    g: Grant,
+    t: &RegInfo,
+    f: &Function,
+    numbers: &[u32],
+    cache: &mut SlotCache,
+    list: &mut [u64],
+    given: bool,
+    e: &mut Entries,
+    w: &mut SparseMap,
+    available: &mut RegUnitSet,
+    sources: &mut RegUnitSet,
+    edits: &mut Edits,
+    slots: &mut Slots,
+    d: &mut Diverted,
+    marks: &mut Marks,
+    c: &mut Carried,
+) -> Resolved
+    requires { ⌜ Checked (now t) (now f) × GrantOk (now f) g (now cache) × (given ≡ false → (u : ℕ) → setOf (now available) u ≡ false) ⌝ }
+    ensures { λ r. ⌜ ResolvesPatchGranted g (now (t .entry)) (now (f .entry)) (now (available .entry)) (now (numbers .entry)) r (now (list .entry)) (now (list .exit)) (now (cache .entry)) (now (cache .exit)) ⌝ }
+    ensures { λ _. ⌜ Anything (now (e .exit)) × Anything (now (w .exit)) × Anything (now (available .exit)) × Anything (now (sources .exit)) × Anything (now (edits .exit)) × Anything (now (slots .exit)) × Anything (now (d .exit)) × Anything (now (marks .exit)) × Anything (now (c .exit)) ⌝ }
+{
+    entries::new_parallel_move(e, w);
+    if let Added::Refused(n) = add_entries(t, f, e, w, numbers) {
+        return Resolved::Refused(n);
+    }
+    resolve_granted(
+        g,
+        t,
+        f,
+        e,
+        w,
+        cache,
+        list,
+        given,
+        available,
+        sources,
+        edits,
+        slots,
+        d,
+        marks,
+        c,
+    )
+}
+
+// The same of a function alone.
 pub fn resolve_patch(
     t: &RegInfo,
     f: &Function,
@@ -275,11 +498,56 @@ pub fn resolve_patch(
     ensures { λ r. ⌜ ResolvesPatch (now (t .entry)) (now (f .entry)) (now (available .entry)) (now (numbers .entry)) r (now (list .entry)) (now (list .exit)) (now (cache .entry)) (now (cache .exit)) ⌝ }
     ensures { λ _. ⌜ Anything (now (e .exit)) × Anything (now (w .exit)) × Anything (now (available .exit)) × Anything (now (sources .exit)) × Anything (now (edits .exit)) × Anything (now (slots .exit)) × Anything (now (d .exit)) × Anything (now (marks .exit)) × Anything (now (c .exit)) ⌝ }
 {
+    let g = own_grant(f, cache);
+    resolve_patch_granted(
+        g,
+        t,
+        f,
+        numbers,
+        cache,
+        list,
+        given,
+        e,
+        w,
+        available,
+        sources,
+        edits,
+        slots,
+        d,
+        marks,
+        c,
+    )
+}
+
+// Asks under a grant for a patch given as numbers, as `resolve_patch_granted` has it.
+pub fn ask_patch_granted(
+    g: Grant,
+    t: &RegInfo,
+    f: &Function,
+    numbers: &[u32],
+    cache: &SlotCache,
+    list: &mut [u64],
+    given: bool,
+    e: &mut Entries,
+    w: &mut SparseMap,
+    available: &mut RegUnitSet,
+    sources: &mut RegUnitSet,
+    edits: &mut Edits,
+    slots: &mut Slots,
+    d: &mut Diverted,
+    marks: &mut Marks,
+    c: &mut Carried,
+) -> Asked
+    requires { ⌜ Checked (now t) (now f) × GrantOk (now f) g (now cache) × (given ≡ false → (u : ℕ) → setOf (now available) u ≡ false) ⌝ }
+    ensures { λ r. ⌜ AsksPatchGranted g (now (t .entry)) (now (f .entry)) (now (available .entry)) (now (numbers .entry)) r (now (list .entry)) (now (list .exit)) (now (cache .entry)) (now (slots .exit)) ⌝ }
+    ensures { λ _. ⌜ Anything (now (e .exit)) × Anything (now (w .exit)) × Anything (now (available .exit)) × Anything (now (sources .exit)) × Anything (now (edits .exit)) × Anything (now (d .exit)) × Anything (now (marks .exit)) × Anything (now (c .exit)) ⌝ }
+{
     entries::new_parallel_move(e, w);
     if let Added::Refused(n) = add_entries(t, f, e, w, numbers) {
-        return Resolved::Refused(n);
+        return Asked::Refused(n);
     }
-    resolve_available(
+    ask_granted(
+        g,
         t,
         f,
         e,

@@ -19,7 +19,7 @@ use Rattle.rebuilds.specs.Rebuilds.{Rematted}
 module _ (t : List ℕ) (k : ScratchAllocator) (edits : List ℕ) (available : List Bool) where
   pub one-remat : (r : Remat) (to v : ℕ) (k′ : ScratchAllocator) (edits′ : List ℕ) (available′ : List Bool) → placeAt to ≡ r .dest → v ≡ r .value
       → (editsOf edits′ ≡ Rematerialize (placeAt to) v ∷ editsOf edits) × (countOf edits′ ≡ countOf edits + 1) × (Written edits → Written edits′)
-      → (k′ ≡ k) × ((f cache edits slots : List ℕ) → allocatorOf k′ edits available′ slots cache ≡ makeAvailable (T t) (F f) (placeAt to) (allocatorOf k edits available slots cache))
+      → (k′ ≡ k) × ((f cache edits slots : List ℕ) → allocatorOf t k′ edits available′ slots cache ≡ makeAvailable (T t) (F f) (placeAt to) (allocatorOf t k edits available slots cache))
       → Rematted t (r ∷ []) k edits available k′ edits′ available′
   unfolding remats
   one-remat r to v k′ edits′ available′ d u p m =
@@ -30,7 +30,7 @@ module _ (t : List ℕ) (k : ScratchAllocator) (edits : List ℕ) (available : L
     pub kept : k′ ≡ k
     pub count : countOf edits′ ≡ countOf edits + i
     pub written : Written edits → Written edits′
-    pub rest : (f cache slots : List ℕ) → remats (T t) (F f) l (allocatorOf k edits available slots cache) ≡ remats (T t) (F f) (drop i l) (allocatorOf k′ edits′ available′ slots cache)
+    pub rest : (f cache slots : List ℕ) → remats (T t) (F f) l (allocatorOf t k edits available slots cache) ≡ remats (T t) (F f) (drop i l) (allocatorOf t k′ edits′ available′ slots cache)
     pub within : i ≤ length l
 
   pub rematting-none : (l : List Remat) → Rematting l k edits available 0
@@ -44,7 +44,7 @@ module _ (t : List ℕ) (k : ScratchAllocator) (edits : List ℕ) (available : L
         kept = one .kept ∙ h .kept;
         count = omega (arith, h .count, one .count);
         written = λ o. one .written (h .written o);
-        rest = λ f cache slots. h .rest f cache slots ∙ ap (λ (m : List Remat). remats (T t) (F f) m (allocatorOf k′ edits′ available′ slots cache)) (drop-step l i noRebuild n) ∙ ap (remats (T t) (F f) (drop (i + 1) l)) (sym (one .is f cache slots));
+        rest = λ f cache slots. h .rest f cache slots ∙ ap (λ (m : List Remat). remats (T t) (F f) m (allocatorOf t k′ edits′ available′ slots cache)) (drop-step l i noRebuild n) ∙ ap (remats (T t) (F f) (drop (i + 1) l)) (sym (one .is f cache slots));
         within = omega arith;
       }
 
@@ -55,7 +55,7 @@ module _ (t : List ℕ) (k : ScratchAllocator) (edits : List ℕ) (available : L
         kept = h .kept;
         count = omega (arith, h .count, h .within);
         written = h .written;
-        is = λ f cache slots. sym (h .rest f cache slots ∙ ap (λ (m : List Remat). remats (T t) (F f) m (allocatorOf k′ edits′ available′ slots cache)) (drop-of-length-le l {i = i} n));
+        is = λ f cache slots. sym (h .rest f cache slots ∙ ap (λ (m : List Remat). remats (T t) (F f) m (allocatorOf t k′ edits′ available′ slots cache)) (drop-of-length-le l {i = i} n));
       }
 
 -- each takes an edit of the room

@@ -23,7 +23,7 @@ use Rattle.edit.specs.Buffer.{countOf, editsOf, Written}
 use Rattle.search.specs.Search.{barredBy}
 use Rattle.scratch.specs.declared.ScratchAllocator.{ScratchAllocator}
 use Rattle.scratch.specs.declared.Scratch.{Scratch}
-use Rattle.scratch.specs.State.{T, F, allocatorOf, Fits, owed}
+use Rattle.scratch.specs.State.{T, F, evictedIn, allocatorOf, Fits, owed}
 use Rattle.scratch.specs.Contracts.{Tables, tables, stateOf, FitsIn, Brought, Found, Moved, Released}
 use Rattle.scratch.proofs.Bounds.{fewer, refit, pushed}
 use Rattle.scratch.proofs.Unlimited.{same-class, all-placed, owed-is}
@@ -45,7 +45,7 @@ module _ (t f cache : List ℕ) where
       → Moved t f cache k w k₁ w₁ (rules.moveEdits (T t) (F f) b (placeAt to) (placeAt p) v)
       → (editsOf e ≡ Rematerialize (placeAt p) v ∷ editsOf (w₁ .edits)) × (countOf e ≡ countOf (w₁ .edits) + 1) × (Written (w₁ .edits) → Written e)
       → Released t f cache k₁ (tables e (w₁ .available) (w₁ .slots)) k₂ (tables e (w₁ .available) s) (rules.releasePlace (T t) (F f) (spillslotSize (T t) b) (placeAt p))
-      → k₃ ≡ k₂ → allocatorOf k₃ e l s cache ≡ rules.makeAvailable (T t) (F f) (placeAt to) (allocatorOf k₂ e (w₁ .available) s cache)
+      → k₃ ≡ k₂ → allocatorOf t k₃ e l s cache ≡ rules.makeAvailable (T t) (F f) (placeAt to) (allocatorOf t k₂ e (w₁ .available) s cache)
       → Through t f cache k w k₃ (tables e l s) (throughScratch (T t) (F f) b (placeAt to) (placeAt p) v)
   unfolding throughScratch andThen
   through b v to p k k₁ k₂ k₃ w w₁ e s l moved made released kept marked =
@@ -59,7 +59,7 @@ module _ (t f cache : List ℕ) where
 
   module _ (known : Checked t f) (r : Remat) (ok : RematOk (T t) (functionOf f) false r) where
     -- five edits at most, made or owed
-    five-more : (k k′ : ScratchAllocator) (w w′ : Tables) → rematWithScratch (T t) (F f) r (stateOf t f cache k w) ≡ some (stateOf t f cache k′ w′) → countOf (w′ .edits) + owed (k′ .evicted) ≤ countOf (w .edits) + owed (k .evicted) + 5
+    five-more : (k k′ : ScratchAllocator) (w w′ : Tables) → rematWithScratch (T t) (F f) r (stateOf t f cache k w) ≡ some (stateOf t f cache k′ w′) → countOf (w′ .edits) + owed (evictedIn k′) ≤ countOf (w .edits) + owed (evictedIn k) + 5
     five-more k k′ w w′ e =
         let few : All (λ x. machine.owed x ≤ machine.owed (stateOf t f cache k w) + 5) (some (stateOf t f cache k′ w′)) =
         subst (All (λ x. machine.owed x ≤ machine.owed (stateOf t f cache k w) + 5)) e (scratch-owed (T t) (F f) (known .target) (all-placed t f known) r (same-ok t f false r ok) (stateOf t f cache k w)) in
@@ -87,7 +87,7 @@ module _ (t f cache : List ℕ) where
   pub record Rebuilding (l : List Remat) (k : ScratchAllocator) (w : Tables) (k′ : ScratchAllocator) (w′ : Tables) (i : ℕ) : Type 0 where
     pub rest : each (rematWithScratch (T t) (F f)) l (stateOf t f cache k w) ≡ each (rematWithScratch (T t) (F f)) (drop i l) (stateOf t f cache k′ w′)
     pub fits : FitsIn t f cache 0 2 8 k′ w′
-    pub few : countOf (w′ .edits) + owed (k′ .evicted) ≤ countOf (w .edits) + owed (k .evicted) + 5 * i
+    pub few : countOf (w′ .edits) + owed (evictedIn k′) ≤ countOf (w .edits) + owed (evictedIn k) + 5 * i
     pub within : i ≤ length l
 
   module _ (l : List Remat) (k : ScratchAllocator) (w : Tables) (first : FitsIn t f cache 0 2 (5 * length l + 8) k w) where

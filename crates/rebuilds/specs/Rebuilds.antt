@@ -20,7 +20,7 @@ use Rattle.rules.specs.Patch.{Sorted}
 use Rattle.rules.specs.Sorted.{RematOk}
 use Rattle.edit.specs.Buffer.{countOf, Written}
 use Rattle.scratch.specs.declared.ScratchAllocator.{ScratchAllocator}
-use Rattle.scratch.specs.State.{T, F, allocatorOf, owed}
+use Rattle.scratch.specs.State.{T, F, evictedIn, allocatorOf, owed}
 use Rattle.scratch.specs.Contracts.{Tables, stateOf, FitsIn}
 use Rattle.visits.specs.Marks.{noRebuild}
 
@@ -46,7 +46,7 @@ pub record Rematted (t : List ℕ) (l : List Remat) (k : ScratchAllocator) (edit
   pub kept : k′ ≡ k
   pub count : countOf edits′ ≡ countOf edits + length l
   pub written : Written edits → Written edits′
-  pub is : (f cache slots : List ℕ) → allocatorOf k′ edits′ available′ slots cache ≡ remats (T t) (F f) l (allocatorOf k edits available slots cache)
+  pub is : (f cache slots : List ℕ) → allocatorOf t k′ edits′ available′ slots cache ≡ remats (T t) (F f) l (allocatorOf t k edits available slots cache)
 
 -- no kept move, and no rebuild with scratch
 abbrev pub onlyRemats : Sorted → Bool
@@ -75,4 +75,4 @@ module _ (t f cache : List ℕ) where
   pub record Rebuilt (n : ℕ) (k : ScratchAllocator) (w : Tables) (k′ : ScratchAllocator) (w′ : Tables) (by : rules.ScratchAllocator → Option rules.ScratchAllocator) : Type 0 where
     pub is : by (stateOf t f cache k w) ≡ some (stateOf t f cache k′ w′)
     pub fits : FitsIn t f cache 0 2 8 k′ w′
-    pub few : countOf (w′ .edits) + owed (k′ .evicted) ≤ countOf (w .edits) + owed (k .evicted) + 5 * n
+    pub few : countOf (w′ .edits) + owed (evictedIn k′) ≤ countOf (w .edits) + owed (evictedIn k) + 5 * n

@@ -18,7 +18,7 @@ use Rattle.slots.proofs.Laws.{fits-more}
 use Rattle.scratch.specs.declared.Evicted.{Evicted}
 use Rattle.scratch.specs.declared.Held.{Held}
 use Rattle.scratch.specs.declared.ScratchAllocator.{ScratchAllocator}
-use Rattle.scratch.specs.State.{T, Stacked, Stocked, HeldFits, AllFit, owed, Fits}
+use Rattle.scratch.specs.State.{T, madeOf, evictedIn, Keeps, Stacked, Stocked, HeldFits, AllFit, owed, Fits}
 use Rattle.scratch.specs.Contracts.{Holds}
 
 -- lists of slots below 8,192
@@ -64,7 +64,7 @@ module _ {a b n : ℕ} {t : List ℕ} {k : ScratchAllocator} {edits slots cache 
       record { few = omega arith; most = h .most; put = h .put; own = omega arith; made = omega arith; stacked = h .stacked; held = h .held; written = h .written; untouched = h .untouched }
 
   -- the room that a sharper count leaves
-  pub refit : (m : ℕ) → countOf edits + owed (k .evicted) + m ≤ 1024 → Fits a b n t k edits slots cache → Fits a b m t k edits slots cache
+  pub refit : (m : ℕ) → countOf edits + owed (evictedIn k) + m ≤ 1024 → Fits a b n t k edits slots cache → Fits a b m t k edits slots cache
   refit m l h = record { few = l; most = h .most; put = h .put; own = h .own; made = h .made; stacked = h .stacked; held = h .held; written = h .written; untouched = h .untouched }
 
   pub stocked : Fits a b n t k edits slots cache → Stocked k slots cache
@@ -121,15 +121,35 @@ module _ {a b n : ℕ} {t : List ℕ} {k : ScratchAllocator} {edits slots cache 
       }
 
 -- a slot made
-pub one-made : {a b n m : ℕ} {v : Evicted} {t edits slots cache : List ℕ} → Fits a (b + 1) n t (record { evicted = v; made = m }) edits slots cache → Fits a b n t (record { evicted = v; made = m + 1 }) edits slots cache
-one-made h =
-    record { few = omega arith; most = h .most; put = h .put; own = omega arith; made = omega arith; stacked = h .stacked; held = h .held; written = h .written; untouched = h .untouched }
+pub one-made : {a b n : ℕ} {k k′ : ScratchAllocator} {t edits slots cache : List ℕ} → (evictedIn k′ ≡ evictedIn k) × (madeOf k′ ≡ madeOf k + 1) → Fits a (b + 1) n t k edits slots cache → Fits a b n t k′ edits slots cache
+one-made e h =
+    record {
+      few = rw (e .0) (omega (arith, h .few));
+      most = h .most;
+      put = h .put;
+      own = h .own;
+      made = omega (arith, e .1, h .made);
+      stacked = h .stacked;
+      held = rw (e .0) (h .held);
+      written = h .written;
+      untouched = h .untouched;
+    }
 
 module _ {a b n : ℕ} {t : List ℕ} {k : ScratchAllocator} {edits slots cache : List ℕ} where
   -- registers no longer held: the edits owed for them are room
-  pub let-go : (v : Evicted) (m : ℕ) → AllFit (T t) v → owed v + m ≤ owed (k .evicted) → Fits a b n t k edits slots cache → Fits a b (n + m) t (record { evicted = v; made = k .made }) edits slots cache
-  let-go v m f q h =
-      record { few = omega arith; most = h .most; put = h .put; own = omega arith; made = omega arith; stacked = h .stacked; held = f; written = h .written; untouched = h .untouched }
+  pub let-go : {k′ : ScratchAllocator} (v : Evicted) (m : ℕ) → Keeps v k k′ → AllFit (T t) v → owed v + m ≤ owed (evictedIn k) → Fits a b n t k edits slots cache → Fits a b (n + m) t k′ edits slots cache
+  let-go v m e f q h =
+      record {
+        few = rw (e .is) (omega (arith, q, h .few));
+        most = h .most;
+        put = h .put;
+        own = h .own;
+        made = omega (arith, e .made, h .made);
+        stacked = h .stacked;
+        held = rw (e .is) f;
+        written = h .written;
+        untouched = h .untouched;
+      }
 
   -- one more held
   pub hold : {e : Held} {k′ : ScratchAllocator} → Holds e k k′ → HeldFits (T t) e → Fits a b (n + 1) t k edits slots cache → Fits a b n t k′ edits slots cache
@@ -146,5 +166,5 @@ module _ {a b n : ℕ} {t : List ℕ} {k : ScratchAllocator} {edits slots cache 
         untouched = h .untouched;
       }
 
-  pub all-fit : {v : Evicted} → k .evicted ≡ v → Fits a b n t k edits slots cache → AllFit (T t) v
+  pub all-fit : {v : Evicted} → evictedIn k ≡ v → Fits a b n t k edits slots cache → AllFit (T t) v
   all-fit e h = rw e at (h .held)

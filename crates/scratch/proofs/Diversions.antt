@@ -67,7 +67,7 @@ module _ (t f cache : List ℕ) (b v : ℕ) (d d′ : List ℕ) where
 
     -- a new one has the scratch found
     pub diverts-new : (k k′ : ScratchAllocator) (w w₁ : Tables) (r : Scratch) (l : List Bool) → countAt d v ≡ 0 → Found t f cache k w r w₁ (getScratchReg (T t) (F f) b (topLevelClass (T t) b) barred) → Noted v added source (r .place .0) d d′
-        → k′ ≡ r .allocator → allocatorOf k′ (w₁ .edits) l (w₁ .slots) cache ≡ makeUnavailable (T t) (F f) (placeAt (r .place .0)) (stateOf t f cache (r .allocator) w₁)
+        → k′ ≡ r .allocator → allocatorOf t k′ (w₁ .edits) l (w₁ .slots) cache ≡ makeUnavailable (T t) (F f) (placeAt (r .place .0)) (stateOf t f cache (r .allocator) w₁)
         → Diverts t f cache b barred added source v d k w d′ (record { place = r .place; allocator = k′ }) (tables (w₁ .edits) l (w₁ .slots))
     unfolding divertBy andThen
     diverts-new k k′ w w₁ r l z g h e m =

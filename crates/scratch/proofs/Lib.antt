@@ -1,3 +1,4 @@
+pub mod Packed
 pub mod Bounds
 pub mod Steps
 pub mod Unlimited

@@ -15,7 +15,7 @@ use Rattle.entity.specs.Logic.{pick, and, has}
 use Rattle.entity.specs.Place.{Place, reg, slot, codeOf, placeAt, placeOf}
 use Rattle.entity.proofs.Laws.{place-there, code-there}
 use Rattle.reginfo.specs.RegInfo.{numRegs, numClasses, classMembers, allocationOrder, includesSpillslots, spillslotSize, stackToStackClass, lastInOrder, overlap, isMemory}
-use Rattle.reginfo.proofs.Accepted.{regs-fit, known-units, size-fits, ordered-fits, last-ordered}
+use Rattle.reginfo.proofs.Accepted.{regs-fit, known-units, ordered-fits, last-ordered}
 use Rattle.function.specs.Table.{functionOf}
 use Rattle.small_set.specs.Set.{setOf}
 use Rattle.rules.specs.Edit.{Move, EmergencyReload, find, andThen}
@@ -36,8 +36,9 @@ use Rattle.scratch.specs.declared.ScratchAllocator.{ScratchAllocator}
 use Rattle.scratch.specs.declared.Scratch.{Scratch}
 use Rattle.scratch.specs.declared.Taken.{Taken}
 use Rattle.function.specs.Known.{Checked}
-use Rattle.scratch.specs.State.{T, F, heldOf, evictedOf, cacheIn, allocatorOf, Stocked, Fits, PlaceFits, Evictable}
+use Rattle.scratch.specs.State.{T, F, madeOf, evictedIn, heldOf, evictedOf, cacheIn, allocatorOf, Stocked, Fits, PlaceFits, Evictable}
 use Rattle.scratch.specs.Contracts.{Tables, tables, failing, unevictForEnds, stateOf, Acquired, Brought, Holds, Found, Moved, Released}
+use Rattle.scratch.proofs.Packed.{one-more}
 use Rattle.scratch.proofs.Bounds.{top-low, fewer, pushed, put-back, taken, met-one, one-made, hold}
 use Rattle.scratch.proofs.Steps.{took, made, reuse-member, reuse-stranger, find-has}
 
@@ -61,14 +62,15 @@ module _ (t f cache : List ℕ) where
         fits = λ a b n edits h. taken p (fewer (omega arith) (omega arith) (omega arith) h);
       }
 
-  pub taken-new : (z : ℕ) (k : ScratchAllocator) (s s′ : List ℕ) (x : ℕ) → functionOf f .slots ≤ 4096 → Stocked k s cache → slots.Taken s cache s′ z popped.Empty → x ≡ functionOf f .slots + k .made → Acquired t f cache z k s (record { slot = record { 0 = x }; allocator = record { evicted = k .evicted; made = k .made + 1 } }) s′
-  taken-new z k s s′ x l h p e =
+  pub taken-new : (z : ℕ) (k k′ : ScratchAllocator) (s s′ : List ℕ) (x : ℕ) → functionOf f .slots ≤ 4096 → Stocked k s cache → slots.Taken s cache s′ z popped.Empty → x ≡ functionOf f .slots + madeOf k → k′ .packed ≡ k .packed + 1 → Acquired t f cache z k s (record { slot = record { 0 = x }; allocator = k′ }) s′
+  taken-new z k k′ s s′ x l h p e q =
+      let more = one-more k k′ (h .made) q in
       record {
-        is = rw e (made (T t) (F f) z (cacheIn k s cache) (stacksOf s cache z) (stacksOf s′ cache) (p .got) (p .stacks) (h .made));
-        kept = refl;
+        is = rw (e, more .1) (made (T t) (F f) z (cacheIn k s cache) (stacksOf s cache z) (stacksOf s′ cache) (p .got) (p .stacks) (omega (arith, h .made)));
+        kept = more .0;
         met = p .met;
-        small = omega arith;
-        fits = λ a b n edits h. taken p (one-made h);
+        small = omega (arith, e, l, h .made);
+        fits = λ a b n edits h. taken p (one-made more h);
       }
 
   -- places found
@@ -90,17 +92,16 @@ module _ (t f cache : List ℕ) where
         fits = λ a b n g. fewer (omega arith) (omega arith) (omega arith) (h .fits a b (n + 2) e g);
       }
 
-  pub found-last : (m b c z : ℕ) (k k′ : ScratchAllocator) (e e′ : List ℕ) (available : List Bool) (s s′ : List ℕ) (r : Taken) (h : Held) (p : Allocation) → Evictable t f b c → z ≡ spillslotSize (T t) b → Acquired t f cache z k s r s′ → h .reg .0 ≡ lastInOrder (T t) c → h .slot .0 ≡ r .slot .0 → (editsOf e′ ≡ EmergencyReload (h .reg .0) (r .slot .0) ∷ editsOf e) × (countOf e′ ≡ countOf e + 1) × (Written e → Written e′) → h .size ≡ z → Holds h (r .allocator) k′ → p .0 ≡ codeOf (reg (h .reg .0)) → Found t f cache k (tables e available s) (record { place = p; position = m; allocator = k′ }) (tables e′ available s′) (evictLast (T t) (F f) m b c)
+  pub found-last : (m b c z : ℕ) (k k′ : ScratchAllocator) (e e′ : List ℕ) (available : List Bool) (s s′ : List ℕ) (r : Taken) (h : Held) (p : Allocation) → Evictable t f b c → z ≡ spillslotSize (T t) b → Acquired t f cache z k s r s′ → h .reg .0 ≡ lastInOrder (T t) c → h .slot .0 ≡ r .slot .0 → (editsOf e′ ≡ EmergencyReload (h .reg .0) (r .slot .0) ∷ editsOf e) × (countOf e′ ≡ countOf e + 1) × (Written e → Written e′) → h .bank .0 ≡ b → Holds h (r .allocator) k′ → p .0 ≡ codeOf (reg (h .reg .0)) → Found t f cache k (tables e available s) (record { place = p; position = m; allocator = k′ }) (tables e′ available s′) (evictLast (T t) (F f) m b c)
   unfolding evictLast andThen
   found-last n b c z k k′ e e′ available s s′ r q p ok u h l x m d v o =
       let i = rw u at (h .is) in
       let low = last-low t f b c ok (q .reg .0) l in
-      let size = size-fits (T t) (ok .checked .target) b (ok .bank) in
-      let same : evictedOf (k′ .evicted) ≡ record { reg = lastInOrder (T t) c; slot = r .slot .0; size = spillslotSize (T t) b } ∷ evictedOf (k .evicted) = rw (v .is, h .kept, l, x, d, u) in
+      let same : evictedOf (T t) (evictedIn k′) ≡ record { reg = lastInOrder (T t) c; slot = r .slot .0; size = spillslotSize (T t) b } ∷ evictedOf (T t) (evictedIn k) = rw (v .is (T t), h .kept, l, x, d) in
       record {
         is = rw (i, o, place-there (reg (q .reg .0)), m .0, same, v .made, l, h .met);
         place = reg-fits (p .0) (q .reg .0) (ok .checked) o low;
-        fits = λ a b n g. hold v (low, omega (arith, x, h .small), omega (arith, d, u, size)) (pushed (omega arith) (omega arith) (omega arith) (m .1) (m .2) (h .fits a b (n + 2) e g));
+        fits = λ a b n g. hold v (low, omega (arith, x, h .small), omega (arith, d, ok .bank)) (pushed (omega arith) (omega arith) (omega arith) (m .1) (m .2) (h .fits a b (n + 2) e g));
       }
 
   pub found-evicted : (m b c : ℕ) (k k′ : ScratchAllocator) (w w′ : Tables) (r : Scratch) (w″ : Tables) → Brought t f cache k w k′ w′ (makeRoom (T t) (F f) (lastInOrder (T t) c)) → Found t f cache k′ w′ r w″ (evictLast (T t) (F f) m b c) → Found t f cache k w r w″ (reuse (T t) (F f) [] m b c)
@@ -122,18 +123,18 @@ module _ (t f cache : List ℕ) where
       }
 
   -- what is held as the record has it
-  pub found-held : (m b c : ℕ) (k : ScratchAllocator) (w : Tables) (r : Scratch) (w′ : Tables) (v : Evicted) → k .evicted ≡ v → Found t f cache k w r w′ (reuse (T t) (F f) (evictedOf v) m b c) → Found t f cache k w r w′ (reuse (T t) (F f) (evictedOf (k .evicted)) m b c)
+  pub found-held : (m b c : ℕ) (k : ScratchAllocator) (w : Tables) (r : Scratch) (w′ : Tables) (v : Evicted) → evictedIn k ≡ v → Found t f cache k w r w′ (reuse (T t) (F f) (evictedOf (T t) v) m b c) → Found t f cache k w r w′ (reuse (T t) (F f) (evictedOf (T t) (evictedIn k)) m b c)
   found-held m b c k w r w′ v e h =
-      found-as k w r w′ (reuse (T t) (F f) (evictedOf v) m b c) (reuse (T t) (F f) (evictedOf (k .evicted)) m b c) (ap (λ (v : Evicted). reuse (T t) (F f) (evictedOf v) m b c (stateOf t f cache k w)) e) h
+      found-as k w r w′ (reuse (T t) (F f) (evictedOf (T t) v) m b c) (reuse (T t) (F f) (evictedOf (T t) (evictedIn k)) m b c) (ap (λ (v : Evicted). reuse (T t) (F f) (evictedOf (T t) v) m b c (stateOf t f cache k w)) e) h
 
   module _ (y b c : ℕ) (k : ScratchAllocator) (w : Tables) (e : Held) (l : List rules.Evicted) (m : Bool) (n : m ≡ has (e .reg .0) (classMembers (T t) c)) where
-    pub found-member : (p : Allocation) → Checked t f → e .reg .0 < numRegs (T t) → p .0 ≡ codeOf (reg (e .reg .0)) → m ≡ true → Found t f cache k w (record { place = p; position = y; allocator = k }) w (reuse (T t) (F f) (heldOf e ∷ l) y b c)
+    pub found-member : (p : Allocation) → Checked t f → e .reg .0 < numRegs (T t) → p .0 ≡ codeOf (reg (e .reg .0)) → m ≡ true → Found t f cache k w (record { place = p; position = y; allocator = k }) w (reuse (T t) (F f) (heldOf (T t) e ∷ l) y b c)
     found-member p ok h q o =
-        found-reg k w p (e .reg .0) y (reuse (T t) (F f) (heldOf e ∷ l) y b c) ok q h (reuse-member (T t) (F f) y b c (stateOf t f cache k w) (heldOf e) l (sym n ∙ o))
+        found-reg k w p (e .reg .0) y (reuse (T t) (F f) (heldOf (T t) e ∷ l) y b c) ok q h (reuse-member (T t) (F f) y b c (stateOf t f cache k w) (heldOf (T t) e) l (sym n ∙ o))
 
-    pub found-stranger : (r : Scratch) (w′ : Tables) → m ≡ false → Found t f cache k w r w′ (reuse (T t) (F f) l y b c) → Found t f cache k w r w′ (reuse (T t) (F f) (heldOf e ∷ l) y b c)
+    pub found-stranger : (r : Scratch) (w′ : Tables) → m ≡ false → Found t f cache k w r w′ (reuse (T t) (F f) l y b c) → Found t f cache k w r w′ (reuse (T t) (F f) (heldOf (T t) e ∷ l) y b c)
     found-stranger r w′ o h =
-        found-as k w r w′ (reuse (T t) (F f) l y b c) (reuse (T t) (F f) (heldOf e ∷ l) y b c) (reuse-stranger (T t) (F f) y b c (stateOf t f cache k w) (heldOf e) l (sym n ∙ o)) h
+        found-as k w r w′ (reuse (T t) (F f) l y b c) (reuse (T t) (F f) (heldOf (T t) e ∷ l) y b c) (reuse-stranger (T t) (F f) y b c (stateOf t f cache k w) (heldOf (T t) e) l (sym n ∙ o)) h
 
   -- a position met, and what is found then
   module _ (m : ℕ) (k : ScratchAllocator) (w : Tables) (s : List ℕ) (put : SlotsFit 1024 (w .slots)) (u : slots.Meets (w .slots) s m) where
@@ -157,15 +158,15 @@ module _ (t f cache : List ℕ) where
 
     -- a slot or an evicted register, failing the order
     module _ (b c : ℕ) (r : Scratch) (w′ : Tables) (e : m ≡ length (allocationOrder (T t) c)) (i : Bool) (j : i ≡ includesSpillslots (T t) c) where
-      none-found : (u : Bool) → i ≡ u → failing t f b c (stateOf t f cache k w) ≡ pick u (slotScratch (T t) (F f) m b (meeting m (stateOf t f cache k w))) (reuse (T t) (F f) (evictedOf (k .evicted)) m b c (meeting m (stateOf t f cache k w)))
+      none-found : (u : Bool) → i ≡ u → failing t f b c (stateOf t f cache k w) ≡ pick u (slotScratch (T t) (F f) m b (meeting m (stateOf t f cache k w))) (reuse (T t) (F f) (evictedOf (T t) (evictedIn k)) m b c (meeting m (stateOf t f cache k w)))
       unfolding orScratch
       none-found u q = rw (← e, ← j, q)
 
       pub found-slotted : i ≡ true → Found t f cache k (tables (w .edits) (w .available) s) r w′ (slotScratch (T t) (F f) m b) → Found t f cache k w r w′ (failing t f b c)
       found-slotted q h = found-met r w′ (slotScratch (T t) (F f) m b) (failing t f b c) (none-found true q) h
 
-      pub found-reused : i ≡ false → Found t f cache k (tables (w .edits) (w .available) s) r w′ (reuse (T t) (F f) (evictedOf (k .evicted)) m b c) → Found t f cache k w r w′ (failing t f b c)
-      found-reused q h = found-met r w′ (reuse (T t) (F f) (evictedOf (k .evicted)) m b c) (failing t f b c) (none-found false q) h
+      pub found-reused : i ≡ false → Found t f cache k (tables (w .edits) (w .available) s) r w′ (reuse (T t) (F f) (evictedOf (T t) (evictedIn k)) m b c) → Found t f cache k w r w′ (failing t f b c)
+      found-reused q h = found-met r w′ (reuse (T t) (F f) (evictedOf (T t) (evictedIn k)) m b c) (failing t f b c) (none-found false q) h
 
   pub found-failing : (b c : ℕ) (k : ScratchAllocator) (w : Tables) (cycle : Bool) (sources : List Bool) (x : Search) (r : Scratch) (w′ : Tables) → Searched (usableIn (T t) (w .available) sources cycle) (allocationOrder (T t) c) x → x ≡ search.Nothing → Found t f cache k w r w′ (failing t f b c)
       → Found t f cache k w r w′ (getScratchReg (T t) (F f) b c (barredBy cycle sources))
@@ -194,7 +195,7 @@ module _ (t f cache : List ℕ) where
     unfolding moveEdits
     moved-at-once k w e m p = record { is = rw (m, p .0); fits = λ a b n g. pushed (omega arith) (omega arith) (omega arith) (p .1) (p .2) g }
 
-    pub moved-marked : (k k₂ k₃ k₄ : ScratchAllocator) (w w₂ w₃ : Tables) (l : List Bool) → Brought t f cache k w k₂ w₂ (unevictForEnds (T t) (F f) to from) → Moved t f cache k₂ w₂ k₃ w₃ (moveEdits (T t) (F f) b to from v) → k₄ ≡ k₃ → allocatorOf k₄ (w₃ .edits) l (w₃ .slots) cache ≡ makeUnavailable (T t) (F f) from (makeAvailable (T t) (F f) to (stateOf t f cache k₃ w₃)) → Moved t f cache k w k₄ (tables (w₃ .edits) l (w₃ .slots)) (doMove (T t) (F f) b to from v)
+    pub moved-marked : (k k₂ k₃ k₄ : ScratchAllocator) (w w₂ w₃ : Tables) (l : List Bool) → Brought t f cache k w k₂ w₂ (unevictForEnds (T t) (F f) to from) → Moved t f cache k₂ w₂ k₃ w₃ (moveEdits (T t) (F f) b to from v) → k₄ ≡ k₃ → allocatorOf t k₄ (w₃ .edits) l (w₃ .slots) cache ≡ makeUnavailable (T t) (F f) from (makeAvailable (T t) (F f) to (stateOf t f cache k₃ w₃)) → Moved t f cache k w k₄ (tables (w₃ .edits) l (w₃ .slots)) (doMove (T t) (F f) b to from v)
     unfolding doMove andThen
     moved-marked k k₂ k₃ k₄ w w₂ w₃ l h m p x =
         record {
@@ -203,11 +204,11 @@ module _ (t f cache : List ℕ) where
         }
 
   -- units marked
-  pub units-available : (p : Place) (k : ScratchAllocator) (e s : List ℕ) (l l′ : List Bool) → setOf l′ ≡ withUnits (T t) p (setOf l) → allocatorOf k e l′ s cache ≡ makeAvailable (T t) (F f) p (allocatorOf k e l s cache)
+  pub units-available : (p : Place) (k : ScratchAllocator) (e s : List ℕ) (l l′ : List Bool) → setOf l′ ≡ withUnits (T t) p (setOf l) → allocatorOf t k e l′ s cache ≡ makeAvailable (T t) (F f) p (allocatorOf t k e l s cache)
   units-available (reg r) k e s l l′ q = rw q
   units-available (slot x) k e s l l′ q = rw q
 
-  pub units-unavailable : (p : Place) (k : ScratchAllocator) (e s : List ℕ) (l l′ : List Bool) → setOf l′ ≡ withoutUnits (T t) p (setOf l) → allocatorOf k e l′ s cache ≡ makeUnavailable (T t) (F f) p (allocatorOf k e l s cache)
+  pub units-unavailable : (p : Place) (k : ScratchAllocator) (e s : List ℕ) (l l′ : List Bool) → setOf l′ ≡ withoutUnits (T t) p (setOf l) → allocatorOf t k e l′ s cache ≡ makeUnavailable (T t) (F f) p (allocatorOf t k e l s cache)
   units-unavailable (reg r) k e s l l′ q = rw q
   units-unavailable (slot x) k e s l l′ q = rw q
 

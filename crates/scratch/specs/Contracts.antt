@@ -14,7 +14,7 @@ use Rattle.scratch.specs.declared.Held.{Held}
 use Rattle.scratch.specs.declared.ScratchAllocator.{ScratchAllocator}
 use Rattle.scratch.specs.declared.Scratch.{Scratch}
 use Rattle.scratch.specs.declared.Taken.{Taken}
-use Rattle.scratch.specs.State.{T, F, heldOf, evictedOf, cacheIn, allocatorOf, HeldFits, AllFit, owed, Fits, PlaceFits}
+use Rattle.scratch.specs.State.{T, F, madeOf, evictedIn, heldOf, evictedOf, cacheIn, allocatorOf, HeldFits, AllFit, owed, Fits, PlaceFits}
 
 -- the lent tables as a step finds or leaves them
 pub record Tables : Type 0 where
@@ -31,10 +31,10 @@ failing t f b c k = rules.orScratch (T t) (F f) none (length (allocationOrder (T
 
 -- one more held
 pub record Holds (e : Held) (k k′ : ScratchAllocator) : Type 0 where
-  pub is : evictedOf (k′ .evicted) ≡ heldOf e ∷ evictedOf (k .evicted)
-  pub made : k′ .made ≡ k .made
-  pub owes : owed (k′ .evicted) ≡ owed (k .evicted) + 1
-  pub fits : (t : RegInfo) → HeldFits t e → AllFit t (k .evicted) → AllFit t (k′ .evicted)
+  pub is : (t : RegInfo) → evictedOf t (evictedIn k′) ≡ heldOf t e ∷ evictedOf t (evictedIn k)
+  pub made : madeOf k′ ≡ madeOf k
+  pub owes : owed (evictedIn k′) ≡ owed (evictedIn k) + 1
+  pub fits : (t : RegInfo) → HeldFits t e → AllFit t (evictedIn k) → AllFit t (evictedIn k′)
 
 -- what is brought back before a move is emitted
 abbrev pub unevictForEnds : RegInfo → Function → Place → Place → rules.ScratchAllocator → rules.ScratchAllocator
@@ -42,7 +42,7 @@ unevictForEnds t f to from k = rules.unevictForReg t f to (rules.unevictForReg t
 
 module _ (t f cache : List ℕ) where
   abbrev pub stateOf : ScratchAllocator → Tables → rules.ScratchAllocator
-  stateOf k w = allocatorOf k (w .edits) (w .available) (w .slots) cache
+  stateOf k w = allocatorOf t k (w .edits) (w .available) (w .slots) cache
 
   abbrev pub FitsIn : ℕ → ℕ → ℕ → ScratchAllocator → Tables → Type 0
   FitsIn a b n k w = Fits a b n t k (w .edits) (w .slots) cache
@@ -50,7 +50,7 @@ module _ (t f cache : List ℕ) where
   -- a slot taken: of the allocator only the cache changes
   pub record Acquired (z : ℕ) (k : ScratchAllocator) (slots : List ℕ) (r : Taken) (slots′ : List ℕ) : Type 0 where
     pub is : rules.acquire (T t) (F f) z (cacheIn k slots cache) ≡ some (record { slot = r .slot .0; cache = cacheIn (r .allocator) slots′ cache })
-    pub kept : r .allocator .evicted ≡ k .evicted
+    pub kept : evictedIn (r .allocator) ≡ evictedIn k
     pub met : metOf slots′ ≡ metOf slots
     pub small : r .slot .0 < 8192
     pub fits : (a b n : ℕ) (edits : List ℕ) → Fits a (b + 1) n t k edits slots cache → Fits a b n t (r .allocator) edits slots′ cache
@@ -58,7 +58,7 @@ module _ (t f cache : List ℕ) where
   -- a register brought back that is no longer on the record: an edit is made, and its slot put back
   pub record Back (e : Held) (k : ScratchAllocator) (w : Tables) (k′ : ScratchAllocator) (w′ : Tables) : Type 0 where
     pub same : k′ ≡ k
-    pub is : stateOf k′ w′ ≡ rules.unevict (T t) (F f) (heldOf e ∷ []) (stateOf k w)
+    pub is : stateOf k′ w′ ≡ rules.unevict (T t) (F f) (heldOf (T t) e ∷ []) (stateOf k w)
     pub fits : (a b n : ℕ) → FitsIn a b (n + 1) k w → FitsIn a b n k′ w′
 
   -- evicted registers brought back: the edits owed for them are made, and their slots put back

@@ -33,14 +33,14 @@ ghost use Rattle.function.specs.Function.{numValues, valueBank};
 ghost use Rattle.function.specs.Table.{functionOf};
 ghost use Rattle.scratch.specs.Diversions.{countAt, allocAt, scratchAt, Noted, Diverts, Ended, Undiverts};
 ghost use Rattle.function.specs.Known.{Checked};
-ghost use Rattle.scratch.specs.State.{T, F, heldOf, evictedOf, allocatorOf, Stocked, HeldFits, owed, Fits, PlaceFits, Evictable, Movable};
+ghost use Rattle.scratch.specs.State.{T, F, wordOf, heldAt, madeOf, evictedIn, Small, AllSmall, heldOf, evictedOf, allocatorOf, Keeps, Stocked, HeldFits, owed, Fits, PlaceFits, Evictable, Movable};
 ghost use Rattle.scratch.specs.Contracts.{tables, failing, unevictForEnds, Acquired, Back, Brought, Holds, Found, Moved, Released};
 
-// An evicted register, its slot and the slot's size.
+// An evicted register, its slot, and the bank whose size the slot has.
 pub struct Held {
     pub reg: PhysReg,
     pub slot: SpillSlot,
-    pub size: u16,
+    pub bank: RegBank,
 }
 
 // 02 i: "the record holds an older and a newer", of which the newer stands first.
@@ -50,9 +50,9 @@ pub enum Evicted {
     Two(Held, Held),
 }
 
+// The evicted registers and the number of slots made, in one number (specs/State): what each step hands back is one word.
 pub struct ScratchAllocator {
-    pub evicted: Evicted,
-    pub made: u16,
+    pub packed: u64,
 }
 
 // What a search found, the position that it reports, and the allocator after it.
@@ -71,6 +71,26 @@ pub struct Divert {
 pub struct Taken {
     pub slot: SpillSlot,
     pub allocator: ScratchAllocator,
+}
+
+// A held register as a number above 0.
+fn held_word(e: Held) -> u64
+    requires { ⌜ Small e ⌝ }
+    ensures { λ n. ⌜ (n ≡ wordOf e) × (n < 67108864) ⌝ }
+{
+    (e.reg.0 as u64 * 8192 + e.slot.0 as u64) * 8 + e.bank.0 as u64 + 1
+}
+
+// And read back.
+fn held_at(n: u64) -> Held
+    requires { ⌜ n < 67108864 ⌝ }
+    ensures { λ e. ⌜ e ≡ heldAt n ⌝ }
+{
+    Held {
+        reg: PhysReg((n / 65536) as u16),
+        slot: SpillSlot((n / 8 % 8192) as u16),
+        bank: RegBank((n % 8) as u16),
+    }
 }
 
 // Whether both places are memory.
@@ -151,10 +171,68 @@ fn note(d: &mut Diverted, v: Value, n: u16, source: Allocation, scratch: Allocat
 }
 
 impl ScratchAllocator {
+    // Nothing is evicted, and so many slots were made.
+    pub fn new(made: u16) -> Self
+        requires { ⌜ made < 4096 ⌝ }
+        ensures { λ r. ⌜ (evictedIn r ≡ Evicted.Nothing) × (madeOf r ≡ made) ⌝ }
+    {
+        ScratchAllocator {
+            packed: made as u64,
+        }
+    }
+
+    pub fn made(mut self) -> u16
+        ensures { λ n. ⌜ n ≡ madeOf self ⌝ }
+    {
+        (self.packed % 4096) as u16
+    }
+
+    fn evicted(mut self) -> Evicted
+        ensures { λ e. ⌜ e ≡ evictedIn self ⌝ }
+    {
+        let newer = self.packed / 4096 % 67108864;
+        if newer == 0 {
+            return Evicted::Nothing;
+        }
+        let older = self.packed / 274877906944;
+        if older == 0 {
+            return Evicted::One(held_at(newer - 1));
+        }
+        Evicted::Two(held_at(newer - 1), held_at(older - 1))
+    }
+
+    // As many slots made, and nothing held, one, or two.
+    fn none(mut self) -> Self
+        ensures { λ r. ⌜ Keeps Evicted.Nothing self r ⌝ }
+    {
+        ScratchAllocator {
+            packed: self.packed % 4096,
+        }
+    }
+
+    fn one(mut self, e: Held) -> Self
+        requires { ⌜ Small e ⌝ }
+        ensures { λ r. ⌜ Keeps (Evicted.One e) self r ⌝ }
+    {
+        ScratchAllocator {
+            packed: held_word(e) * 4096 + self.packed % 4096,
+        }
+    }
+
+    fn two(mut self, newer: Held, older: Held) -> Self
+        requires { ⌜ Small newer × Small older ⌝ }
+        ensures { λ r. ⌜ Keeps (Evicted.Two newer older) self r ⌝ }
+    {
+        let n = held_word(newer);
+        ScratchAllocator {
+            packed: (held_word(older) * 67108864 + n) * 4096 + self.packed % 4096,
+        }
+    }
+
     // Makes the units of a register available; a slot has none.
     pub fn make_available(mut self, t: &RegInfo, available: &mut RegUnitSet, p: Allocation) -> Self
         requires { ⌜ KnownPlace (T (now t)) (placeAt (p .0)) ⌝ }
-        ensures { λ r. ⌜ (r ≡ self) × ((f cache edits slots : List ℕ) → allocatorOf r edits (now (available .exit)) slots cache ≡ makeAvailable (T (now (t .entry))) (F f) (placeAt (p .0)) (allocatorOf self edits (now (available .entry)) slots cache)) ⌝ }
+        ensures { λ r. ⌜ (r ≡ self) × ((f cache edits slots : List ℕ) → allocatorOf (now (t .entry)) r edits (now (available .exit)) slots cache ≡ makeAvailable (T (now (t .entry))) (F f) (placeAt (p .0)) (allocatorOf (now (t .entry)) self edits (now (available .entry)) slots cache)) ⌝ }
     {
         search::insert_units(t, available, p);
         self
@@ -168,7 +246,7 @@ impl ScratchAllocator {
         p: Allocation,
     ) -> Self
         requires { ⌜ KnownPlace (T (now t)) (placeAt (p .0)) ⌝ }
-        ensures { λ r. ⌜ (r ≡ self) × ((f cache edits slots : List ℕ) → allocatorOf r edits (now (available .exit)) slots cache ≡ makeUnavailable (T (now (t .entry))) (F f) (placeAt (p .0)) (allocatorOf self edits (now (available .entry)) slots cache)) ⌝ }
+        ensures { λ r. ⌜ (r ≡ self) × ((f cache edits slots : List ℕ) → allocatorOf (now (t .entry)) r edits (now (available .exit)) slots cache ≡ makeUnavailable (T (now (t .entry))) (F f) (placeAt (p .0)) (allocatorOf (now (t .entry)) self edits (now (available .entry)) slots cache)) ⌝ }
     {
         search::remove_units(t, available, p);
         self
@@ -192,8 +270,8 @@ impl ScratchAllocator {
                 allocator: self,
             };
         }
-        let n = function::num_slots(f) + wide(self.made);
-        self.made += 1;
+        let n = function::num_slots(f) + wide(self.made());
+        self.packed += 1;
         Taken {
             slot: SpillSlot(narrow(n)),
             allocator: self,
@@ -214,7 +292,7 @@ impl ScratchAllocator {
         ensures { λ r. ⌜ ((available : List Bool) → Back (now (t .entry)) (now (f .entry)) (now (cache .entry)) e self (tables (now (edits .entry)) available (now (slots .entry))) r (tables (now (edits .exit)) available (now (slots .exit)))) ⌝ }
     {
         edit::push_spill(edits, e.slot, e.reg);
-        slots::put_back(slots, wide(e.size), e.slot);
+        slots::put_back(slots, reginfo::spillslot_size(t, e.bank), e.slot);
         self
     }
 
@@ -229,13 +307,10 @@ impl ScratchAllocator {
         newer: Held,
         older: Held,
     ) -> Self
-        requires { ⌜ Checked (now t) (now f) × (self .evicted ≡ Evicted.Two newer older) × Fits 0 0 0 (now t) self (now edits) (now slots) (now cache) ⌝ }
+        requires { ⌜ Checked (now t) (now f) × (evictedIn self ≡ Evicted.Two newer older) × Fits 0 0 0 (now t) self (now edits) (now slots) (now cache) ⌝ }
         ensures { λ r. ⌜ ((available : List Bool) → Brought (now (t .entry)) (now (f .entry)) (now (cache .entry)) self (tables (now (edits .entry)) available (now (slots .entry))) r (tables (now (edits .exit)) available (now (slots .exit))) (unevictBut (T (now (t .entry))) (F (now (f .entry))) 1)) ⌝ }
     {
-        let k = ScratchAllocator {
-            evicted: Evicted::One(newer),
-            made: self.made,
-        };
+        let k = self.one(newer);
         k.bring_back(t, f, cache, edits, slots, older)
     }
 
@@ -251,11 +326,8 @@ impl ScratchAllocator {
         requires { ⌜ Checked (now t) (now f) × Fits 0 0 0 (now t) self (now edits) (now slots) (now cache) ⌝ }
         ensures { λ r. ⌜ ((available : List Bool) → Brought (now (t .entry)) (now (f .entry)) (now (cache .entry)) self (tables (now (edits .entry)) available (now (slots .entry))) r (tables (now (edits .exit)) available (now (slots .exit))) (unevictAll (T (now (t .entry))) (F (now (f .entry))))) ⌝ }
     {
-        let e = self.evicted;
-        let k = ScratchAllocator {
-            evicted: Evicted::Nothing,
-            made: self.made,
-        };
+        let e = self.evicted();
+        let k = self.none();
         match e {
             Evicted::Nothing => self,
             Evicted::One(newer) => k.bring_back(t, f, cache, edits, slots, newer),
@@ -278,7 +350,7 @@ impl ScratchAllocator {
         newer: Held,
         older: Held,
     ) -> Self
-        requires { ⌜ Checked (now t) (now f) × KnownPlace (T (now t)) (placeAt (p .0)) × (self .evicted ≡ Evicted.Two newer older) × Fits 0 0 0 (now t) self (now edits) (now slots) (now cache) ⌝ }
+        requires { ⌜ Checked (now t) (now f) × KnownPlace (T (now t)) (placeAt (p .0)) × (evictedIn self ≡ Evicted.Two newer older) × Fits 0 0 0 (now t) self (now edits) (now slots) (now cache) ⌝ }
         ensures { λ r. ⌜ ((available : List Bool) → Brought (now (t .entry)) (now (f .entry)) (now (cache .entry)) self (tables (now (edits .entry)) available (now (slots .entry))) r (tables (now (edits .exit)) available (now (slots .exit))) (unevictForReg (T (now (t .entry))) (F (now (f .entry))) (placeAt (p .0)))) ⌝ }
     {
         let met = reginfo::overlaps_reg(t, p, newer.reg);
@@ -289,10 +361,7 @@ impl ScratchAllocator {
             return self.unevict_older(t, f, cache, edits, slots, newer, older);
         }
         if met {
-            let k = ScratchAllocator {
-                evicted: Evicted::One(older),
-                made: self.made,
-            };
+            let k = self.one(older);
             return k.bring_back(t, f, cache, edits, slots, newer);
         }
         self
@@ -311,7 +380,7 @@ impl ScratchAllocator {
         requires { ⌜ Checked (now t) (now f) × KnownPlace (T (now t)) (placeAt (p .0)) × Fits 0 0 0 (now t) self (now edits) (now slots) (now cache) ⌝ }
         ensures { λ r. ⌜ ((available : List Bool) → Brought (now (t .entry)) (now (f .entry)) (now (cache .entry)) self (tables (now (edits .entry)) available (now (slots .entry))) r (tables (now (edits .exit)) available (now (slots .exit))) (unevictForReg (T (now (t .entry))) (F (now (f .entry))) (placeAt (p .0)))) ⌝ }
     {
-        let e = self.evicted;
+        let e = self.evicted();
         match e {
             Evicted::Nothing => self,
             Evicted::One(newer) => {
@@ -347,7 +416,7 @@ impl ScratchAllocator {
         requires { ⌜ Checked (now t) (now f) × KnownPlace (T (now t)) (placeAt (to .0)) × KnownPlace (T (now t)) (placeAt (from .0)) × Fits 0 0 0 (now t) self (now edits) (now slots) (now cache) ⌝ }
         ensures { λ r. ⌜ ((available : List Bool) → Brought (now (t .entry)) (now (f .entry)) (now (cache .entry)) self (tables (now (edits .entry)) available (now (slots .entry))) r (tables (now (edits .exit)) available (now (slots .exit))) (unevictForEnds (T (now (t .entry))) (F (now (f .entry))) (placeAt (to .0)) (placeAt (from .0)))) ⌝ }
     {
-        let e = self.evicted;
+        let e = self.evicted();
         match e {
             Evicted::Nothing => self,
             Evicted::One(newer) => {
@@ -378,7 +447,7 @@ impl ScratchAllocator {
         if function::kept_evictions(f) == 1 {
             return self.unevict_all(t, f, cache, edits, slots);
         }
-        let e = self.evicted;
+        let e = self.evicted();
         match e {
             Evicted::Nothing => self,
             Evicted::One(_) => self,
@@ -400,10 +469,10 @@ impl ScratchAllocator {
         c: RegClass,
     ) -> Self
         requires { ⌜ Evictable (now t) (now f) (b .0) (c .0) × Fits 0 0 0 (now t) self (now edits) (now slots) (now cache) ⌝ }
-        ensures { λ r. ⌜ owed (r .evicted) ≤ 1 ⌝ }
+        ensures { λ r. ⌜ owed (evictedIn r) ≤ 1 ⌝ }
         ensures { λ r. ⌜ ((available : List Bool) → Brought (now (t .entry)) (now (f .entry)) (now (cache .entry)) self (tables (now (edits .entry)) available (now (slots .entry))) r (tables (now (edits .exit)) available (now (slots .exit))) (makeRoom (T (now (t .entry))) (F (now (f .entry))) (lastInOrder (T (now (t .entry))) (c .0)))) ⌝ }
     {
-        let e = self.evicted;
+        let e = self.evicted();
         let Evicted::Nothing = e else {
             let last = reginfo::order_last(t, c);
             let k = self.unevict_for_reg(t, f, cache, edits, slots, Allocation::reg(last));
@@ -437,19 +506,13 @@ impl ScratchAllocator {
 
     // One more is held.
     fn hold(mut self, new: Held) -> Self
-        requires { ⌜ owed (self .evicted) ≤ 1 ⌝ }
+        requires { ⌜ (owed (evictedIn self) ≤ 1) × Small new × AllSmall (evictedIn self) ⌝ }
         ensures { λ r. ⌜ Holds new self r ⌝ }
     {
-        let e = self.evicted;
+        let e = self.evicted();
         match e {
-            Evicted::Nothing => ScratchAllocator {
-                evicted: Evicted::One(new),
-                made: self.made,
-            },
-            Evicted::One(older) => ScratchAllocator {
-                evicted: Evicted::Two(new, older),
-                made: self.made,
-            },
+            Evicted::Nothing => self.one(new),
+            Evicted::One(older) => self.two(new, older),
             Evicted::Two(_, _) => self,
         }
     }
@@ -466,7 +529,7 @@ impl ScratchAllocator {
         c: RegClass,
         n: u16,
     ) -> Scratch
-        requires { ⌜ Evictable (now t) (now f) (b .0) (c .0) × (owed (self .evicted) ≤ 1) × Fits 0 1 2 (now t) self (now edits) (now slots) (now cache) ⌝ }
+        requires { ⌜ Evictable (now t) (now f) (b .0) (c .0) × (owed (evictedIn self) ≤ 1) × Fits 0 1 2 (now t) self (now edits) (now slots) (now cache) ⌝ }
         ensures { λ r. ⌜ ((available : List Bool) → Found (now (t .entry)) (now (f .entry)) (now (cache .entry)) self (tables (now (edits .entry)) available (now (slots .entry))) r (tables (now (edits .exit)) available (now (slots .exit))) (evictLast (T (now (t .entry))) (F (now (f .entry))) n (b .0) (c .0))) ⌝ }
     {
         let z = reginfo::spillslot_size(t, b);
@@ -478,7 +541,7 @@ impl ScratchAllocator {
         let held = k.hold(Held {
             reg: r,
             slot: s,
-            size: narrow(z),
+            bank: b,
         });
         Scratch {
             place: Allocation::reg(r),
@@ -520,7 +583,7 @@ impl ScratchAllocator {
         e: Held,
     ) -> Scratch
         requires { ⌜ Evictable (now t) (now f) (b .0) (c .0) × HeldFits (T (now t)) e × Fits 0 1 2 (now t) self (now edits) (now slots) (now cache) ⌝ }
-        ensures { λ r. ⌜ ((available : List Bool) → Found (now (t .entry)) (now (f .entry)) (now (cache .entry)) self (tables (now (edits .entry)) available (now (slots .entry))) r (tables (now (edits .exit)) available (now (slots .exit))) (reuse (T (now (t .entry))) (F (now (f .entry))) (heldOf e ∷ []) n (b .0) (c .0))) ⌝ }
+        ensures { λ r. ⌜ ((available : List Bool) → Found (now (t .entry)) (now (f .entry)) (now (cache .entry)) self (tables (now (edits .entry)) available (now (slots .entry))) r (tables (now (edits .exit)) available (now (slots .exit))) (reuse (T (now (t .entry))) (F (now (f .entry))) (heldOf (T (now (t .entry))) e ∷ []) n (b .0) (c .0))) ⌝ }
     {
         if reginfo::class_has_reg(t, c, e.reg) {
             return Scratch {
@@ -547,7 +610,7 @@ impl ScratchAllocator {
         older: Held,
     ) -> Scratch
         requires { ⌜ Evictable (now t) (now f) (b .0) (c .0) × HeldFits (T (now t)) newer × HeldFits (T (now t)) older × Fits 0 1 2 (now t) self (now edits) (now slots) (now cache) ⌝ }
-        ensures { λ r. ⌜ ((available : List Bool) → Found (now (t .entry)) (now (f .entry)) (now (cache .entry)) self (tables (now (edits .entry)) available (now (slots .entry))) r (tables (now (edits .exit)) available (now (slots .exit))) (reuse (T (now (t .entry))) (F (now (f .entry))) (heldOf newer ∷ heldOf older ∷ []) n (b .0) (c .0))) ⌝ }
+        ensures { λ r. ⌜ ((available : List Bool) → Found (now (t .entry)) (now (f .entry)) (now (cache .entry)) self (tables (now (edits .entry)) available (now (slots .entry))) r (tables (now (edits .exit)) available (now (slots .exit))) (reuse (T (now (t .entry))) (F (now (f .entry))) (heldOf (T (now (t .entry))) newer ∷ heldOf (T (now (t .entry))) older ∷ []) n (b .0) (c .0))) ⌝ }
     {
         if reginfo::class_has_reg(t, c, newer.reg) {
             return Scratch {
@@ -572,9 +635,9 @@ impl ScratchAllocator {
         n: u16,
     ) -> Scratch
         requires { ⌜ Evictable (now t) (now f) (b .0) (c .0) × Fits 0 1 2 (now t) self (now edits) (now slots) (now cache) ⌝ }
-        ensures { λ r. ⌜ ((available : List Bool) → Found (now (t .entry)) (now (f .entry)) (now (cache .entry)) self (tables (now (edits .entry)) available (now (slots .entry))) r (tables (now (edits .exit)) available (now (slots .exit))) (reuse (T (now (t .entry))) (F (now (f .entry))) (evictedOf (self .evicted)) n (b .0) (c .0))) ⌝ }
+        ensures { λ r. ⌜ ((available : List Bool) → Found (now (t .entry)) (now (f .entry)) (now (cache .entry)) self (tables (now (edits .entry)) available (now (slots .entry))) r (tables (now (edits .exit)) available (now (slots .exit))) (reuse (T (now (t .entry))) (F (now (f .entry))) (evictedOf (T (now (t .entry))) (evictedIn self)) n (b .0) (c .0))) ⌝ }
     {
-        let e = self.evicted;
+        let e = self.evicted();
         match e {
             Evicted::Nothing => self.evict(t, f, cache, edits, slots, b, c, n),
             Evicted::One(newer) => self.reuse_held(t, f, cache, edits, slots, b, c, n, newer),
@@ -729,7 +792,7 @@ impl ScratchAllocator {
         from: Allocation,
     ) -> Self
         requires { ⌜ KnownPlace (T (now t)) (placeAt (to .0)) × KnownPlace (T (now t)) (placeAt (from .0)) ⌝ }
-        ensures { λ r. ⌜ (r ≡ self) × ((f cache edits slots : List ℕ) → allocatorOf r edits (now (available .exit)) slots cache ≡ makeUnavailable (T (now (t .entry))) (F f) (placeAt (from .0)) (makeAvailable (T (now (t .entry))) (F f) (placeAt (to .0)) (allocatorOf self edits (now (available .entry)) slots cache))) ⌝ }
+        ensures { λ r. ⌜ (r ≡ self) × ((f cache edits slots : List ℕ) → allocatorOf (now (t .entry)) r edits (now (available .exit)) slots cache ≡ makeUnavailable (T (now (t .entry))) (F f) (placeAt (from .0)) (makeAvailable (T (now (t .entry))) (F f) (placeAt (to .0)) (allocatorOf (now (t .entry)) self edits (now (available .entry)) slots cache))) ⌝ }
     {
         let marked = self.make_available(t, available, to);
         marked.make_unavailable(t, available, from)

@@ -24,7 +24,7 @@ use Rattle.scratch.specs.declared.Evicted.the-variants.{Nothing}
 use Rattle.scratch.specs.declared.ScratchAllocator.{ScratchAllocator}
 use Rattle.scratch.specs.declared.Scratch.{Scratch}
 use Rattle.scratch.specs.declared.Divert.{Divert}
-use Rattle.scratch.specs.State.{T, F, Stacked, PlaceFits, allocatorOf}
+use Rattle.scratch.specs.State.{T, F, madeOf, evictedIn, Stacked, owed, PlaceFits, allocatorOf}
 use Rattle.scratch.specs.Contracts.{Tables, tables, stateOf, FitsIn, Brought, Found, Moved, Released}
 use Rattle.scratch.specs.Diversions.{Diversion, Diverting, countAt, allocAt, scratchAt, diversionAt, divertBy, Diverts, Undiverts}
 use Rattle.scratch.proofs.Bounds.{fewer}
@@ -43,12 +43,12 @@ none-stacked : Stacked (λ z. [])
 unfolding has
 none-stacked z s e = absurd (let x : _≡_ {A = ℕ} 0 1 = cc in omega arith)
 
-pub started : (available : List Bool) (edits slots cache : List ℕ) → setOf available ≡ emptySet → editsOf edits ≡ [] → countOf edits ≡ 0 → Written edits → Cleared cache → Begun cache slots → Started (record { evicted = Nothing; made = 0 }) available edits slots cache
-started available edits slots cache a e n o cleared begun =
+pub started : (k : ScratchAllocator) (available : List Bool) (edits slots cache : List ℕ) → (evictedIn k ≡ Nothing) × (madeOf k ≡ 0) → setOf available ≡ emptySet → editsOf edits ≡ [] → countOf edits ≡ 0 → Written edits → Cleared cache → Begun cache slots → Started k available edits slots cache
+started k available edits slots cache new a e n o cleared begun =
     let stacks : stacksOf slots cache ≡ (λ z. []) = begun .stacks ∙ ap (λ c. c .stacks) (cleared .empty) in
     record {
-      is = rw (a, e, stacks, begun .met);
-      fits = λ t. record { few = omega (arith, n); most = 0; put = begun .fits; own = omega arith; made = omega arith; stacked = rw stacks none-stacked; held = tt; written = o; untouched = begun .untouched };
+      is = λ t. rw (a, e, stacks, begun .met, new .0, new .1);
+      fits = λ t. record { few = omega (arith, n, ap owed (new .0)); most = 0; put = begun .fits; own = omega arith; made = omega (arith, new .1); stacked = rw stacks none-stacked; held = rw (new .0) tt; written = o; untouched = begun .untouched };
     }
 
 pub slot-zero : (t : List ℕ) → PlaceFits t 0
@@ -106,7 +106,7 @@ module _ (t f cache : List ℕ) where
   pub through-rebuilt : (b v c : ℕ) (barred : ℕ → Bool) (to : Place) (k k₁ k₂ k₃ k₄ k₅ : ScratchAllocator) (w w₁ : Tables) (r : Scratch) (w₂ w₃ : Tables) (e : List ℕ) (w₄ : Tables) (l : List Bool) (w₅ : Tables) → b ≡ valueBank (functionOf f) v
       → Brought t f cache k w k₁ w₁ (rules.unevictForReg (T t) (F f) to) → Found t f cache k₁ w₁ r w₂ (rules.getScratchReg (T t) (F f) b c barred) → Moved t f cache (r .allocator) w₂ k₂ w₃ (rules.moveEdits (T t) (F f) b to (placeAt (r .place .0)) v)
       → editsOf e ≡ Rematerialize (placeAt (r .place .0)) v ∷ editsOf (w₃ .edits) → Released t f cache k₂ (tables e (w₃ .available) (w₃ .slots)) k₃ w₄ (rules.releasePlace (T t) (F f) (spillslotSize (T t) b) (placeAt (r .place .0)))
-      → allocatorOf k₄ (w₄ .edits) l (w₄ .slots) cache ≡ rules.makeAvailable (T t) (F f) to (stateOf t f cache k₃ w₄) → Brought t f cache k₄ (tables (w₄ .edits) l (w₄ .slots)) k₅ w₅ (rules.unevictAll (T t) (F f)) → countOf (w₅ .edits) ≤ 1024
+      → allocatorOf t k₄ (w₄ .edits) l (w₄ .slots) cache ≡ rules.makeAvailable (T t) (F f) to (stateOf t f cache k₃ w₄) → Brought t f cache k₄ (tables (w₄ .edits) l (w₄ .slots)) k₅ w₅ (rules.unevictAll (T t) (F f)) → countOf (w₅ .edits) ≤ 1024
       → Ends t f cache (rebuilt (T t) (F f) barred to v c) k w k₅ w₅
   unfolding rebuilt andThen
   through-rebuilt b v c barred to k k₁ k₂ k₃ k₄ k₅ w w₁ r w₂ w₃ e w₄ l w₅ eb before found moved pushed released marked all few =

@@ -18,7 +18,7 @@ use Rattle.scratch.specs.Diversions.{Diversion, divertBy, undivertBy}
 
 -- an allocator that has made nothing
 pub record Started (k : ScratchAllocator) (available : List Bool) (edits slots cache : List ℕ) : Type 0 where
-  pub is : allocatorOf k edits available slots cache ≡ record { edits = []; available = emptySet; evicted = []; cache = rules.emptyCache; met = 0 }
+  pub is : (t : List ℕ) → allocatorOf t k edits available slots cache ≡ record { edits = []; available = emptySet; evicted = []; cache = rules.emptyCache; met = 0 }
   pub fits : (t : List ℕ) → Fits 0 2 1024 t k edits slots cache
 
 -- what a trial ends with

@@ -10,7 +10,6 @@ use function::Function;
 use function::FunctionCheck;
 use reginfo::RegInfo;
 use scratch::Diverted;
-use scratch::Evicted;
 use scratch::ScratchAllocator;
 use slots::SlotCache;
 use slots::Slots;
@@ -49,10 +48,7 @@ fn start(
     edit::clear(edits);
     slots::clear(cache);
     slots::begin(slots, cache);
-    ScratchAllocator {
-        evicted: Evicted::Nothing,
-        made: 0,
-    }
+    ScratchAllocator::new(0)
 }
 
 // One move, and all brought back.

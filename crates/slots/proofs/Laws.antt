@@ -1,10 +1,10 @@
 -- The stacks that two tables hold, after each store.
-use Prim.Native.Nat.{ℕ, zero, suc, _+_, _-_, _*_, _<_, _≤_}
+use Prim.Native.Nat.{ℕ, zero, suc, _+_, _-_, _*_, _%_, _<_, _≤_}
 use mathlib.Core.Path.{_≡_, refl, sym, ap, _∙_, fun-ext}
 use mathlib.Core.Bool.{Bool, true, false}
 use mathlib.Core.List.{List, [], _∷_, _++_}
 use native.Mathlib.Omega.{arith}
-use native.Mathlib.Nat.{lt-suc-self}
+use native.Mathlib.Nat.{lt-suc-self, mod-eq-of-lt}
 use native.Mathlib.Numerals.{add-one}
 use lib.ListN.{set, getD, length, length-set, length-append}
 use lib.Seq.{getD-set-same, getD-set-other}
@@ -13,8 +13,8 @@ use borrow.Author.Tests.{eqb-true, eqb-false, lt-ltb, le-ltb, ltb-true, ltb-fals
 use Rattle.entity.specs.Logic.{pick}
 use Rattle.rules.specs.Edit.{updated}
 use Rattle.slots.specs.declared.Popped.the-variants.{At, Empty}
-use Rattle.slots.specs.Stacks.{topFirst, depthOf, leftOf, ownOf, lowOf, highOf, metOf, cacheOf, stacksOf, CacheFits, SlotsFit, Unchanged, Untouched}
-use Rattle.slots.specs.Steps.{Cleared, Begun, Touched, Taken, PutBack, Meets, Settled, Committed}
+use Rattle.slots.specs.Stacks.{topFirst, depthOf, leftOf, ownOf, lowOf, highOf, metOf, cacheOf, stampOf, raised, stacksOf, CacheFits, SlotsFit, Unchanged, Untouched}
+use Rattle.slots.specs.Steps.{Cleared, Raised, Begun, Touched, Taken, PutBack, Meets, Settled, Committed}
 
 -- ---- cells, the last first
 pub top-step : (t : List ℕ) (at n : ℕ) → 0 < n → topFirst t at n ≡ getD t (at + (n - 1)) 0 ∷ topFirst t at (n - 1)
@@ -367,23 +367,193 @@ zero-more cache z low k y h = go (eqb y z) refl
     go true e = rw (eqb-true y z e) (getD-set-same cache z 0 0 low)
     go false e = let q : y ≡ z → ⊥ = eqb-false y z e in let l : y < z = omega arith in getD-set-other cache z y 0 0 q ∙ k y l
 
-pub cleared : (cache : List ℕ) → ((y : ℕ) → y < 33 → getD cache y 0 ≡ 0) → Cleared cache
-unfolding cacheOf topFirst
+pub cleared : (cache : List ℕ) → ((y : ℕ) → y < 37 → getD cache y 0 ≡ 0) → Cleared cache
+unfolding cacheOf stampOf topFirst
 cleared cache k =
     record {
       empty = rw (k 32 (omega arith)) (ap (λ (f : ℕ → List ℕ). record { stacks = f; made = 0 }) (fun-ext (λ y. go y (ltb y 32) refl)));
       fits = record { deep = λ y h. rw (k y (omega arith)) (omega arith) };
+      stamp = rw (k 33 (omega arith), k 34 (omega arith), k 35 (omega arith), k 36 (omega arith));
     }
   where
     go : (y : ℕ) (b : Bool) → ltb y 32 ≡ b → pick b (topFirst cache (64 + y * 2048) (depthOf cache y)) [] ≡ []
     go y true e = let h : y < 32 = ltb-true y 32 e in rw (k y (omega arith))
     go y false e = refl
 
+-- ---- the stamp
+-- a store that is no part of it
+stamp-set : (cache : List ℕ) (i v : ℕ) → (33 ≤ i → i ≤ 36 → ⊥) → stampOf (set cache i v) ≡ stampOf cache
+unfolding stampOf
+stamp-set cache i v n =
+    rw (getD-set-other cache i 33 v 0 (λ e. n (omega arith) (omega arith)), getD-set-other cache i 34 v 0 (λ e. n (omega arith) (omega arith)), getD-set-other cache i 35 v 0 (λ e. n (omega arith) (omega arith)), getD-set-other cache i 36 v 0 (λ e. n (omega arith) (omega arith)))
+
+raised-below : (n : ℕ) → n + 1 < 18446744073709551616 → raised n ≡ n + 1
+unfolding raised
+raised-below n h = mod-eq-of-lt h
+
+raised-last : (n : ℕ) → n ≡ 18446744073709551615 → raised n ≡ 0
+unfolding raised
+raised-last n e = rw e
+
+-- tables whose cells differ in the stamp alone, and in how many slots are made
+module _ (cache exit : List ℕ) (rest : (i : ℕ) → (32 ≤ i → i ≤ 36 → ⊥) → getD exit i 0 ≡ getD cache i 0) where
+  stamp-fits : CacheFits cache → CacheFits exit
+  stamp-fits f = record { deep = λ y l. rw (rest y (λ a b. omega arith)) (f .deep y l) }
+
+  stamp-stacks : cacheOf exit ≡ record { stacks = cacheOf cache .stacks; made = getD exit 32 0 }
+  unfolding cacheOf
+  stamp-stacks = ap (λ (f : ℕ → List ℕ). record { stacks = f; made = getD exit 32 0 }) (fun-ext (λ y. go y (ltb y 32) refl))
+    where
+      go : (y : ℕ) (b : Bool) → ltb y 32 ≡ b → pick b (topFirst exit (64 + y * 2048) (depthOf exit y)) [] ≡ pick b (topFirst cache (64 + y * 2048) (depthOf cache y)) []
+      go y true e =
+          let h : y < 32 = ltb-true y 32 e in
+          rw (rest y (λ a b. omega arith)) (top-same exit cache (64 + y * 2048) (depthOf cache y) (λ j l. rest (64 + y * 2048 + j) (λ a b. omega arith)))
+      go y false e = refl
+
+  pub raised-to : (made : ℕ) → getD exit 32 0 ≡ made → stampOf exit ≡ raised (stampOf cache) → Raised cache exit made
+  raised-to made m s = record { is = rw (← m) stamp-stacks; fits = stamp-fits; stamp = s }
+
+-- where n is the stamp
+module _ (cache : List ℕ) (n : ℕ) (long : length cache ≡ 65600) (is : n ≡ stampOf cache) (below : n < 18446744073709551616) where
+  -- the first cell
+  pub first-raised : (made x : ℕ) → x ≡ getD (set cache 32 made) 33 0 → x < 65535 → Raised cache (set (set cache 32 made) 33 (x + 1)) made
+  unfolding stampOf
+  first-raised made x p h =
+      let q : getD cache 33 0 ≡ x = omega (arith, getD-set-other cache 32 33 made 0 (λ e. omega arith)) in
+      raised-to cache exit (λ i k. getD-set-other u 33 i v 0 (λ e. k (omega arith) (omega arith)) ∙ getD-set-other cache 32 i made 0 (λ e. k (omega arith) (omega arith))) made
+      (getD-set-other u 33 32 v 0 (λ e. omega arith) ∙ getD-set-same cache 32 made 0 (omega arith))
+      (rw (getD-set-same u 33 v 0 (omega (arith, length-set cache 32 made)), other 34 (omega arith), other 35 (omega arith), other 36 (omega arith))
+      (omega (arith, raised-below (stampOf cache) (omega arith))))
+    where
+      v : ℕ
+      v = x + 1
+
+      u : List ℕ
+      u = set cache 32 made
+
+      exit : List ℕ
+      exit = set u 33 v
+
+      other : (i : ℕ) → 33 < i → getD exit i 0 ≡ getD cache i 0
+      other i l = getD-set-other u 33 i v 0 (λ e. omega arith) ∙ getD-set-other cache 32 i made 0 (λ e. omega arith)
+
+  -- the cells behind it, where it has come to its end
+  module _ (first : getD cache 33 0 ≡ 65535) where
+    high : getD cache 35 0 + 65536 * getD cache 36 0 < 4294967296
+    unfolding stampOf
+    high = let k : 4294967296 * getD cache 35 0 + 281474976710656 * getD cache 36 0 < 18446744073709551616 = omega arith in omega arith
+
+    top : getD cache 36 0 < 65536
+    unfolding stampOf
+    top = let k : 281474976710656 * getD cache 36 0 < 18446744073709551616 = omega arith in omega arith
+
+    abbrev made : ℕ
+    made = getD cache 32 0
+
+    abbrev u : List ℕ
+    u = set cache 33 0
+
+    abbrev v : List ℕ
+    v = set u 34 0
+
+    abbrev w : List ℕ
+    w = set v 35 0
+
+    u-first : getD u 33 0 ≡ 0
+    u-first = getD-set-same cache 33 0 0 (omega arith)
+
+    u-rest : (i : ℕ) → (i ≡ 33 → ⊥) → getD u i 0 ≡ getD cache i 0
+    u-rest i k = getD-set-other cache 33 i 0 0 k
+
+    v-second : getD v 34 0 ≡ 0
+    v-second = getD-set-same u 34 0 0 (omega (arith, length-set cache 33 0))
+
+    v-rest : (i : ℕ) → (i ≡ 34 → ⊥) → getD v i 0 ≡ getD u i 0
+    v-rest i k = getD-set-other u 34 i 0 0 k
+
+    w-third : getD w 35 0 ≡ 0
+    w-third = getD-set-same v 35 0 0 (omega (arith, length-set cache 33 0, length-set u 34 0))
+
+    w-rest : (i : ℕ) → (i ≡ 35 → ⊥) → getD w i 0 ≡ getD v i 0
+    w-rest i k = getD-set-other v 35 i 0 0 k
+
+    w-long : length w ≡ 65600
+    w-long = omega (arith, length-set cache 33 0, length-set u 34 0, length-set v 35 0)
+
+    pub second-raised : (x : ℕ) → x ≡ getD u 34 0 → x < 65535 → Raised cache (set u 34 (x + 1)) made
+    unfolding stampOf
+    second-raised x e h =
+        let o : (i : ℕ) → (i ≡ 34 → ⊥) → getD (set u 34 (x + 1)) i 0 ≡ getD u i 0 = λ i k. getD-set-other u 34 i (x + 1) 0 k in
+        raised-to cache (set u 34 (x + 1)) (λ i k. o i (λ e. k (omega arith) (omega arith)) ∙ u-rest i (λ e. k (omega arith) (omega arith))) made
+        (o 32 (λ e. omega arith) ∙ u-rest 32 (λ e. omega arith))
+        (rw (getD-set-same u 34 (x + 1) 0 (omega (arith, length-set cache 33 0)), o 33 (λ e. omega arith), o 35 (λ e. omega arith), o 36 (λ e. omega arith), u-first, u-rest 35 (λ e. omega arith), u-rest 36 (λ e. omega arith))
+        (omega (arith, u-rest 34 (λ e. omega arith), raised-below (stampOf cache) (omega (arith, high, u-rest 34 (λ e. omega arith))))))
+
+    module _ (x : ℕ) (second : x ≡ getD u 34 0) (full : 65535 ≤ x) (wide : x < 65536) where
+      pub third-raised : (y : ℕ) → y ≡ getD v 35 0 → y < 65535 → Raised cache (set v 35 (y + 1)) made
+      unfolding stampOf
+      third-raised y e h =
+          let o : (i : ℕ) → (i ≡ 35 → ⊥) → getD (set v 35 (y + 1)) i 0 ≡ getD v i 0 = λ i k. getD-set-other v 35 i (y + 1) 0 k in
+          let p : getD cache 34 0 ≡ 65535 = omega (arith, u-rest 34 (λ e. omega arith)) in
+          let q : getD cache 35 0 ≡ y = omega (arith, u-rest 35 (λ e. omega arith), v-rest 35 (λ e. omega arith)) in
+          raised-to cache (set v 35 (y + 1)) (λ i k. o i (λ e. k (omega arith) (omega arith)) ∙ v-rest i (λ e. k (omega arith) (omega arith)) ∙ u-rest i (λ e. k (omega arith) (omega arith))) made
+          (o 32 (λ e. omega arith) ∙ v-rest 32 (λ e. omega arith) ∙ u-rest 32 (λ e. omega arith))
+          (rw (getD-set-same v 35 (y + 1) 0 (omega (arith, length-set cache 33 0, length-set u 34 0)), o 33 (λ e. omega arith), o 34 (λ e. omega arith), o 36 (λ e. omega arith), v-second, v-rest 33 (λ e. omega arith), v-rest 36 (λ e. omega arith), u-first, u-rest 36 (λ e. omega arith))
+          (omega (arith, raised-below (stampOf cache) (omega (arith, top)))))
+
+      module _ (y : ℕ) (third : y ≡ getD v 35 0) (most : 65535 ≤ y) (fits : y < 65536) where
+        fourth-to : (z : ℕ) → stampOf (set w 36 z) ≡ 281474976710656 * z
+        unfolding stampOf
+        fourth-to z =
+            let o : (i : ℕ) → (i ≡ 36 → ⊥) → getD (set w 36 z) i 0 ≡ getD w i 0 = λ i k. getD-set-other w 36 i z 0 k in
+            rw (getD-set-same w 36 z 0 (omega (arith, w-long)), o 33 (λ e. omega arith), o 34 (λ e. omega arith), o 35 (λ e. omega arith), w-third, w-rest 33 (λ e. omega arith), w-rest 34 (λ e. omega arith), v-second, v-rest 33 (λ e. omega arith), u-first)
+            (omega arith)
+
+        fourth-by : (z : ℕ) → stampOf (set w 36 z) ≡ raised (stampOf cache) → Raised cache (set w 36 z) made
+        fourth-by z s =
+            let o : (i : ℕ) → (i ≡ 36 → ⊥) → getD (set w 36 z) i 0 ≡ getD w i 0 = λ i k. getD-set-other w 36 i z 0 k in
+            raised-to cache (set w 36 z)
+            (λ i k. o i (λ e. k (omega arith) (omega arith)) ∙ w-rest i (λ e. k (omega arith) (omega arith)) ∙ v-rest i (λ e. k (omega arith) (omega arith)) ∙ u-rest i (λ e. k (omega arith) (omega arith))) made
+            (o 32 (λ e. omega arith) ∙ w-rest 32 (λ e. omega arith) ∙ v-rest 32 (λ e. omega arith) ∙ u-rest 32 (λ e. omega arith)) s
+
+        stamp-is : (z : ℕ) → z ≡ getD w 36 0 → stampOf cache ≡ 281474976710655 + 281474976710656 * z
+        unfolding stampOf
+        stamp-is z e =
+            omega (
+              arith,
+              u-rest 34 (λ e. omega arith),
+              u-rest 35 (λ e. omega arith),
+              v-rest 35 (λ e. omega arith),
+              u-rest 36 (λ e. omega arith),
+              v-rest 36 (λ e. omega arith),
+              w-rest 36 (λ e. omega arith),
+            )
+
+        pub fourth-raised : (z : ℕ) → z ≡ getD w 36 0 → z < 65535 → Raised cache (set w 36 (z + 1)) made
+        fourth-raised z e h = let s = stamp-is z e in fourth-by (z + 1) (omega (arith, fourth-to (z + 1), raised-below (stampOf cache) (omega arith)))
+
+        -- after 2^64 of them the stamp is 0 again
+        pub all-round : (z : ℕ) → z ≡ getD w 36 0 → 65535 ≤ z → z < 65536 → Raised cache (set w 36 0) made
+        all-round z e h l = let s = stamp-is z e in fourth-by 0 (omega (arith, fourth-to 0, raised-last (stampOf cache) (omega arith)))
+
+-- the slots made are stored first
+pub carried : (cache : List ℕ) (made : ℕ) → length cache ≡ 65600 → (exit : List ℕ) → Raised (set cache 32 made) exit (getD (set cache 32 made) 32 0) → Raised cache exit made
+carried cache made long exit r =
+    let u = set cache 32 made in
+    let o : (i : ℕ) → (32 ≤ i → i ≤ 36 → ⊥) → getD u i 0 ≡ getD cache i 0 = λ i k. getD-set-other cache 32 i made 0 (λ e. k (omega arith) (omega arith)) in
+    let m : getD u 32 0 ≡ made = getD-set-same cache 32 made 0 (omega arith) in
+    record {
+      is = r .is ∙ rw (m, stamp-stacks cache u o);
+      fits = λ f. r .fits (stamp-fits cache u o f);
+      stamp = r .stamp ∙ ap raised (stamp-set cache 32 made (λ a b. omega arith));
+    }
+
 -- ---- a stack is settled: i of those put back are copied
 pub record Settling (slots cache exit : List ℕ) (z left i : ℕ) : Type 0 where
   pub here : topFirst exit (64 + z * 2048) (left + i) ≡ topFirst slots (64 + z * 1024) i ++ topFirst cache (64 + z * 2048) left
   pub others : (y n : ℕ) → (y ≡ z → ⊥) → n ≤ 2048 → topFirst exit (64 + y * 2048) n ≡ topFirst cache (64 + y * 2048) n
   pub depths : (y : ℕ) → y < 32 → depthOf exit y ≡ depthOf cache y
+  pub stamp : stampOf exit ≡ stampOf cache
   pub long : length exit ≡ length cache
 
 module _ (slots cache : List ℕ) (z left : ℕ) where
@@ -391,7 +561,7 @@ module _ (slots cache : List ℕ) (z left : ℕ) where
   unfolding topFirst
   settle-start =
       let e : left + 0 ≡ left = omega arith in
-      record { here = ap (topFirst cache (64 + z * 2048)) e; others = λ y n q h. refl; depths = λ y h. refl; long = refl }
+      record { here = ap (topFirst cache (64 + z * 2048)) e; others = λ y n q h. refl; depths = λ y h. refl; stamp = refl; long = refl }
 
   module _ (exit : List ℕ) (i : ℕ) (room : left + i < 2048) (low : z < 32) (k : Settling slots cache exit z left i) where
     pub settle-more : length cache ≡ 65600 → Settling slots cache (set exit (64 + z * 2048 + (left + i)) (getD slots (64 + z * 1024 + i) 0)) z left (i + 1)
@@ -403,6 +573,7 @@ module _ (slots cache : List ℕ) (z left : ℕ) where
           here = rw (e, top-more (set exit at v) (64 + z * 2048) (left + i), getD-set-same exit at v 0 (omega (arith, k .long)), top-set exit at v (64 + z * 2048) (left + i) (λ j h e. omega arith), k .here, top-more slots (64 + z * 1024) i);
           others = λ y n q h. top-set exit at v (64 + y * 2048) n (λ j l e. q (omega arith)) ∙ k .others y n q h;
           depths = λ y h. getD-set-other exit at y v 0 (λ e. omega arith) ∙ k .depths y h;
+          stamp = stamp-set exit at v (λ a b. omega arith) ∙ k .stamp;
           long = length-set exit at v ∙ k .long;
         }
 
@@ -414,6 +585,7 @@ module _ (slots cache : List ℕ) (z left : ℕ) where
         deep = rw depth h;
         others = λ y n q h. top-set exit z (left + own) (64 + y * 2048) n (λ j l e. omega arith) ∙ k .others y n q h;
         depths = λ y q h. getD-set-other exit z y (left + own) 0 q ∙ k .depths y h;
+        stamp = stamp-set exit z (left + own) (λ a b. omega arith) ∙ k .stamp;
       }
 
 -- ---- a patch is committed: the stacks below z are settled, and the others are as they were
@@ -424,6 +596,7 @@ pub record Committing (slots cache exit : List ℕ) (z : ℕ) : Type 0 where
   pub done : (y : ℕ) → y < 32 → y < z → Done slots cache exit y
   pub rest : (y n : ℕ) → z ≤ y → n ≤ 2048 → topFirst exit (64 + y * 2048) n ≡ topFirst cache (64 + y * 2048) n
   pub depths : (y : ℕ) → y < 32 → z ≤ y → depthOf exit y ≡ depthOf cache y
+  pub stamp : stampOf exit ≡ stampOf cache
 
 module _ (slots cache : List ℕ) (f : SlotsFit 1024 slots) where
   -- a stack that the patch has not changed needs no settling
@@ -432,7 +605,7 @@ module _ (slots cache : List ℕ) (f : SlotsFit 1024 slots) where
   unchanged-done y l k = (rw (stacks-in slots cache y l, k .0, k .1), rw (← k .0) (f .left y l))
 
   pub commit-start : Untouched cache slots → Committing slots cache cache (lowOf slots)
-  commit-start u = record { done = λ y l h. unchanged-done y l (u .below y l h); rest = λ y n l h. refl; depths = λ y l h. refl }
+  commit-start u = record { done = λ y l h. unchanged-done y l (u .below y l h); rest = λ y n l h. refl; depths = λ y l h. refl; stamp = refl }
 
   pub commit-more : (now exit : List ℕ) (z : ℕ) → z < 32 → Committing slots cache now z → Settled slots now exit z → Committing slots cache exit (z + 1)
   commit-more now exit z low k s =
@@ -440,6 +613,7 @@ module _ (slots cache : List ℕ) (f : SlotsFit 1024 slots) where
         done = λ y l h. go y l h (eqb y z) refl;
         rest = λ y n l h. s .others y n (λ e. omega arith) h ∙ k .rest y n (omega arith) h;
         depths = λ y l h. s .depths y (λ e. omega arith) l ∙ k .depths y l (omega arith);
+        stamp = s .stamp ∙ k .stamp;
       }
     where
       same : stacksOf slots now z ≡ stacksOf slots cache z
@@ -452,12 +626,13 @@ module _ (slots cache : List ℕ) (f : SlotsFit 1024 slots) where
           let d = k .done y l (omega arith) in
           rw (s .depths y q l) (s .others y (depthOf now y) q (d .1) ∙ d .0, d .1)
 
-  pub committed : (now : List ℕ) (made z : ℕ) → length now ≡ 65600 → Untouched cache slots → highOf slots ≤ z → Committing slots cache now z → Committed slots cache (set now 32 made) made
+  pub committed : (now exit : List ℕ) (made z : ℕ) → Untouched cache slots → highOf slots ≤ z → Committing slots cache now z → Raised now exit made → Committed slots cache exit made
   unfolding cacheOf
-  committed now made z long u past k =
+  committed now exit made z u past k r =
       record {
-        is = rw (getD-set-same now 32 made 0 (omega arith)) (ap (λ (f : ℕ → List ℕ). record { stacks = f; made = made }) (fun-ext (λ y. go y (ltb y 32) refl)));
-        fits = record { deep = λ y h. rw (depth y h) (done y h .1) };
+        is = r .is ∙ ap (λ (f : ℕ → List ℕ). record { stacks = f; made = made }) (fun-ext (λ y. go y (ltb y 32) refl));
+        fits = r .fits (record { deep = λ y h. done y h .1 });
+        stamp = r .stamp ∙ ap raised (k .stamp);
       }
     where
       done : (y : ℕ) → y < 32 → Done slots cache now y
@@ -470,11 +645,6 @@ module _ (slots cache : List ℕ) (f : SlotsFit 1024 slots) where
               let d = unchanged-done y l (u .above y l (omega arith)) in
               rw (k .depths y l h) (k .rest y (depthOf cache y) h (d .1) ∙ d .0, d .1)
 
-      depth : (y : ℕ) → y < 32 → depthOf (set now 32 made) y ≡ depthOf now y
-      depth y h = getD-set-other now 32 y made 0 (λ e. omega arith)
-
-      go : (y : ℕ) (b : Bool) → ltb y 32 ≡ b → pick b (topFirst (set now 32 made) (64 + y * 2048) (depthOf (set now 32 made) y)) [] ≡ stacksOf slots cache y
-      go y true e =
-          let h : y < 32 = ltb-true y 32 e in
-          rw (depth y h, top-set now 32 made (64 + y * 2048) (depthOf now y) (λ j l e. omega arith)) (done y h .0)
+      go : (y : ℕ) (b : Bool) → ltb y 32 ≡ b → pick b (topFirst now (64 + y * 2048) (depthOf now y)) [] ≡ stacksOf slots cache y
+      go y true e = done y (ltb-true y 32 e) .0
       go y false e = sym (stacks-out slots cache y (ltb-false y 32 e))

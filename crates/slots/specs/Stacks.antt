@@ -1,9 +1,9 @@
 -- The emergency slots of a function (the cache), and what a patch has done to them so far.
---   cache: depth of stack z at z, slots made at 32, stack z from 64 + 2048 z, the bottom first
+--   cache: depth of stack z at z, slots made at 32, the stamp from 33 to 36, stack z from 64 + 2048 z, the bottom first
 --   slots, for one patch: how many of the cache's stack z are left at z, how many were put back since at 32 + z, those from 64 + 1024 z;
 --     the stacks that the patch has changed lie from the number at 32832 to before that at 32833;
 --     the greatest position that its searches met at 32834
-use Prim.Native.Nat.{ℕ, zero, suc, _+_, _*_, _<_, _≤_}
+use Prim.Native.Nat.{ℕ, zero, suc, _+_, _*_, _%_, _<_, _≤_}
 use mathlib.Core.Path.{_≡_}
 use mathlib.Core.Bool.{Bool, true, false}
 use mathlib.Core.List.{List, [], _∷_, _++_}
@@ -37,6 +37,14 @@ metOf slots = getD slots 32834 0
 
 unfoldable pub cacheOf : List ℕ → Cache
 cacheOf cache = record { stacks = λ z. pick (ltb z 32) (topFirst cache (64 + z * 2048) (depthOf cache z)) []; made = getD cache 32 0 }
+
+-- 02 g: how many patches were taken or resolved on the cache, modulo 2^64; four cells, the lowest first
+unfoldable pub stampOf : List ℕ → ℕ
+stampOf cache = getD cache 33 0 + 65536 * (getD cache 34 0 + 65536 * (getD cache 35 0 + 65536 * getD cache 36 0))
+
+-- one more
+unfoldable pub raised : ℕ → ℕ
+raised n = (n + 1) % 18446744073709551616
 
 -- the stacks as the patch has them now: what it put back lies on what is left of the cache's
 unfoldable pub stacksOf : List ℕ → List ℕ → ℕ → List ℕ

@@ -10,7 +10,7 @@ use Rattle.rules.specs.Edit.{updated}
 use Rattle.rules.specs.Scratch.{emptyCache}
 use Rattle.slots.specs.declared.Popped.{Popped}
 use Rattle.slots.specs.declared.Popped.the-variants.{At, Empty}
-use Rattle.slots.specs.Stacks.{topFirst, depthOf, lowOf, highOf, metOf, cacheOf, stacksOf, CacheFits, SlotsFit, Untouched}
+use Rattle.slots.specs.Stacks.{topFirst, depthOf, lowOf, highOf, metOf, cacheOf, stampOf, raised, stacksOf, CacheFits, SlotsFit, Untouched}
 
 abbrev pub poppedOf : Popped → Option ℕ
 poppedOf (At s) = some s
@@ -29,6 +29,13 @@ withoutTop (s ∷ l) z f = updated z l f
 pub record Cleared (exit : List ℕ) : Type 0 where
   pub empty : cacheOf exit ≡ emptyCache
   pub fits : CacheFits exit
+  pub stamp : stampOf exit ≡ 0
+
+-- the stacks are as they were, so many slots are made, and the stamp is raised
+pub record Raised (cache exit : List ℕ) (made : ℕ) : Type 0 where
+  pub is : cacheOf exit ≡ record { stacks = cacheOf cache .stacks; made = made }
+  pub fits : CacheFits cache → CacheFits exit
+  pub stamp : stampOf exit ≡ raised (stampOf cache)
 
 pub record Begun (cache exit : List ℕ) : Type 0 where
   pub stacks : stacksOf exit cache ≡ cacheOf cache .stacks
@@ -69,8 +76,10 @@ pub record Settled (slots cache exit : List ℕ) (z : ℕ) : Type 0 where
   pub deep : depthOf exit z ≤ 2048
   pub others : (y n : ℕ) → (y ≡ z → ⊥) → n ≤ 2048 → topFirst exit (64 + y * 2048) n ≡ topFirst cache (64 + y * 2048) n
   pub depths : (y : ℕ) → (y ≡ z → ⊥) → y < 32 → depthOf exit y ≡ depthOf cache y
+  pub stamp : stampOf exit ≡ stampOf cache
 
--- the cache is what the patch left
+-- the cache is what the patch left, and its stamp is raised
 pub record Committed (slots cache exit : List ℕ) (made : ℕ) : Type 0 where
   pub is : cacheOf exit ≡ record { stacks = stacksOf slots cache; made = made }
   pub fits : CacheFits exit
+  pub stamp : stampOf exit ≡ raised (stampOf cache)

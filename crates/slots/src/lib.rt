@@ -1,5 +1,6 @@
 // 01: the emergency slots, in 32 stacks by size. A function keeps a cache; a patch takes from it and puts back beside it, and the
 // cache changes only where the patch is committed. Both are lent tables that may hold anything before they are cleared or begun.
+// 02 g: the cache's stamp tells whether a patch was settled on it since.
 use entity::SpillSlot;
 use entity::narrow;
 use entity::wide;
@@ -8,8 +9,8 @@ ghost use Prim.Native.Nat.{ℕ, _+_, _<_, _≤_};
 ghost use lib.ListN.{length, getD};
 ghost use lib.Dec.{ltb};
 ghost use Rattle.entity.specs.Logic.{pick};
-ghost use Rattle.slots.specs.Stacks.{depthOf, cacheOf, leftOf, ownOf, metOf, stacksOf, CacheFits, SlotsFit, Untouched};
-ghost use Rattle.slots.specs.Steps.{Cleared, Begun, Touched, Taken, PutBack, Meets, Settled, Committed};
+ghost use Rattle.slots.specs.Stacks.{depthOf, cacheOf, stampOf, leftOf, ownOf, metOf, stacksOf, CacheFits, SlotsFit, Untouched};
+ghost use Rattle.slots.specs.Steps.{Cleared, Raised, Begun, Touched, Taken, PutBack, Meets, Settled, Committed};
 
 pub type SlotCache = [u16; 65600];
 
@@ -40,7 +41,7 @@ pub fn clear(cache: &mut SlotCache)
 {
     told_cache(*cache);
     let mut z: usize = 0;
-    while z < 33 {
+    while z < 37 {
         cache[z] = 0;
         z += 1;
     }
@@ -51,6 +52,58 @@ pub fn made(cache: &SlotCache) -> u16
     ensures { λ n. ⌜ n ≡ cacheOf (now (cache .entry)) .made ⌝ }
 {
     cache[32]
+}
+
+// How many patches were settled on the cache, modulo 2^64.
+pub fn stamp(cache: &SlotCache) -> u64
+    ensures { λ n. ⌜ (n ≡ stampOf (now (cache .entry))) × (n < 18446744073709551616) ⌝ }
+{
+    let low = wide(cache[33]) + wide(cache[34]) * 65536;
+    let high = wide(cache[35]) + wide(cache[36]) * 65536;
+    low as u64 + high as u64 * 4294967296
+}
+
+// Raises the stamp's cells behind the lowest, which has come to its end.
+fn carry(cache: &mut SlotCache)
+    requires { ⌜ getD (now cache) 33 0 ≡ 65535 ⌝ }
+    ensures { λ _. ⌜ Raised (now (cache .entry)) (now (cache .exit)) (getD (now (cache .entry)) 32 0) ⌝ }
+{
+    told_cache(*cache);
+    stamp(cache);
+    cache[33] = 0;
+    let second = wide(cache[34]);
+    if second < 65535 {
+        cache[34] = narrow(second + 1);
+        return;
+    }
+    cache[34] = 0;
+    let third = wide(cache[35]);
+    if third < 65535 {
+        cache[35] = narrow(third + 1);
+        return;
+    }
+    cache[35] = 0;
+    let fourth = wide(cache[36]);
+    if fourth < 65535 {
+        cache[36] = narrow(fourth + 1);
+        return;
+    }
+    cache[36] = 0;
+}
+
+// A patch is settled that leaves the stacks as they are: so many slots are made, and the stamp is raised by one.
+pub fn raise(cache: &mut SlotCache, made: u16)
+    ensures { λ _. ⌜ Raised (now (cache .entry)) (now (cache .exit)) made ⌝ }
+{
+    told_cache(*cache);
+    stamp(cache);
+    cache[32] = made;
+    let first = wide(cache[33]);
+    if first < 65535 {
+        cache[33] = narrow(first + 1);
+        return;
+    }
+    carry(cache);
 }
 
 // The depths of the cache's stacks. A local array overlaps no table, so that they can be copied many at a time.
@@ -180,7 +233,7 @@ fn settle(slots: &Slots, cache: &mut SlotCache, z: usize)
     cache[z] = narrow(left + own);
 }
 
-// The cache becomes what the patch left. Only the stacks that the patch has changed are settled.
+// The cache becomes what the patch left, and its stamp is raised. Only the stacks that the patch has changed are settled.
 pub fn commit(slots: &Slots, cache: &mut SlotCache, made: u16)
     requires { ⌜ SlotsFit 1024 (now slots) × ((z : ℕ) → z < 32 → length (stacksOf (now slots) (now cache) z) ≤ 2048) × Untouched (now cache) (now slots) ⌝ }
     ensures { λ _. ⌜ Committed (now (slots .entry)) (now (cache .entry)) (now (cache .exit)) made ⌝ }
@@ -191,6 +244,5 @@ pub fn commit(slots: &Slots, cache: &mut SlotCache, made: u16)
         settle(slots, cache, z);
         z += 1;
     }
-    told_cache(*cache);
-    cache[32] = made;
+    raise(cache, made);
 }

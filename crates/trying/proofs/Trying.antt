@@ -221,16 +221,15 @@ module _ (t f : List ℕ) (p : Prices) where
       go : (b : Answer) → isAccepted b ≡ true → Toward p r n tally₀ (judged b (drawPatch T F s) (cacheOf cache) (tries T F left)) (suc left) tally → Adds p (b ∷ []) tally tally′
           → cacheOf cache′ ≡ cacheAfter (cacheOf cache) b → (seedOf x ≡ r .seed) × Many f p r n tally₀ tally′ cache′
       go (refused j) q w k e = let z : _≡_ {A = ℕ} 0 1 = ap bit q in absurd (omega arith)
-      go (resolved es c m) q w k e =
-          (
-            o .seed-is ∙ w .seed,
-            record {
-              cache-is = e ∙ w .cache;
-              ok = o .ok;
-              adds = λ i l. omega (arith, w .cells i l, k i l);
-              room = λ i y. o .room i (room-less tally (suc i) (i + suc left) (omega arith) (w .room i y));
-            },
-          )
+      go (resolved es c m) q w k e = (
+        o .seed-is ∙ w .seed,
+        record {
+          cache-is = e ∙ w .cache;
+          ok = o .ok;
+          adds = λ i l. omega (arith, w .cells i l, k i l);
+          room = λ i y. o .room i (room-less tally (suc i) (i + suc left) (omega arith) (w .room i y));
+        },
+      )
 
   -- the same of what a match tells
   pub drawn-over-by : (r : Tries) (n : ℕ) (tally₀ : List ℕ) (s left : ℕ) (tally cache tally′ cache′ : List ℕ) (x : Tried) (k : ℕ)

@@ -18,10 +18,11 @@ use Rattle.machine.specs.Paid.{owed}
 use Rattle.rules.proofs.Evictions.{unevict-evicted}
 use Rattle.machine.proofs.Bound as bound
 use Rattle.carried.specs.Carried as rows
+use Rattle.reginfo.specs.RegInfo.{RegInfo}
 use Rattle.scratch.specs.declared.Evicted.{Evicted}
 use Rattle.scratch.specs.declared.Evicted.the-variants.{Nothing, One, Two}
 use Rattle.scratch.specs.declared.ScratchAllocator.{ScratchAllocator}
-use Rattle.scratch.specs.State.{T, F, evictedOf, Fits}
+use Rattle.scratch.specs.State.{T, F, evictedIn, evictedOf, Fits}
 use Rattle.scratch.specs.Contracts.{Tables, stateOf, FitsIn, Brought}
 use Rattle.scratch.proofs.Bounds.{fewer}
 use Rattle.visits.specs.Marks.{movesOf, statesOf, allNew, isDone, isNoted}
@@ -33,10 +34,10 @@ use Rattle.visiting.proofs.Opened.{paid-more}
 use Rattle.visiting.proofs.Visited.{visitFor}
 use Rattle.visiting.proofs.Passing.{firstFor, first-paid-here}
 
-nothing-evicted : (e : Evicted) → evictedOf e ≡ [] → e ≡ Nothing
-nothing-evicted Nothing q = refl
-nothing-evicted (One e) q = let z : _≡_ {A = ℕ} 0 1 = cc in absurd (omega arith)
-nothing-evicted (Two e o) q = let z : _≡_ {A = ℕ} 0 1 = cc in absurd (omega arith)
+nothing-evicted : (t : RegInfo) (e : Evicted) → evictedOf t e ≡ [] → e ≡ Nothing
+nothing-evicted t Nothing q = refl
+nothing-evicted t (One e) q = let z : _≡_ {A = ℕ} 0 1 = cc in absurd (omega arith)
+nothing-evicted t (Two e o) q = let z : _≡_ {A = ℕ} 0 1 = cc in absurd (omega arith)
 
 unclosed-all : (n : ℕ) (s : ℕ → State) → unclosed n s ≤ n
 unfolding unclosed bit
@@ -107,13 +108,13 @@ module _ (t f cache e : List ℕ) (ok : MovesOk t f e) (k : ScratchAllocator) (w
 
         -- the evicted registers are saved
         module _ (k₃ : ScratchAllocator) (w₃ : Tables) (b : Brought t f cache k₂ (w₂ .tables) k₃ w₃ (unevictAll (T t) (F f))) where
-          saved : evictedOf (k₃ .evicted) ≡ []
-          saved = ap (λ (x : rules.ScratchAllocator). x .evicted) (b .is) ∙ unevict-evicted (T t) (F f) (evictedOf (k₂ .evicted)) (withEvicted [] (stateOf t f cache k₂ (w₂ .tables)))
+          saved : evictedOf (T t) (evictedIn k₃) ≡ []
+          saved = ap (λ (x : rules.ScratchAllocator). x .evicted) (b .is) ∙ unevict-evicted (T t) (F f) (evictedOf (T t) (evictedIn k₂)) (withEvicted [] (stateOf t f cache k₂ (w₂ .tables)))
 
           pub all-moved : Moves t f cache e k (w .tables) k₃ w₃
           all-moved =
               record {
                 is = moves-are (once .next) (twice .next) (once .is) (twice .is) ∙ rw (twice .stands .allocator, b .is);
                 fits = b .fits 0 2 0 (twice .stands .fits);
-                saved = nothing-evicted (k₃ .evicted) saved;
+                saved = nothing-evicted (T t) (evictedIn k₃) saved;
               }

@@ -9,7 +9,7 @@ use Rattle.rules.specs.Order.{ParallelMoves, isNew, moves}
 use Rattle.rules.specs.Counts.{news}
 use Rattle.scratch.specs.declared.ScratchAllocator.{ScratchAllocator}
 use Rattle.scratch.specs.declared.Evicted.the-variants.{Nothing}
-use Rattle.scratch.specs.State.{T, F}
+use Rattle.scratch.specs.State.{T, F, evictedIn}
 use Rattle.scratch.specs.Contracts.{Tables, stateOf, FitsIn}
 use Rattle.visits.specs.Marks.{movesOf, statesOf}
 use Rattle.closing.specs.State.{Work, Stands}
@@ -38,4 +38,4 @@ module _ (t f cache e : List ℕ) where
   pub record Moves (k : ScratchAllocator) (w : Tables) (k′ : ScratchAllocator) (w′ : Tables) : Type 0 where
     pub is : moves (T t) (F f) (movesOf e) (stateOf t f cache k w) ≡ some (stateOf t f cache k′ w′)
     pub fits : FitsIn t f cache 0 2 0 k′ w′
-    pub saved : k′ .evicted ≡ Nothing
+    pub saved : evictedIn k′ ≡ Nothing

@@ -9,10 +9,10 @@ use Rattle.slots.proofs.clear.Statement.{statement}
 use Rattle.slots.proofs.clear.Tie as tie
 
 abbrev Inv-loop : tie.InvT-loop
-Inv-loop cache₀ z₀ cache z = (z ≤ 33) × (length cache ≡ length cache₀) × ((y : ℕ) → y < z → getD cache y 0 ≡ 0)
+Inv-loop cache₀ z₀ cache z = (z ≤ 37) × (length cache ≡ length cache₀) × ((y : ℕ) → y < z → getD cache y 0 ≡ 0)
 
 abbrev μ-loop : tie.MeasureT-loop
-μ-loop cache₀ z₀ cache z = 33 - z
+μ-loop cache₀ z₀ cache z = 37 - z
 
 told-cache-requires : tie.Need-told-cache-requires Inv-loop μ-loop
 told-cache-requires c κs = search needs
@@ -40,7 +40,7 @@ loop-again c =
 returns : tie.Need-returns Inv-loop μ-loop
 returns c =
     let l = c .before .loop in
-    let e : l .z ≡ 33 = omega arith in
+    let e : l .z ≡ 37 = omega arith in
     cleared (l .cache) (rw e at (l .inv .2))
 
 pub clear-spec : {M : Type 1} → statement M

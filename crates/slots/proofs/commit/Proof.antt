@@ -50,17 +50,14 @@ loop-again c =
     let low : l .z < 32 = omega (arith, c .before .before .before .before .before .before .wide .ensures .0, s .pre .2 .high) in
     commit-more (s .args .slots .now) (s .args .cache .now) (s .pre .0) (l .cache) (c .settle .last .1 .0) (l .z) low (l .inv) (c .settle .ensures)
 
-told-cache-requires : tie.Need-told-cache-requires Inv-loop μ-loop
-told-cache-requires c κs = search needs
-
-element-write-cache : tie.Need-element-write-cache Inv-loop μ-loop
-element-write-cache c = search needs
+raise-requires : tie.Need-raise-requires Inv-loop μ-loop
+raise-requires c κs = search needs
 
 returns : tie.Need-returns Inv-loop μ-loop
 returns c =
     let s = c .before .before .before .before .before .before .before .before in
     let l = c .before .before .before .loop in
-    committed (s .args .slots .now) (s .args .cache .now) (s .pre .0) (l .cache) (s .args .made) (l .z) (c .told-cache .ensures) (s .pre .2) (omega (arith, c .before .before .before .before .before .before .wide .ensures .0)) (l .inv)
+    committed (s .args .slots .now) (s .args .cache .now) (s .pre .0) (l .cache) _ (s .args .made) (l .z) (s .pre .2) (omega (arith, c .before .before .before .before .before .before .wide .ensures .0)) (l .inv) (c .raise .ensures)
 
 pub commit-spec : {M : Type 1} → statement M
 commit-spec =
@@ -77,6 +74,5 @@ commit-spec =
     add-z
     loop-less
     loop-again
-    told-cache-requires
-    element-write-cache
+    raise-requires
     returns)

@@ -42,7 +42,7 @@ count-requires c κs =
     let k = c .before .before .before .before .before .before .before .before .before .before .before .before .before .before .before .before .before .clear in
     let n = patch-numbered (s .args .t .now) (s .args .f .now) (s .args .seed) (s .args .numbers .now) (d .last .1 .1 .1 .0) (d .result) (k .last .0) (d .ensures) (k .ensures .0) in
     let w = tested-call (s .args .t .now) (s .args .f .now) (patchOf (drawPatch (regInfoOf (s .args .t .now)) (functionOf (s .args .f .now)) (s .args .seed))) (k .last .0)
-        (take (d .result .count * 4) (d .last .1 .1 .1 .0)) (r .result) (s .args .list .now) (r .last .1 .1 .1 .1 .0) (s .args .cache .now) (r .last .1 .1 .1 .0) (r .ensures .0) n (s .pre .0 .list-long) (r .kept .1 .1 .1 .1 .0) (s .pre .0 .ok) in
+    (take (d .result .count * 4) (d .last .1 .1 .1 .0)) (r .result) (s .args .list .now) (r .last .1 .1 .1 .1 .0) (s .args .cache .now) (r .last .1 .1 .1 .0) (r .ensures .0) n (s .pre .0 .list-long) (r .kept .1 .1 .1 .1 .0) (s .pre .0 .ok) in
     (s .pre .0 .priced, r .kept .1 .1 .1 .1 .0 ∙ s .pre .0 .list-long, w .within, s .pre .1)
 
 same-length : tie.Need-same-length
@@ -59,9 +59,11 @@ returns c =
     let k = c .before .before .before .before .before .before .before .before .before .before .before .before .before .before .before .before .before .before .clear in
     let n = patch-numbered (s .args .t .now) (s .args .f .now) (s .args .seed) (s .args .numbers .now) (d .last .1 .1 .1 .0) (d .result) (k .last .0) (d .ensures) (k .ensures .0) in
     let w = tested-call (s .args .t .now) (s .args .f .now) (patchOf (drawPatch (regInfoOf (s .args .t .now)) (functionOf (s .args .f .now)) (s .args .seed))) (k .last .0)
-        (take (d .result .count * 4) (d .last .1 .1 .1 .0)) (r .result) (s .args .list .now) (r .last .1 .1 .1 .1 .0) (s .args .cache .now) (r .last .1 .1 .1 .0) (r .ensures .0) n (s .pre .0 .list-long) (r .kept .1 .1 .1 .1 .0) (s .pre .0 .ok) in
-    (once-tried (s .args .t .now) (s .args .f .now) (s .args .p) (s .args .seed) (s .args .tally .now) (c .count .last .1 .1 .1 .1 .0) (s .args .cache .now) (r .last .1 .1 .1 .0) (r .last .1 .1 .1 .1 .0) (d .result)
-    (s .args .numbers .now) (d .last .1 .1 .1 .0) (r .result) (c .count .result) (s .pre .0 .priced) (d .ensures) w (c .count .ensures), (tt, tt, tt, tt, tt, tt, tt, tt, tt, tt, tt))
+    (take (d .result .count * 4) (d .last .1 .1 .1 .0)) (r .result) (s .args .list .now) (r .last .1 .1 .1 .1 .0) (s .args .cache .now) (r .last .1 .1 .1 .0) (r .ensures .0) n (s .pre .0 .list-long) (r .kept .1 .1 .1 .1 .0) (s .pre .0 .ok) in (
+      once-tried (s .args .t .now) (s .args .f .now) (s .args .p) (s .args .seed) (s .args .tally .now) (c .count .last .1 .1 .1 .1 .0) (s .args .cache .now) (r .last .1 .1 .1 .0) (r .last .1 .1 .1 .1 .0) (d .result)
+          (s .args .numbers .now) (d .last .1 .1 .1 .0) (r .result) (c .count .result) (s .pre .0 .priced) (d .ensures) w (c .count .ensures),
+      (tt, tt, tt, tt, tt, tt, tt, tt, tt, tt, tt),
+    )
 
 pub try-once-spec : {M : Type 1} → statement M
 try-once-spec =

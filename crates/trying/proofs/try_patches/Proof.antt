@@ -40,9 +40,10 @@ loop-again c =
     let s = c .before .before .before .before .before .before .before .before .before .before .before .before .before .before .before .before .before .before .before .before .before .before in
     let l = c .before .before .before .before .before .before .before .before .before .before .before .before .before .before .before .before .before .before .before .loop in
     let o = c .before .before .before .before .try-patch in
-    let r = drawings (regInfoOf (s .args .t .now)) (functionOf (s .args .f .now)) (s .args .count) (s .args .seed) (cacheOf (s .args .cache .now)) in
-    (patch-done (s .args .t .now) (s .args .f .now) (s .args .p) r (s .args .count * 9) (s .args .tally .now) (l .s) (l .left) (o .result) (l .tally) (l .cache) (o .last .1 .1 .1 .1 .1 .0) (o .last .1 .1 .1 .1 .0) (l .inv .0) (c .before .before .before .before .before .before .before .before .before .before .before .before .before .before .before .before .before .before .loop-test .taken) (o .ensures .0 .0) (o .ensures .0 .1),
-    ready-again (s .args .t .now) (s .args .f .now) (s .args .p) (l .cache) (o .last .1 .1 .1 .1 .0) (l .numbers) (o .last .1 .1 .1 .1 .1 .1 .0) (l .list) (o .last .1 .1 .1 .1 .1 .1 .1 .0) (l .inv .1) (o .ensures .0 .1 .ok) (o .kept .1 .1 .1 .1 .1 .1 .0) (o .kept .1 .1 .1 .1 .1 .1 .1 .0))
+    let r = drawings (regInfoOf (s .args .t .now)) (functionOf (s .args .f .now)) (s .args .count) (s .args .seed) (cacheOf (s .args .cache .now)) in (
+      patch-done (s .args .t .now) (s .args .f .now) (s .args .p) r (s .args .count * 9) (s .args .tally .now) (l .s) (l .left) (o .result) (l .tally) (l .cache) (o .last .1 .1 .1 .1 .1 .0) (o .last .1 .1 .1 .1 .0) (l .inv .0) (c .before .before .before .before .before .before .before .before .before .before .before .before .before .before .before .before .before .before .loop-test .taken) (o .ensures .0 .0) (o .ensures .0 .1),
+      ready-again (s .args .t .now) (s .args .f .now) (s .args .p) (l .cache) (o .last .1 .1 .1 .1 .0) (l .numbers) (o .last .1 .1 .1 .1 .1 .1 .0) (l .list) (o .last .1 .1 .1 .1 .1 .1 .1 .0) (l .inv .1) (o .ensures .0 .1 .ok) (o .kept .1 .1 .1 .1 .1 .1 .0) (o .kept .1 .1 .1 .1 .1 .1 .1 .0),
+    )
 
 same-length : tie.Need-same-length Inv-loop μ-loop
 same-length c = c .before .loop .inv .1 .numbers-long ∙ sym (c .before .before .before .before .pre .0 .numbers-long)

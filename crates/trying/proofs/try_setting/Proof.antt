@@ -31,8 +31,7 @@ returns c =
 try-patches-requires : tie.Need-try-patches-requires
 try-patches-requires c κs =
     let s = c .before .before .before .before .before .before .before .before .before .before .before .before .before .before .before .before .before .before .before .before .before .before .before .before .before in
-    let k = c .before .before .before .before .before .before .before .before .before .before .before .before .before .before .before .before .before .before .before .before .before .set-kept in
-    (
+    let k = c .before .before .before .before .before .before .before .before .before .before .before .before .before .before .before .before .before .before .before .before .before .set-kept in (
       record {
         checked = checked-at (s .args .t .now) (s .args .f .now) (k .last .0) (s .args .kept) (s .pre .0) (s .pre .1) (k .ensures);
         some-values = omega (arith, c .before .before .before .before .before .before .before .before .before .before .before .before .before .before .before .num-values .ensures, c .before .before .before .before .before .before .before .before .before .before .before .before .before .before .if1 .left);
@@ -57,11 +56,10 @@ returns-2 : tie.Need-returns-2
 returns-2 c =
     let s = c .before .before .before .before .before .before .before .before .before .before .before .before .before .before .before .before .before .before .before .before .before .before .before .before .before .before .before .before .before .before .before .before in
     let k = c .before .before .before .before .before .before .before .before .before .before .before .before .before .before .before .before .before .before .before .before .before .before .before .before .before .before .before .before .set-kept in
-    let o = c .before .before .before .before .before .before .try-patches in
-    (
+    let o = c .before .before .before .before .before .before .try-patches in (
       tried-out (s .args .t .now) (s .args .f .now) (k .last .0) (s .args .kept) (s .args .p) (s .args .seed) (s .args .count) (c .before .before .before .before .before .before .before .before .before .before .before .before .before .before .before .before .before .before .before .before .before .before .before .before .before .before .clear .last .0) (o .last .1 .1 .1 .1 .1 .0) (c .before .before .before .before .before .before .before .before .before .before .before .before .before .before .before .before .before .before .before .before .before .before .before .before .clear2 .last .0) (o .last .1 .1 .1 .1 .1 .1 .0) (c .count-evictions .last .0)
-      (s .pre .0) (s .pre .1) (k .ensures) (omega (arith, c .before .before .before .before .before .before .before .before .before .before .before .before .before .before .before .before .before .before .before .before .before .before .num-values .ensures, c .before .before .before .before .before .before .before .before .before .before .before .before .before .before .before .before .before .before .before .before .before .if1 .left)) (c .before .before .before .before .before .before .before .before .before .before .before .before .before .before .before .before .before .before .before .before .before .before .before .before .clear2 .ensures) (c .before .before .before .before .before .before .before .before .before .before .before .before .before .before .before .before .before .before .before .before .before .before .before .before .before .before .clear .ensures .empty) (o .ensures .0)
-      (c .count-evictions .ensures .0) (c .count-evictions .ensures .1),
+          (s .pre .0) (s .pre .1) (k .ensures) (omega (arith, c .before .before .before .before .before .before .before .before .before .before .before .before .before .before .before .before .before .before .before .before .before .before .num-values .ensures, c .before .before .before .before .before .before .before .before .before .before .before .before .before .before .before .before .before .before .before .before .before .if1 .left)) (c .before .before .before .before .before .before .before .before .before .before .before .before .before .before .before .before .before .before .before .before .before .before .before .before .clear2 .ensures) (c .before .before .before .before .before .before .before .before .before .before .before .before .before .before .before .before .before .before .before .before .before .before .before .before .before .before .clear .ensures .empty) (o .ensures .0)
+          (c .count-evictions .ensures .0) (c .count-evictions .ensures .1),
       (tt, tt, tt, tt, tt, tt, tt, tt, tt, tt, tt, tt),
     )
 

@@ -1,0 +1,53 @@
+-- `resolve_granted` meets its contract: refused for its free units, or the call of its patch.
+use Rattle.calls.proofs.Freeing.{refused-granted, taken-granted, none-given}
+use borrow.Author.Needs.{needs}
+use Rattle.calls.proofs.resolve_granted.Statement.{statement}
+use Rattle.calls.proofs.resolve_granted.Tie as tie
+
+take-free-requires : tie.Need-take-free-requires
+take-free-requires c κs = search needs
+
+enum-known-k : tie.Need-enum-known-k
+enum-known-k c = search needs
+
+returns : tie.Need-returns
+returns c =
+    let args = c .before .before .before .before .before .before .before .before .args in
+    (refused-granted (args .g) (args .t .now) (args .f .now) (args .free .now) (args .numbers .now) (args .list .now) (args .cache .now) _ _ (rw (c .before .k .given .1) at (c .before .before .before .take-free .ensures)), search needs)
+
+enum-told : tie.Need-enum-told
+enum-told c = search needs
+
+some-given-requires : tie.Need-some-given-requires
+some-given-requires c κs = search needs
+
+resolve-patch-granted-requires : tie.Need-resolve-patch-granted-requires
+resolve-patch-granted-requires c κs =
+    let pre = c .before .before .before .before .before .before .before .before .before .before .before .before .before .before .before .before .before .before .before .pre in
+    let enum-told = c .before .before .before .before .before .before .before .before .before .before .before .before .enum-told in
+    let take-free = c .before .before .before .before .before .before .before .before .before .before .before .before .before .before .take-free in
+    let some-given = c .before .before .before .before .before .before .before .before .before .before .before .some-given in
+    (pre .0, pre .1, λ q. none-given _ _ _ (rw (enum-told .given .1) at (take-free .ensures)) (some-given .ensures q))
+
+same-length : tie.Need-same-length
+same-length c = search needs
+
+returns-2 : tie.Need-returns-2
+returns-2 c =
+    let args = c .before .before .before .before .before .before .before .before .before .before .before .before .before .before .before .before .before .before .before .before .before .before .args in
+    let enum-told = c .before .before .before .before .before .before .before .before .before .before .before .before .before .before .before .enum-told in
+    let take-free = c .before .before .before .before .before .before .before .before .before .before .before .before .before .before .before .before .before .take-free in
+    (taken-granted (args .g) (args .t .now) (args .f .now) (args .free .now) (args .numbers .now) (args .list .now) (args .cache .now) _ _ _ _ (rw (enum-told .given .1) at (take-free .ensures)) (c .before .before .resolve-patch-granted .ensures .0), search needs)
+
+pub resolve-granted-spec : {M : Type 1} → statement M
+resolve-granted-spec =
+    tie.close
+    (tie.spec
+    take-free-requires
+    enum-known-k
+    returns
+    enum-told
+    some-given-requires
+    resolve-patch-granted-requires
+    same-length
+    returns-2)

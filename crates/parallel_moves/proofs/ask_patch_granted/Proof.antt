@@ -1,0 +1,55 @@
+-- `ask_patch_granted` meets its contract: an entry is refused, or what they became is asked for.
+use Rattle.parallel_moves.proofs.Adding.{asked-refused, patch-asked}
+use borrow.Author.Needs.{needs}
+use Rattle.parallel_moves.proofs.ask_patch_granted.Statement.{statement}
+use Rattle.parallel_moves.proofs.ask_patch_granted.Tie as tie
+
+new-parallel-move-requires : tie.Need-new-parallel-move-requires
+new-parallel-move-requires c κs = search needs
+
+add-entries-requires : tie.Need-add-entries-requires
+add-entries-requires c κs =
+    let pre = c .before .before .before .before .before .before .before .pre in
+    (pre .0, c .before .before .new-parallel-move .ensures .1 _ _)
+
+enum-known-n : tie.Need-enum-known-n
+enum-known-n c = search needs
+
+returns : tie.Need-returns
+returns c =
+    let args = c .before .before .before .before .before .before .before .before .before .before .before .args in
+    let new-parallel-move = c .before .before .before .before .before .before .new-parallel-move in
+    (λ p q. asked-refused _ _ _ _ _ (args .g) (args .available .now) (args .numbers .now) (args .list .now) (args .cache .now) (new-parallel-move .ensures .0) p q _ _ (rw (c .before .n .given .1) at (c .before .before .before .add-entries .ensures)), search needs)
+
+enum-told : tie.Need-enum-told
+enum-told c = search needs
+
+ask-granted-requires : tie.Need-ask-granted-requires
+ask-granted-requires c κs =
+    let pre = c .before .before .before .before .before .before .before .before .before .before .before .before .before .before .before .before .before .before .before .before .pre in
+    let add-entries = c .before .before .before .before .before .before .before .before .before .before .before .before .add-entries in
+    (pre .0, add-entries .ensures .ok, pre .1, pre .2)
+
+same-length : tie.Need-same-length
+same-length c = search needs
+
+returns-2 : tie.Need-returns-2
+returns-2 c =
+    let args = c .before .before .before .before .before .before .before .before .before .before .before .before .before .before .before .before .before .before .before .before .before .before .before .args in
+    let new-parallel-move = c .before .before .before .before .before .before .before .before .before .before .before .before .before .before .before .before .before .before .new-parallel-move in
+    let enum-told = c .before .before .before .before .before .before .before .before .before .before .before .before .before .enum-told in
+    let add-entries = c .before .before .before .before .before .before .before .before .before .before .before .before .before .before .before .add-entries in
+    (λ p q. patch-asked _ _ _ _ _ (args .g) (args .available .now) (args .numbers .now) (args .list .now) (args .cache .now) (new-parallel-move .ensures .0) p q _ _ _ (rw (enum-told .given .1) at (add-entries .ensures)) (c .before .before .ask-granted .ensures .0), search needs)
+
+pub ask-patch-granted-spec : {M : Type 1} → statement M
+ask-patch-granted-spec =
+    tie.close
+    (tie.spec
+    new-parallel-move-requires
+    add-entries-requires
+    enum-known-n
+    returns
+    enum-told
+    ask-granted-requires
+    same-length
+    returns-2)
