@@ -30,7 +30,8 @@ use Rattle.job_patch.specs.Patches.{unlessGiven, rising, place, entry, entries,
 use Rattle.job.specs.Job.{Header, Opened, Done, withFunction, beginning, opening, job}
 use Rattle.job.specs.Claim.{Ends, all-done, left-over, not-read, not-resolved, OneByOne, EnoughWith, Enough, FewerEnough}
 use Rattle.job.proofs.WasRead.{early-got, given-got}
-use Rattle.job.proofs.Opening.{counted, opening-is}
+use Rattle.job.specs.Formula.{counted}
+use Rattle.job.proofs.Opening.{opening-is}
 use Rattle.job.proofs.Claimed.{every-job}
 
 -- ---- reading a patch

@@ -9,3 +9,4 @@ pub mod Trials
 pub mod Room
 pub mod Enough
 pub mod Priced
+pub mod Formula

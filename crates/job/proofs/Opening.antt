@@ -26,12 +26,13 @@ use Rattle.reading.specs.declared.Next.{Next}
 use Rattle.reading.specs.declared.Next.the-variants as X
 use Rattle.job_target.specs.Target.{target}
 use Rattle.job_target.specs.Answer.{TargetAt}
-use Rattle.job_function.specs.Reads.{function}
-use Rattle.job_function.specs.Answer.{FunctionRead}
-use Rattle.job_function.proofs.Accepted.{read-accepted}
+use Rattle.job_function.specs.Reads.{function, functionWithin}
+use Rattle.job_function.specs.Answer.{FunctionReadWithin}
+use Rattle.job_function.proofs.Accepted.{read-within, read-accepted}
 use Rattle.job_patch.specs.Patches.{unlessGiven}
 use Rattle.job.specs.Job.{Opened, Header, afterTarget, header, withFunction, beginning, opening}
 use Rattle.job.specs.Priced.{unlessOutside, beginningIf, openingIf}
+use Rattle.job.specs.Formula.{withFunctionWithin, beginningWithin, counted, openingWithin}
 use Rattle.job.specs.Steps.{BegunAt, HeaderAt}
 
 -- a setting fits in a cell of the table
@@ -39,17 +40,19 @@ pub setting-small : (n : ℕ) → isSetting n ≡ true → n < 65536
 setting-small n h = ⊎-elim (λ e. omega arith) (λ e. omega arith) (setting-is n h)
 
 -- the function of an accepted target
-function-read : (kept : ℕ) → isSetting kept ≡ true → (s t f : List ℕ) (at : ℕ) (r : Next) → Accepted (regInfoOf t) → Indexed t → FunctionRead t kept s at f r → BegunAt s (withFunction (regInfoOf t) kept (drop at s)) r t f
-unfolding withFunction
-function-read kept set s t f at (X.Refused k) ok index h = rw (← h .reads) (refl, tt, tt)
-function-read kept set s t f at (X.At next) ok index h =
-    let known : Checked t f = record { target = ok; indexed = index; function = read-accepted (regInfoOf t) kept set (drop at s) (functionOf f) (drop next s) (sym (h .reads)) .0 } in
+function-read : (least most : ℕ) → most ≤ 4096 → (kept : ℕ) → isSetting kept ≡ true → (s t f : List ℕ) (at : ℕ) (r : Next) → Accepted (regInfoOf t) → Indexed t → FunctionReadWithin least most t kept s at f r
+    → BegunAt s (withFunctionWithin least most (regInfoOf t) kept (drop at s)) r t f
+unfolding withFunctionWithin
+function-read least most few kept set s t f at (X.Refused k) ok index h = rw (← h .reads) (refl, tt, tt)
+function-read least most few kept set s t f at (X.At next) ok index h =
+    let alone : function (regInfoOf t) kept (drop at s) ≡ got (functionOf f) (drop next s) = read-within least most few (regInfoOf t) kept (drop at s) (functionOf f) (drop next s) .0 (sym (h .reads)) .0 in
+    let known : Checked t f = record { target = ok; indexed = index; function = read-accepted (regInfoOf t) kept set (drop at s) (functionOf f) (drop next s) alone .0 } in
     rw (← h .reads) (next, refl, refl, h .onward .1, refl, refl, known)
 
 -- a target that is refused, and one that is not; `ok` tells whether the prices are in their range
-module _ (ok : Bool) (kept : ℕ) (s t t′ f : List ℕ) (at : ℕ) where
+module _ (ok : Bool) (least most kept : ℕ) (s t t′ f : List ℕ) (at : ℕ) where
   abbrev behind : Read Opened
-  behind = unlessGiven (targetRefusal (regInfoOf t)) (unlessOutside ok (withFunction (regInfoOf t) kept (drop at s)))
+  behind = unlessGiven (targetRefusal (regInfoOf t)) (unlessOutside ok (withFunctionWithin least most (regInfoOf t) kept (drop at s)))
 
   pub target-refused : (k : ℕ) → some k ≡ targetRefusal (regInfoOf t) → BegunAt s behind (X.Refused k) t′ f
   target-refused k h = rw (← h) (refl, tt, tt)
@@ -57,30 +60,35 @@ module _ (ok : Bool) (kept : ℕ) (s t t′ f : List ℕ) (at : ℕ) where
   pub prices-refused : ok ≡ false → none ≡ targetRefusal (regInfoOf t) → BegunAt s behind (X.Refused 19) t′ f
   prices-refused out h = rw (← h, out) (refl, tt, tt)
 
-  pub target-taken : ok ≡ true → isSetting kept ≡ true → (r : Next) → none ≡ targetRefusal (regInfoOf t) → regInfoOf t′ ≡ regInfoOf t → Indexed t′ → FunctionRead t′ kept s at f r
+  pub target-taken : ok ≡ true → most ≤ 4096 → isSetting kept ≡ true → (r : Next) → none ≡ targetRefusal (regInfoOf t) → regInfoOf t′ ≡ regInfoOf t → Indexed t′ → FunctionReadWithin least most t′ kept s at f r
       → BegunAt s behind r t′ f
-  target-taken within set r h e index g =
+  target-taken within few set r h e index g =
       let ok : Accepted (regInfoOf t′) = rw e (sym h) in
-      let h′ = rw e at (function-read kept set s t′ f at r ok index g) in
+      let h′ = rw e at (function-read least most few kept set s t′ f at r ok index g) in
       rw (← h, within) h′
 
-module _ (ok : Bool) (kept : ℕ) (s t f : List ℕ) where
-  pub other-setting : no (isSetting kept) ≡ true → BegunAt s (beginningIf ok kept s) (X.Refused 22) t f
-  unfolding beginningIf
+module _ (ok : Bool) (least most kept : ℕ) (s t f : List ℕ) where
+  pub other-setting : no (isSetting kept) ≡ true → BegunAt s (beginningWithin ok least most kept s) (X.Refused 22) t f
+  unfolding beginningWithin
   other-setting set = rw set (refl, tt, tt)
 
   module _ (set : isSetting kept ≡ true) where
-    pub too-long : 65536 < length s → BegunAt s (beginningIf ok kept s) (X.Refused 2) t f
-    unfolding beginningIf
+    pub too-long : 65536 < length s → BegunAt s (beginningWithin ok least most kept s) (X.Refused 2) t f
+    unfolding beginningWithin
     too-long h = rw (set, lt-ltb 65536 (length s) h) (refl, tt, tt)
 
-    pub beginning-refused : (k : ℕ) → length s ≤ 65536 → TargetAt s 0 t (X.Refused k) → BegunAt s (beginningIf ok kept s) (X.Refused k) t f
-    unfolding beginningIf
+    pub beginning-refused : (k : ℕ) → length s ≤ 65536 → TargetAt s 0 t (X.Refused k) → BegunAt s (beginningWithin ok least most kept s) (X.Refused k) t f
+    unfolding beginningWithin
     beginning-refused k l h = rw (set, le-ltb 65536 (length s) l, ← h .reads) (refl, tt, tt)
 
-    pub beginning-read : (t′ : List ℕ) (next : ℕ) (r : Next) → length s ≤ 65536 → TargetAt s 0 t (X.At next) → BegunAt s (unlessGiven (targetRefusal (regInfoOf t)) (unlessOutside ok (withFunction (regInfoOf t) kept (drop next s)))) r t′ f → BegunAt s (beginningIf ok kept s) r t′ f
-    unfolding beginningIf
+    pub beginning-read : (t′ : List ℕ) (next : ℕ) (r : Next) → length s ≤ 65536 → TargetAt s 0 t (X.At next) → BegunAt s (unlessGiven (targetRefusal (regInfoOf t)) (unlessOutside ok (withFunctionWithin least most (regInfoOf t) kept (drop next s)))) r t′ f → BegunAt s (beginningWithin ok least most kept s) r t′ f
+    unfolding beginningWithin
     beginning-read t′ next r l h g = rw (set, le-ltb 65536 (length s) l, ← h .reads) g
+
+-- N from 0 to 4,096 is no other test than a function's own
+pub beginning-any : (ok : Bool) (kept : ℕ) (l : List ℕ) → beginningWithin ok 0 4096 kept l ≡ beginningIf ok kept l
+unfolding beginningWithin beginningIf withFunctionWithin withFunction functionWithin function
+beginning-any ok kept l = refl
 
 -- without prices nothing is tested
 pub beginning-unpriced : (kept : ℕ) (l : List ℕ) → beginningIf true kept l ≡ beginning kept l
@@ -90,10 +98,6 @@ beginning-unpriced kept l = refl
 pub opening-unpriced : (kept : ℕ) (l : List ℕ) → openingIf true kept l ≡ opening kept l
 unfolding openingIf opening header
 opening-unpriced kept l = refl
-
--- the patch count behind them
-abbrev pub counted : Opened → List ℕ → Read Header
-counted x q = then (between 1 1024 q) (λ n p. got (record { target = x .target; function = x .function; patches = n }) p)
 
 opening-if-is : (ok : Bool) (kept : ℕ) (l : List ℕ) → openingIf ok kept l ≡ then (beginningIf ok kept l) (λ x q. counted x q)
 unfolding openingIf afterTarget beginningIf withFunction
@@ -118,16 +122,22 @@ opening-if-is ok kept l = go (no (isSetting kept)) (ltb 65536 (length l)) (targe
 pub opening-is : (kept : ℕ) (l : List ℕ) → opening kept l ≡ then (beginning kept l) (λ x q. counted x q)
 opening-is kept l = sym (opening-unpriced kept l) ∙ opening-if-is true kept l ∙ ap (λ (x : Read Opened). then x (λ x q. counted x q)) (beginning-unpriced kept l)
 
-module _ (ok : Bool) (kept : ℕ) (s t f : List ℕ) where
-  pub opening-refused : (k : ℕ) → BegunAt s (beginningIf ok kept s) (X.Refused k) t f → HeaderAt s (openingIf ok kept s) (N.Refused k) t f
-  opening-refused k h = rw (opening-if-is ok kept s) (go (beginningIf ok kept s) h)
+pub opening-any : (ok : Bool) (kept : ℕ) (l : List ℕ) → openingWithin ok 0 4096 kept l ≡ openingIf ok kept l
+unfolding openingWithin
+opening-any ok kept l = ap (λ (x : Read Opened). then x (λ x q. counted x q)) (beginning-any ok kept l) ∙ sym (opening-if-is ok kept l)
+
+module _ (ok : Bool) (least most kept : ℕ) (s t f : List ℕ) where
+  pub opening-refused : (k : ℕ) → BegunAt s (beginningWithin ok least most kept s) (X.Refused k) t f → HeaderAt s (openingWithin ok least most kept s) (N.Refused k) t f
+  unfolding openingWithin
+  opening-refused k h = (go (beginningWithin ok least most kept s) h)
     where
       go : (x : Read Opened) → BegunAt s x (X.Refused k) t f → HeaderAt s (then x (λ x q. counted x q)) (N.Refused k) t f
       go (refused j) h = let z : k ≡ j = cc in (ap N.Refused z, tt, tt)
       go (got x rest) h = absurd (let z : _≡_ {A = ℕ} 0 1 = cc in omega arith)
 
-  pub opening-read : (next : ℕ) (r : Number) → BegunAt s (beginningIf ok kept s) (X.At next) t f → ReadAt (between 1 1024) s next r → HeaderAt s (openingIf ok kept s) r t f
-  opening-read next r h g = rw (opening-if-is ok kept s) (go (beginningIf ok kept s) r h g)
+  pub opening-read : (next : ℕ) (r : Number) → BegunAt s (beginningWithin ok least most kept s) (X.At next) t f → ReadAt (between 1 1024) s next r → HeaderAt s (openingWithin ok least most kept s) r t f
+  unfolding openingWithin
+  opening-read next r h g = (go (beginningWithin ok least most kept s) r h g)
     where
       go : (x : Read Opened) (r : Number) → BegunAt s x (X.At next) t f → ReadAt (between 1 1024) s next r → HeaderAt s (then x (λ x q. counted x q)) r t f
       go (refused j) r h g = absurd (let z : _≡_ {A = ℕ} 0 1 = cc in omega arith)

@@ -4,3 +4,4 @@ pub mod Claim
 pub mod Conditions
 pub mod Trials
 pub mod Priced
+pub mod Formula

@@ -32,8 +32,9 @@ ghost use Rattle.entries.specs.Table.{sortedOf};
 ghost use Rattle.entries.specs.Known.{EntriesOk};
 ghost use Rattle.job_patch.specs.Patches.{unlessGiven, patch};
 ghost use Rattle.parallel_moves.specs.Given.{CacheOk};
-ghost use Rattle.job.specs.Job.{withFunction, beginning, opening};
-ghost use Rattle.job.specs.Priced.{unlessOutside, beginningIf, openingIf, openingPriced};
+ghost use Rattle.job.specs.Job.{beginning, opening};
+ghost use Rattle.job.specs.Priced.{unlessOutside, openingPriced};
+ghost use Rattle.job.specs.Formula.{withFunctionWithin, beginningWithin, openingWithin};
 ghost use Rattle.job.specs.Steps.{BegunAt, HeaderAt, CallAt, StepAt};
 
 // How many edits a patch has, the greatest position that it met and where the next one stands, or 01's number.
@@ -42,7 +43,7 @@ pub enum Step {
     Refused(u8),
 }
 
-// 4 to 7, then 19 where prices were given that are outside their range, then the function, of `kept` kept evictions.
+// 4 to 7, then 19 where prices were given that are outside their range, then the function, of `kept` kept evictions, its N from `least` to `most`.
 fn read_after_target(
     s: &[u8],
     at: usize,
@@ -50,16 +51,18 @@ fn read_after_target(
     f: &mut Function,
     kept: u16,
     in_range: bool,
+    least: u32,
+    most: u32,
 ) -> Next
-    requires { ⌜ isSetting kept ≡ true ⌝ }
-    ensures { λ r. ⌜ BegunAt (now (s .entry)) (unlessGiven (targetRefusal (regInfoOf (now (t .entry)))) (unlessOutside in_range (withFunction (regInfoOf (now (t .entry))) kept (drop at (now (s .entry)))))) r (now (t .exit)) (now (f .exit)) ⌝ }
+    requires { ⌜ (isSetting kept ≡ true) × (most ≤ 4096) ⌝ }
+    ensures { λ r. ⌜ BegunAt (now (s .entry)) (unlessGiven (targetRefusal (regInfoOf (now (t .entry)))) (unlessOutside in_range (withFunctionWithin least most (regInfoOf (now (t .entry))) kept (drop at (now (s .entry)))))) r (now (t .exit)) (now (f .exit)) ⌝ }
 {
     match target_check::check(t) {
         TargetCheck::Accepted => {
             if !in_range {
                 return Next::Refused(19);
             }
-            job_function::read_function(t, s, at, f, kept)
+            job_function::read_function_within(least, most, t, s, at, f, kept)
         }
         TargetCheck::OutsideLimits => Next::Refused(2),
         TargetCheck::ListedTwice => Next::Refused(3),
@@ -70,15 +73,18 @@ fn read_after_target(
     }
 }
 
-// The target and the function that the bytes begin with, and 19 between them unless the prices are in their range.
+// The target and the function that the bytes begin with, its N from `least` to `most`, and 19 between them unless the prices are in their range.
 fn read_beginning_if(
     in_range: bool,
+    least: u32,
+    most: u32,
     kept_evictions: u32,
     s: &[u8],
     t: &mut RegInfo,
     f: &mut Function,
 ) -> Next
-    ensures { λ r. ⌜ BegunAt (now (s .entry)) (beginningIf in_range «kept_evictions» (now (s .entry))) r (now (t .exit)) (now (f .exit)) ⌝ }
+    requires { ⌜ most ≤ 4096 ⌝ }
+    ensures { λ r. ⌜ BegunAt (now (s .entry)) (beginningWithin in_range least most «kept_evictions» (now (s .entry))) r (now (t .exit)) (now (f .exit)) ⌝ }
 {
     if !function::is_setting(kept_evictions as usize) {
         return Next::Refused(22);
@@ -88,7 +94,16 @@ fn read_beginning_if(
     }
     match job_target::read_target(s, 0, t) {
         Next::Refused(k) => Next::Refused(k),
-        Next::At(next) => read_after_target(s, next, t, f, kept_evictions as u16, in_range),
+        Next::At(next) => read_after_target(
+            s,
+            next,
+            t,
+            f,
+            kept_evictions as u16,
+            in_range,
+            least,
+            most,
+        ),
     }
 }
 
@@ -96,20 +111,38 @@ fn read_beginning_if(
 pub fn read_beginning(kept_evictions: u32, s: &[u8], t: &mut RegInfo, f: &mut Function) -> Next
     ensures { λ r. ⌜ BegunAt (now (s .entry)) (beginning «kept_evictions» (now (s .entry))) r (now (t .exit)) (now (f .exit)) ⌝ }
 {
-    read_beginning_if(true, kept_evictions, s, t, f)
+    read_beginning_if(true, 0, 4096, kept_evictions, s, t, f)
 }
 
-// The target, the function and the patch count, and 19 behind the target unless the prices are in their range.
+// 02 l: the same of a formula in a frame: its N from `least` to `most`, which is tested as it is read.
+pub fn read_beginning_within(
+    least: u32,
+    most: u32,
+    kept_evictions: u32,
+    s: &[u8],
+    t: &mut RegInfo,
+    f: &mut Function,
+) -> Next
+    requires { ⌜ most ≤ 4096 ⌝ }
+    ensures { λ r. ⌜ BegunAt (now (s .entry)) (beginningWithin true least most «kept_evictions» (now (s .entry))) r (now (t .exit)) (now (f .exit)) ⌝ }
+{
+    read_beginning_if(true, least, most, kept_evictions, s, t, f)
+}
+
+// The target, the function, its N from `least` to `most`, and the patch count, and 19 behind the target unless the prices are in their range.
 fn read_opening_if(
     in_range: bool,
+    least: u32,
+    most: u32,
     kept_evictions: u32,
     s: &[u8],
     t: &mut RegInfo,
     f: &mut Function,
 ) -> Number
-    ensures { λ r. ⌜ HeaderAt (now (s .entry)) (openingIf in_range «kept_evictions» (now (s .entry))) r (now (t .exit)) (now (f .exit)) ⌝ }
+    requires { ⌜ most ≤ 4096 ⌝ }
+    ensures { λ r. ⌜ HeaderAt (now (s .entry)) (openingWithin in_range least most «kept_evictions» (now (s .entry))) r (now (t .exit)) (now (f .exit)) ⌝ }
 {
-    match read_beginning_if(in_range, kept_evictions, s, t, f) {
+    match read_beginning_if(in_range, least, most, kept_evictions, s, t, f) {
         Next::Refused(k) => Number::Refused(k),
         Next::At(next) => reading::between(s, next, 1, 1024),
     }
@@ -120,7 +153,22 @@ fn read_opening_if(
 pub fn read_opening(kept_evictions: u32, s: &[u8], t: &mut RegInfo, f: &mut Function) -> Number
     ensures { λ r. ⌜ HeaderAt (now (s .entry)) (opening «kept_evictions» (now (s .entry))) r (now (t .exit)) (now (f .exit)) ⌝ }
 {
-    read_opening_if(true, kept_evictions, s, t, f)
+    read_opening_if(true, 0, 4096, kept_evictions, s, t, f)
+}
+
+// 02 l: the same of a formula in a frame: its N from `least` to `most`, which is tested as it is read.
+pub fn read_opening_within(
+    least: u32,
+    most: u32,
+    kept_evictions: u32,
+    s: &[u8],
+    t: &mut RegInfo,
+    f: &mut Function,
+) -> Number
+    requires { ⌜ most ≤ 4096 ⌝ }
+    ensures { λ r. ⌜ HeaderAt (now (s .entry)) (openingWithin true least most «kept_evictions» (now (s .entry))) r (now (t .exit)) (now (f .exit)) ⌝ }
+{
+    read_opening_if(true, least, most, kept_evictions, s, t, f)
 }
 
 // The same of a target that gives these prices: 19 for one outside its range, after 7 and before the function's first number.
@@ -133,7 +181,7 @@ pub fn read_priced_opening(
 ) -> Number
     ensures { λ r. ⌜ HeaderAt (now (s .entry)) (openingPriced p «kept_evictions» (now (s .entry))) r (now (t .exit)) (now (f .exit)) ⌝ }
 {
-    read_opening_if(price::in_range(p), kept_evictions, s, t, f)
+    read_opening_if(price::in_range(p), 0, 4096, kept_evictions, s, t, f)
 }
 
 // Resolves the patch that the tables hold; the next one stands at `next`.

@@ -7,7 +7,7 @@ use mathlib.Core.Option.{none}
 use native.Mathlib.Omega.{arith}
 use lib.ListN.{length, getD, drop}
 use lib.Dec.{eqb, ltb, leb}
-use borrow.Author.Tests.{ltb-true, le-leb}
+use borrow.Author.Tests.{ltb-true, leb-true, le-leb}
 use Rattle.entity.specs.Logic.{pick, and, or, no, indices}
 use Rattle.entity.proofs.Laws.{and-true}
 use Rattle.reginfo.specs.RegInfo.{RegInfo, numBanks, numClasses, bankForClass}
@@ -22,7 +22,7 @@ use Rattle.reading.specs.Answer.{NextAt}
 use Rattle.reading.specs.declared.Next as X
 use Rattle.reading.specs.declared.Next.{Next}
 use Rattle.job_function.specs.Answer.{FunctionRead}
-use Rattle.job_function.specs.Reads.{rebuilt, value, valued, function, ReadAccepted}
+use Rattle.job_function.specs.Reads.{rebuilt, value, valued, function, functionWithin, ReadWithin, ReadAccepted}
 
 -- ---- what was read, of what its parts read
 pub then-got : {A B : Type 0} (x : Read A) (g : A → List ℕ → Read B) (b : B) (r : List ℕ) → then x g ≡ got b r → (a : A) × (l : List ℕ) × (x ≡ got a l) × (g a l ≡ got b r)
@@ -112,6 +112,58 @@ read-accepted t kept k l f r e =
   where
     high : (m : ℕ) (l : List ℕ) (n : ℕ) (r : List ℕ) → between 0 m l ≡ got n r → leb n m ≡ true
     high m l n r e = and-true (leb 0 n) (leb n m) (tested-got (λ x. and (leb 0 x) (leb x m)) l n r e) .1
+
+-- ---- N within other limits
+tested-other : (ok other : ℕ → Bool) (l : List ℕ) (n : ℕ) (r : List ℕ) → tested ok l ≡ got n r → other n ≡ true → tested other l ≡ got n r
+unfolding tested
+tested-other ok other l n r e h =
+    let p = then-got (number l) (λ n r. pick (ok n) (got n r) (refused 2)) n r e in
+    let q = pick-got (ok (p .0)) (p .0) n (p .1) r 2 (p .3) in
+    let g = p .3 in
+    let o : other (p .0) ≡ true = rw (q .1) h in
+    let w : got (p .0) (p .1) ≡ got n r = rw (q .0) at g in
+    rw (p .2, o) w
+
+valued-slots : (t : RegInfo) (kept n slots limit : ℕ) (l : List ℕ) (f : Function) (r : List ℕ) → valued t kept n slots limit l ≡ got f r → f .slots ≡ slots
+unfolding valued
+valued-slots t kept n slots limit l f r e =
+    let w = then-got (times n (value t) l) (λ vs r. got (record { values = vs; slots = slots; limit = limit; kept = kept }) r) f r e in
+    let g = w .3 in
+    let is : record { values = w .0; slots = slots; limit = limit; kept = kept } ≡ f = cc in
+    sym (ap (λ (x : Function). x .slots) is)
+
+module _ (t : RegInfo) (kept : ℕ) (l : List ℕ) (f : Function) (r : List ℕ) where
+  -- what is read with N tested one way, of an N that passes another test
+  other-test : (ok other : ℕ → Bool) → ((n : ℕ) → ok n ≡ true → f .slots ≡ n → other n ≡ true)
+      → then (between 0 4096 l) (λ n r. then (tested ok r) (λ slots q. then (between 0 2048 q) (λ limit p. valued t kept n slots limit p))) ≡ got f r
+      → (then (between 0 4096 l) (λ n r. then (tested other r) (λ slots q. then (between 0 2048 q) (λ limit p. valued t kept n slots limit p))) ≡ got f r) × (ok (f .slots) ≡ true)
+  other-test ok other h e =
+      let p = then-got (between 0 4096 l) (λ n r. then (tested ok r) (λ slots q. then (between 0 2048 q) (λ limit p. valued t kept n slots limit p))) f r e in
+      let q = then-got (tested ok (p .1)) (λ slots q. then (between 0 2048 q) (λ limit o. valued t kept (p .0) slots limit o)) f r (p .3) in
+      let o = then-got (between 0 2048 (q .1)) (λ limit o. valued t kept (p .0) (q .0) limit o) f r (q .3) in
+      let is = valued-slots t kept (p .0) (q .0) (o .0) (o .1) f r (o .3) in
+      let passes = tested-got ok (p .1) (q .0) (q .1) (q .2) in
+      (rw (p .2, tested-other ok other (p .1) (q .0) (q .1) (q .2) (h (q .0) passes is)) (q .3), rw is passes)
+
+module _ (least most : ℕ) (few : most ≤ 4096) (t : RegInfo) (kept : ℕ) (l : List ℕ) (f : Function) (r : List ℕ) where
+  within-any : functionWithin least most t kept l ≡ got f r → (function t kept l ≡ got f r) × (least ≤ f .slots) × (f .slots ≤ most)
+  unfolding function functionWithin
+  within-any e =
+      let a =
+      other-test t kept l f r (λ x. and (leb least x) (leb x most)) (λ x. and (leb 0 x) (leb x 4096))
+      (λ n h is. let low : leb 0 n ≡ true = le-leb 0 n (omega arith) in rw (low, le-leb n 4096 (omega (arith, leb-true n most (and-true (leb least n) (leb n most) h .1)))) refl) e
+      in
+      let b = and-true (leb least (f .slots)) (leb (f .slots) most) (a .1) in
+      (a .0, leb-true least (f .slots) (b .0), leb-true (f .slots) most (b .1))
+
+  any-within : function t kept l ≡ got f r → least ≤ f .slots → f .slots ≤ most → functionWithin least most t kept l ≡ got f r
+  unfolding function functionWithin
+  any-within e low high =
+      other-test t kept l f r (λ x. and (leb 0 x) (leb x 4096)) (λ x. and (leb least x) (leb x most))
+      (λ n h is. let a : leb least n ≡ true = le-leb least n (omega arith) in let b : leb n most ≡ true = le-leb n most (omega arith) in rw (a, b) refl) e .0
+
+pub read-within : ReadWithin
+read-within least most few t kept l f r = (within-any least most few t kept l f r, λ h. any-within least most few t kept l f r (h .0) (h .1) (h .2))
 
 -- what `read_function` leaves in the table, for whoever reads on
 pub function-next : (t : List ℕ) (kept : ℕ) → isSetting kept ≡ true → (s : List ℕ) (at : ℕ) (f : List ℕ) (r : Next) → FunctionRead t kept s at f r → NextAt (function (regInfoOf t) kept) s at (functionOf f) (Accepted (regInfoOf t) (functionOf f)) r

@@ -17,8 +17,8 @@ use Rattle.reading.specs.declared.Next as X
 use Rattle.reading.specs.declared.Next.{Next}
 use Rattle.reading.proofs.Laws.{number-refused, number-then, part-refused, part-then, done}
 use Rattle.reading.proofs.Lists.{rows-same}
-use Rattle.job_function.specs.Reads.{value, valued, function}
-use Rattle.job_function.specs.Answer.{Onward, FunctionRead, firstValues}
+use Rattle.job_function.specs.Reads.{value, valued, function, functionWithin}
+use Rattle.job_function.specs.Answer.{Onward, FunctionReadWithin, FunctionRead, firstValues}
 
 -- ---- the counts are written where no value stands
 module _ (f : List ℕ) (long : length f ≡ 16388) (kept n slots limit : ℕ) (few : n ≤ 4096) where
@@ -70,35 +70,40 @@ module _ (t : RegInfo) (s : List ℕ) (at kept n slots limit : ℕ) (f : List �
       (λ _. done (whole (firstValues f n)) s next x Unit (λ l. ap (λ (y : Function). got y l) (sym (counted-is f long kept n slots limit few))) tt)
 
 -- ---- the function
-module _ (t : List ℕ) (kept : ℕ) (s : List ℕ) (at : ℕ) (f : List ℕ) where
+module _ (least most : ℕ) (t : List ℕ) (kept : ℕ) (s : List ℕ) (at : ℕ) (f : List ℕ) where
   abbrev limited : ℕ → ℕ → List ℕ → Read Function
   limited n slots q = then (between 0 2048 q) (λ limit p. valued (regInfoOf t) kept n slots limit p)
 
   abbrev slotted : ℕ → List ℕ → Read Function
-  slotted n r = then (between 0 4096 r) (λ slots q. limited n slots q)
+  slotted n r = then (between least most r) (λ slots q. limited n slots q)
 
-  pub no-count : (k : ℕ) → ReadAt (between 0 4096) s at (N.the-variants.Refused k) → FunctionRead t kept s at f (X.the-variants.Refused k)
-  unfolding function
+  pub no-count : (k : ℕ) → ReadAt (between 0 4096) s at (N.the-variants.Refused k) → FunctionReadWithin least most t kept s at f (X.the-variants.Refused k)
+  unfolding functionWithin
   no-count k h = record { reads = rw (← h .reads); onward = tt }
 
   module _ (n a : ℕ) (h : ReadAt (between 0 4096) s at (N.the-variants.Is n a)) where
-    count-then : (r : Next) → NextAt (slotted n) s a (functionOf f) Unit r → FunctionRead t kept s at f r
-    unfolding function
+    count-then : (r : Next) → NextAt (slotted n) s a (functionOf f) Unit r → FunctionReadWithin least most t kept s at f r
+    unfolding functionWithin
     count-then r g = record { reads = rw (← h .reads) (g .reads); onward = on r (g .past) }
       where
         on : (r : Next) → Past s a Unit r → Onward s at r
         on (X.the-variants.At next) p = (omega (arith, h .onward .0, p .0), p .1 (h .onward .1))
         on (X.the-variants.Refused k) p = tt
 
-    pub no-slots : (k : ℕ) → ReadAt (between 0 4096) s a (N.the-variants.Refused k) → FunctionRead t kept s at f (X.the-variants.Refused k)
-    no-slots k g = count-then (X.the-variants.Refused k) (number-refused (between 0 4096) (limited n) s a (functionOf f) Unit k g)
+    pub no-slots : (k : ℕ) → ReadAt (between least most) s a (N.the-variants.Refused k) → FunctionReadWithin least most t kept s at f (X.the-variants.Refused k)
+    no-slots k g = count-then (X.the-variants.Refused k) (number-refused (between least most) (limited n) s a (functionOf f) Unit k g)
 
-    module _ (slots b : ℕ) (g : ReadAt (between 0 4096) s a (N.the-variants.Is slots b)) where
-      slots-then : (r : Next) → NextAt (limited n slots) s b (functionOf f) Unit r → FunctionRead t kept s at f r
-      slots-then r i = count-then r (number-then (between 0 4096) (limited n) s a (functionOf f) Unit slots b r g i)
+    module _ (slots b : ℕ) (g : ReadAt (between least most) s a (N.the-variants.Is slots b)) where
+      slots-then : (r : Next) → NextAt (limited n slots) s b (functionOf f) Unit r → FunctionReadWithin least most t kept s at f r
+      slots-then r i = count-then r (number-then (between least most) (limited n) s a (functionOf f) Unit slots b r g i)
 
-      pub no-limit : (k : ℕ) → ReadAt (between 0 2048) s b (N.the-variants.Refused k) → FunctionRead t kept s at f (X.the-variants.Refused k)
+      pub no-limit : (k : ℕ) → ReadAt (between 0 2048) s b (N.the-variants.Refused k) → FunctionReadWithin least most t kept s at f (X.the-variants.Refused k)
       no-limit k i = slots-then (X.the-variants.Refused k) (number-refused (between 0 2048) (valued (regInfoOf t) kept n slots) s b (functionOf f) Unit k i)
 
-      pub then-values : (limit c : ℕ) → ReadAt (between 0 2048) s b (N.the-variants.Is limit c) → (r : Next) → NextAt (valued (regInfoOf t) kept n slots limit) s c (functionOf f) Unit r → FunctionRead t kept s at f r
+      pub then-values : (limit c : ℕ) → ReadAt (between 0 2048) s b (N.the-variants.Is limit c) → (r : Next) → NextAt (valued (regInfoOf t) kept n slots limit) s c (functionOf f) Unit r → FunctionReadWithin least most t kept s at f r
       then-values limit c i r j = slots-then r (number-then (between 0 2048) (valued (regInfoOf t) kept n slots) s b (functionOf f) Unit limit c r i j)
+
+-- N from 0 to 4,096 is no other test than a function's own
+pub any-slots : (t : List ℕ) (kept : ℕ) (s : List ℕ) (at : ℕ) (f : List ℕ) (r : Next) → FunctionReadWithin 0 4096 t kept s at f r → FunctionRead t kept s at f r
+unfolding function functionWithin
+any-slots t kept s at f r h = record { reads = h .reads; onward = h .onward }

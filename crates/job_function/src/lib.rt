@@ -19,7 +19,7 @@ ghost use Rattle.function.specs.Table.{functionOf};
 ghost use Rattle.reading.specs.Reading.{times};
 ghost use Rattle.reading.specs.Answer.{NextAt};
 ghost use Rattle.job_function.specs.Reads.{rebuilt, value, valued};
-ghost use Rattle.job_function.specs.Answer.{FunctionRead, RowRead, firstValues};
+ghost use Rattle.job_function.specs.Answer.{FunctionReadWithin, FunctionRead, RowRead, firstValues};
 
 // A value's bank, rebuild code and class, with the next offset, or the number of 01's refused jobs.
 enum Row {
@@ -120,14 +120,22 @@ fn read_valued(
     }
 }
 
-// Reads a function over an accepted target; `kept` is its number of kept evictions.
-pub fn read_function(t: &RegInfo, s: &[u8], at: usize, f: &mut Function, kept: u16) -> Next
-    requires { ⌜ Accepted (regInfoOf (now t)) ⌝ }
-    ensures { λ r. ⌜ FunctionRead (now (t .entry)) kept (now (s .entry)) at (now (f .exit)) r ⌝ }
+// Reads a function over an accepted target, its N from `least` to `most`, which is tested as it is read; `kept` is its number of kept evictions.
+pub fn read_function_within(
+    least: u32,
+    most: u32,
+    t: &RegInfo,
+    s: &[u8],
+    at: usize,
+    f: &mut Function,
+    kept: u16,
+) -> Next
+    requires { ⌜ Accepted (regInfoOf (now t)) × (most ≤ 4096) ⌝ }
+    ensures { λ r. ⌜ FunctionReadWithin least most (now (t .entry)) kept (now (s .entry)) at (now (f .exit)) r ⌝ }
 {
     match between(s, at, 0, 4096) {
         Number::Refused(k) => Next::Refused(k),
-        Number::Is(n, a) => match between(s, a, 0, 4096) {
+        Number::Is(n, a) => match between(s, a, least, most) {
             Number::Refused(k) => Next::Refused(k),
             Number::Is(slots, b) => match between(s, b, 0, 2048) {
                 Number::Refused(k) => Next::Refused(k),
@@ -144,4 +152,12 @@ pub fn read_function(t: &RegInfo, s: &[u8], at: usize, f: &mut Function, kept: u
             },
         },
     }
+}
+
+// Reads a function over an accepted target; `kept` is its number of kept evictions.
+pub fn read_function(t: &RegInfo, s: &[u8], at: usize, f: &mut Function, kept: u16) -> Next
+    requires { ⌜ Accepted (regInfoOf (now t)) ⌝ }
+    ensures { λ r. ⌜ FunctionRead (now (t .entry)) kept (now (s .entry)) at (now (f .exit)) r ⌝ }
+{
+    read_function_within(0, 4096, t, s, at, f, kept)
 }

@@ -20,10 +20,10 @@ between-requires : tie.Need-between-requires
 between-requires c κs = search needs
 
 returns : tie.Need-returns
-returns c = opening-refused _ _ _ _ _ _ (rw (c .before .k .given .1) at (c .before .before .before .read-beginning-if .ensures))
+returns c = opening-refused _ _ _ _ _ _ _ _ (rw (c .before .k .given .1) at (c .before .before .before .read-beginning-if .ensures))
 
 returns-2 : tie.Need-returns-2
-returns-2 c = opening-read _ _ _ _ _ _ (c .between .result) (rw (c .before .before .next .given .1) at (c .before .before .before .before .read-beginning-if .ensures)) (c .between .ensures)
+returns-2 c = opening-read _ _ _ _ _ _ _ _ (c .between .result) (rw (c .before .before .next .given .1) at (c .before .before .before .before .read-beginning-if .ensures)) (c .between .ensures)
 
 pub read-opening-if-spec : {M : Type 1} → statement M
 read-opening-if-spec =
