@@ -37,7 +37,7 @@ use Rattle.group_rules.proofs.Parts.{lab, Own, sep, covers, once, split
 use Rattle.group_rules.proofs.Running.{extended, take-short, take-long, take-all, steps-then, steps-extended, Clear, unmoved}
 
 -- ---- the entries chosen
-chosen-from : (q : ℕ → Bool) (ls : List ℕ) (es : List Entry) (e : Entry) → List·Memᴰ e (chosen q ls es) → (i : ℕ) × (i < length es) × (q (getD ls i 0) ≡ true) × (getD es i noEntry ≡ e)
+pub chosen-from : (q : ℕ → Bool) (ls : List ℕ) (es : List Entry) (e : Entry) → List·Memᴰ e (chosen q ls es) → (i : ℕ) × (i < length es) × (q (getD ls i 0) ≡ true) × (getD es i noEntry ≡ e)
 unfolding chosen
 chosen-from q [] es e m = absurd (List·Memᴰ·not-nil m)
 chosen-from q (x ∷ ls) [] e m = absurd (List·Memᴰ·not-nil m)

@@ -27,10 +27,10 @@ length-end [] x = refl
 length-end (y ∷ l) x = ap suc (length-end l x)
 
 -- what becomes of a label where a and b become one
-abbrev now : ℕ → ℕ → ℕ → ℕ
+abbrev pub now : ℕ → ℕ → ℕ → ℕ
 now a b x = pick (or (eqb x a) (eqb x b)) (pick (ltb a b) a b) x
 
-abbrev least : ℕ → ℕ → ℕ
+abbrev pub least : ℕ → ℕ → ℕ
 least a b = pick (ltb a b) a b
 
 pub record IsLeast (a b m : ℕ) : Type 0 where
@@ -38,7 +38,7 @@ pub record IsLeast (a b m : ℕ) : Type 0 where
   pub right : m ≤ b
   pub one : (m ≡ a) ⊎ (m ≡ b)
 
-least-is : (a b : ℕ) → IsLeast a b (least a b)
+pub least-is : (a b : ℕ) → IsLeast a b (least a b)
 least-is a b = go (ltb a b) refl
   where
     go : (t : Bool) → ltb a b ≡ t → IsLeast a b (pick t a b)
@@ -46,10 +46,10 @@ least-is a b = go (ltb a b) refl
     go false e = let h = ltb-false a b e in record { left = omega arith; right = omega arith; one = inr refl }
 
 -- it is one of the two, or it stays
-abbrev Moved : ℕ → ℕ → ℕ → Type 0
+abbrev pub Moved : ℕ → ℕ → ℕ → Type 0
 Moved a b x = (((x ≡ a) ⊎ (x ≡ b)) × (now a b x ≡ least a b)) ⊎ ((x ≡ a → ⊥) × (x ≡ b → ⊥) × (now a b x ≡ x))
 
-moved : (a b x : ℕ) → Moved a b x
+pub moved : (a b x : ℕ) → Moved a b x
 moved a b x = go (eqb x a) (eqb x b) refl refl
   where
     go : (p q : Bool) → eqb x a ≡ p → eqb x b ≡ q → Moved a b x
@@ -57,10 +57,10 @@ moved a b x = go (eqb x a) (eqb x b) refl refl
     go false true e k = inl (inr (eqb-true x b k), rw (e, k))
     go false false e k = inr (eqb-false x a e, eqb-false x b k, rw (e, k))
 
-at-left : (a b : ℕ) → now a b a ≡ least a b
+pub at-left : (a b : ℕ) → now a b a ≡ least a b
 at-left a b = rw (eq-eqb a a refl)
 
-at-right : (a b : ℕ) → now a b b ≡ least a b
+pub at-right : (a b : ℕ) → now a b b ≡ least a b
 at-right a b = go (moved a b b)
   where
     go : Moved a b b → now a b b ≡ least a b
@@ -89,11 +89,11 @@ module _ {A : Type 0} (near : A → A → Bool) (swaps : Symmetric near) (d : A)
   together-more l m _ _ (chain i k j x y) = chain i k j (together-more l m i k x) (together-more l m k j y)
 
   -- equal labels are together; each is the first's
-  record Good (l : List A) (ls : List ℕ) : Type 0 where
-    each : length ls ≡ length l
-    sound : (i j : ℕ) → i < length l → j < length l → getD ls i 0 ≡ getD ls j 0 → Together near d l i j
-    first : (i : ℕ) → i < length l → getD ls i 0 ≤ i
-    named : (i : ℕ) → i < length l → getD ls (getD ls i 0) 0 ≡ getD ls i 0
+  pub record Good (l : List A) (ls : List ℕ) : Type 0 where
+    pub each : length ls ≡ length l
+    pub sound : (i j : ℕ) → i < length l → j < length l → getD ls i 0 ≡ getD ls j 0 → Together near d l i j
+    pub first : (i : ℕ) → i < length l → getD ls i 0 ≤ i
+    pub named : (i : ℕ) → i < length l → getD ls (getD ls i 0) 0 ≡ getD ls i 0
 
   -- the labels of two that are together become one
   module _ (l : List A) (ls : List ℕ) (g : Good l ls) (i k : ℕ) (il : i < length l) (kl : k < length l) (tg : Together near d l i k) where
@@ -209,7 +209,7 @@ module _ {A : Type 0} (near : A → A → Bool) (swaps : Symmetric near) (d : A)
             ap (λ (z : ℕ). getD (joinAll near n e (i + 1) m (pick (near x e) (join (getD ls i 0) (getD ls n 0) ls) ls)) z 0) (omega arith) ∙ r .joins j (omega arith) q
 
   -- all that are near are labelled alike
-  abbrev Closed : List A → List ℕ → Type 0
+  abbrev pub Closed : List A → List ℕ → Type 0
   Closed l ls = (i j : ℕ) → i < length l → j < length l → near (getD l i d) (getD l j d) ≡ true → getD ls i 0 ≡ getD ls j 0
 
   -- the new one, labelled by its own number
@@ -293,10 +293,23 @@ module _ {A : Type 0} (near : A → A → Bool) (swaps : Symmetric near) (d : A)
       rw (sym (append-assoc before (e ∷ []) l))
       (from (before ++ (e ∷ [])) (grown before ls e g) l (grown-joined before ls e g .good) (λ i j a b. grown-closed before ls e g c i j (place before ls e g i a) (place before ls e g j b)))
 
-  closed-together : (l : List A) (ls : List ℕ) → Closed l ls → (i j : ℕ) → Together near d l i j → getD ls i 0 ≡ getD ls j 0
+  -- for code that joins labels by links of its own
+  pub record JoinedTwo (l : List A) (ls ls′ : List ℕ) (i k : ℕ) : Type 0 where
+    pub good : Good l ls′
+    pub keeps : (x y : ℕ) → x < length l → y < length l → getD ls x 0 ≡ getD ls y 0 → getD ls′ x 0 ≡ getD ls′ y 0
+    pub joins : getD ls′ i 0 ≡ getD ls′ k 0
+
+  pub joined-two : (l : List A) (ls : List ℕ) (i k : ℕ) → Good l ls → i < length l → k < length l → Together near d l i k → JoinedTwo l ls (join (getD ls i 0) (getD ls k 0) ls) i k
+  unfolding a b
+  joined-two l ls i k g il kl tg = record { good = join-good l ls g i k il kl tg; keeps = join-keeps l ls g i k il kl tg; joins = join-joins l ls g i k il kl tg }
+
+  pub closed-together : (l : List A) (ls : List ℕ) → Closed l ls → (i j : ℕ) → Together near d l i j → getD ls i 0 ≡ getD ls j 0
   closed-together l ls c _ _ (self i) = refl
   closed-together l ls c _ _ (link i j a b e) = c i j a b e
   closed-together l ls c _ _ (chain i k j x y) = closed-together l ls c i k x ∙ closed-together l ls c k j y
+
+pub good-labelled : {A : Type 0} (near : A → A → Bool) (swaps : Symmetric near) (d : A) (l : List A) (ls : List ℕ) → Good near swaps d l ls → Closed near swaps d l ls → Labelled near d l ls
+good-labelled near swaps d l ls g c = record { each = g .each; together = λ i j a b. (g .sound i j a b, closed-together near swaps d l ls c i j); first = g .first; named = g .named }
 
 pub labelled : AllLabelled
 unfolding labels

@@ -44,7 +44,7 @@ module _ (t : RegInfo) (f : Function) where
   unfolding patchConditions rematClass
   patch-same l p room a = refl
 
-  whole-same : (l : ℕ) (p : Patch) (room : ℕ) → wholeConditions t (W l) p room ≡ wholeConditions t f p room
+  pub whole-same : (l : ℕ) (p : Patch) (room : ℕ) → wholeConditions t (W l) p room ≡ wholeConditions t f p room
   whole-same l p room = rw (entries-same l (p .entries) nothingSorted, ← sorted-same t f l (p .entries) nothingSorted, patch-same l p room (sorted t f p)) refl
 
   -- slots made by one call

@@ -1,0 +1,5 @@
+pub mod Noting
+pub mod Entries
+pub mod Tables
+pub mod Free
+pub mod Chain

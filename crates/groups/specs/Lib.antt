@@ -1,0 +1,4 @@
+pub mod Given
+pub mod Noting
+pub mod Linked
+pub mod Free
