@@ -34,14 +34,14 @@ use Rattle.examine_rules.proofs.Given.{targetOk, apart-of, low, narrow,
 use Rattle.examine_rules.proofs.Simulation.{Image, write-image}
 
 -- ---- tests
-or-left : (a b : Bool) → a ≡ true → or a b ≡ true
+pub or-left : (a b : Bool) → a ≡ true → or a b ≡ true
 or-left a b h = rw h
 
-or-right : (a b : Bool) → b ≡ true → or a b ≡ true
+pub or-right : (a b : Bool) → b ≡ true → or a b ≡ true
 or-right true b h = refl
 or-right false b h = h
 
-or-either : (a b : Bool) → or a b ≡ true → (a ≡ true) ⊎ (b ≡ true)
+pub or-either : (a b : Bool) → or a b ≡ true → (a ≡ true) ⊎ (b ≡ true)
 or-either true b h = inl refl
 or-either false b h = inr h
 
@@ -94,11 +94,14 @@ number-found (x ∷ ls) (m ∷ l) v (suc i) e h k = go (eqb (m .value) v) refl (
     go true q w = (0, omega arith, eqb-true (m .value) v q, refl)
     go false q w = (suc (w .0), omega (arith, w .1), w .2, w .3)
 
-number-other : (ls : List ℕ) (l : List KeptMove) (v : ℕ) → any (λ (m : KeptMove). eqb (m .value) v) l ≡ false → numberIn ls l v ≡ 128 + v
+pub number-other : (ls : List ℕ) (l : List KeptMove) (v : ℕ) → any (λ (m : KeptMove). eqb (m .value) v) l ≡ false → numberIn ls l v ≡ 128 + v
 unfolding numberIn any
 number-other ls [] v h = refl
 number-other [] (m ∷ l) v h = refl
 number-other (x ∷ ls) (m ∷ l) v h = let q = or-false (eqb (m .value) v) (any (λ (m : KeptMove). eqb (m .value) v) l) h in rw (q .0) (number-other ls l v (q .1))
+
+pub tied-comm : (x y : KeptMove) → tied x y ≡ tied y x
+tied-comm x y = ap₂ or (same-comm (x .source) (y .source)) (eqb-comm (x .value) (y .value))
 
 module _ (ms : List KeptMove) where
   abbrev kept : ℕ → KeptMove
@@ -107,13 +110,13 @@ module _ (ms : List KeptMove) where
   abbrev label : ℕ → ℕ
   label i = getD (labels tied ms) i 0
 
-  lab : Labelled tied noMove ms (labels tied ms)
-  lab = labelled KeptMove tied (λ x y. ap₂ or (same-comm (x .source) (y .source)) (eqb-comm (x .value) (y .value))) noMove ms
+  pub lab : Labelled tied noMove ms (labels tied ms)
+  lab = labelled KeptMove tied tied-comm noMove ms
 
   label-tied : (i j : ℕ) → i < length ms → j < length ms → tied (kept i) (kept j) ≡ true → label i ≡ label j
   label-tied i j h k e = lab .together i j h k .1 (link i j h k e)
 
-  number-kept : (i : ℕ) → i < length ms → numberOf ms (kept i .value) ≡ label i
+  pub number-kept : (i : ℕ) → i < length ms → numberOf ms (kept i .value) ≡ label i
   number-kept i h =
       let w = number-found (labels tied ms) ms (kept i .value) i (lab .each) h refl in
       w .3 ∙ label-tied (w .0) i (w .1) h (or-right (samePlace (kept (w .0) .source) (kept i .source)) (eqb (kept (w .0) .value) (kept i .value)) (eq-eqb _ _ (w .2)))
