@@ -5,6 +5,13 @@
  *   parallel_moves_open_in with a target and a function, then
  *   parallel_moves_resolve_in with each patch, and parallel_moves_slots_made;
  *   before them, for whoever lays out the frame, parallel_moves_enough_slots_in;
+ * - libasking_c.a, which `rt staticlib asking_c` builds, beside libcalls_c.a, for a
+ *   patch asked for before one settles on it: parallel_moves_ask_in, and
+ *   parallel_moves_take_in;
+ * - libgroups_c.a, which `rt staticlib groups_c` builds, beside libcalls_c.a, for a
+ *   patch resolved by groups: parallel_moves_resolve_groups_in;
+ * - libframe_c.a, which `rt staticlib frame_c` builds, for formulas that share a
+ *   frame: parallel_moves_frame_open, and what stands behind it;
  * - libparallel_moves_c.a, which `rt staticlib parallel_moves_c` builds, for a
  *   whole job as bytes: parallel_moves_answer_in, and parallel_moves_text;
  * - libjob_writer_c.a, which `rt staticlib job_writer_c` builds, for the bytes of a
@@ -14,6 +21,8 @@
  *   lists, parallel_moves_cheaper_list;
  * - libtrying_c.a, which `rt staticlib trying_c` builds, for both settings tried on
  *   patches that are drawn: parallel_moves_try_in.
+ * - libexamine_c.a, which `rt staticlib examine_c` builds, for lists of edits examined:
+ *   parallel_moves_examine.
  * c/stamp writes parallel_moves_build.h beside them, which says which build they
  * are. docs/JOB.md has the format of a job, and every refusal with its cause and
  * cure.
@@ -30,6 +39,8 @@
  * - a patch is given with the target, function and cache that
  *   parallel_moves_open left when it answered 0, and nothing else writes these
  *   from then on. Else it does not matter what the tables hold;
+ * - an answer is taken as parallel_moves_ask left it, with the cache that it was
+ *   asked for on;
  * - 64 KiB of stack are left.
  * The library is for x86-64 Linux.
  */
@@ -94,10 +105,18 @@
 #define PARALLEL_MOVES_WRITERS 6657
 #define PARALLEL_MOVES_EDITS 1025
 #define PARALLEL_MOVES_SLOTS 32835
+#define PARALLEL_MOVES_FRAME 36
 #define PARALLEL_MOVES_DIVERTED 12288
 #define PARALLEL_MOVES_MARKS 129
 #define PARALLEL_MOVES_CARRIED 2049
+/* By groups. */
+#define PARALLEL_MOVES_OWNERS 4608
+#define PARALLEL_MOVES_LABELS 128
+#define PARALLEL_MOVES_JOINED 1024
 #define PARALLEL_MOVES_TALLY 263
+#define PARALLEL_MOVES_TIES 12416
+#define PARALLEL_MOVES_CELLS 67072
+#define PARALLEL_MOVES_WORDS 10
 
 #ifdef __cplusplus
 extern "C" {
@@ -163,6 +182,181 @@ size_t parallel_moves_resolve(
     uint8_t marks[PARALLEL_MOVES_MARKS],
     uint16_t carried[PARALLEL_MOVES_CARRIED])
     PARALLEL_MOVES_SYMBOL("parallel_moves_resolve");
+
+/* Asks for a patch of an opened function, given as to parallel_moves_resolve, and
+ * changes no cache: it returns and sets what parallel_moves_resolve would, and the
+ * edits stand at the front of `list`. Where it is not refused, *made is set to how many
+ * emergency slots the function has once the answer is taken, and *stamp to what tells
+ * later whether it still can be. To take it, keep *made, *stamp and the table `slots`,
+ * which is this answer's own until then: give each asking another. The list is read no
+ * more. Refused, it leaves nothing to take: *made, *position, *stamp and list are as
+ * they were, and `slots` holds anything. */
+size_t parallel_moves_ask(
+    const uint16_t target[PARALLEL_MOVES_TARGET],
+    const uint16_t function[PARALLEL_MOVES_FUNCTION],
+    const uint32_t *free_units, size_t free_units_length,
+    const uint32_t *numbers, size_t numbers_length,
+    const uint16_t cache[PARALLEL_MOVES_CACHE],
+    uint64_t *list, size_t list_length,
+    uint8_t *refusal,
+    uint16_t *made,
+    uint16_t *position,
+    uint64_t *stamp,
+    uint16_t entries[PARALLEL_MOVES_ENTRIES],
+    uint16_t writers[PARALLEL_MOVES_WRITERS],
+    bool available[PARALLEL_MOVES_UNITS],
+    bool sources[PARALLEL_MOVES_UNITS],
+    uint64_t edits[PARALLEL_MOVES_EDITS],
+    uint16_t slots[PARALLEL_MOVES_SLOTS],
+    uint16_t diverted[PARALLEL_MOVES_DIVERTED],
+    uint8_t marks[PARALLEL_MOVES_MARKS],
+    uint16_t carried[PARALLEL_MOVES_CARRIED])
+    PARALLEL_MOVES_SYMBOL("parallel_moves_ask");
+
+/* Takes what was asked for: the cache becomes what resolving the patch would have made
+ * it. `made`, `stamp` and `slots` are as the asking left them, and `cache` is the one
+ * that it was asked for on. Returns 0; or 20, the cache as it was, where that cache has
+ * taken an answer or resolved a patch since the asking. Of askings and takes this is
+ * promised while a cache has taken or resolved fewer than 2^64 patches. */
+PARALLEL_MOVES_LOOK_AT_IT uint8_t parallel_moves_take(
+    uint16_t made,
+    uint64_t stamp,
+    const uint16_t slots[PARALLEL_MOVES_SLOTS],
+    uint16_t cache[PARALLEL_MOVES_CACHE])
+    PARALLEL_MOVES_SYMBOL("parallel_moves_take");
+
+/* Resolves a patch of an opened function by groups, given as to parallel_moves_resolve:
+ * it returns and sets what parallel_moves_resolve does. Entries belong together if a
+ * unit of one's source or destination is in the other's, or others link them in a
+ * chain; groups go in the order of their first entry, each as a patch of its entries
+ * alone, whose free units are those that no source of another group has. The whole
+ * patch is tested first; a 17 in one refuses all, and list and cache are as they were.
+ * For askings and takes it is one patch. */
+size_t parallel_moves_resolve_groups(
+    const uint16_t target[PARALLEL_MOVES_TARGET],
+    const uint16_t function[PARALLEL_MOVES_FUNCTION],
+    const uint32_t *free_units, size_t free_units_length,
+    const uint32_t *numbers, size_t numbers_length,
+    uint16_t cache[PARALLEL_MOVES_CACHE],
+    uint64_t *list, size_t list_length,
+    uint8_t *refusal,
+    uint16_t *position,
+    bool units[PARALLEL_MOVES_UNITS],
+    uint16_t entries[PARALLEL_MOVES_ENTRIES],
+    uint16_t writers[PARALLEL_MOVES_WRITERS],
+    bool available[PARALLEL_MOVES_UNITS],
+    bool sources[PARALLEL_MOVES_UNITS],
+    uint64_t edits[PARALLEL_MOVES_EDITS],
+    uint16_t slots[PARALLEL_MOVES_SLOTS],
+    uint16_t diverted[PARALLEL_MOVES_DIVERTED],
+    uint8_t marks[PARALLEL_MOVES_MARKS],
+    uint16_t carried[PARALLEL_MOVES_CARRIED],
+    uint8_t owners[PARALLEL_MOVES_OWNERS],
+    uint8_t labels[PARALLEL_MOVES_LABELS],
+    uint8_t next[PARALLEL_MOVES_LABELS],
+    bool common[PARALLEL_MOVES_UNITS],
+    uint16_t work[PARALLEL_MOVES_CACHE],
+    uint64_t joined[PARALLEL_MOVES_JOINED])
+    PARALLEL_MOVES_SYMBOL("parallel_moves_resolve_groups");
+
+/* Opens a frame that 1 to 16 formulas share, with a limit of at most 2,048 emergency
+ * slots for all and each one's promised share of them. Returns 0; or, the frame as it
+ * was, 2 for another number of formulas or a higher limit, then 23 for shares that add
+ * up to more than the limit. A formula may make a slot while it is below its share, or
+ * while all slots made plus what the others still lack of their shares are below the
+ * limit; else its patch is refused with 17. Slot numbers come from one counter. */
+PARALLEL_MOVES_LOOK_AT_IT uint8_t parallel_moves_frame_open(
+    uint16_t frame[PARALLEL_MOVES_FRAME],
+    uint32_t limit,
+    const uint32_t *shares, size_t shares_length)
+    PARALLEL_MOVES_SYMBOL("parallel_moves_frame_open");
+
+/* Opens a formula of an opened frame, number 0 first, with tables of its own; the bytes
+ * are as for parallel_moves_open, and their L is read but not used. Returns 0 or the
+ * refusal's number, the frame and the cache then as they were: another N than the first
+ * formula's is 2, when it is read. */
+PARALLEL_MOVES_LOOK_AT_IT uint8_t parallel_moves_frame_formula(
+    uint16_t frame[PARALLEL_MOVES_FRAME],
+    size_t formula,
+    uint32_t kept_evictions,
+    const uint8_t *bytes, size_t bytes_length,
+    uint16_t target[PARALLEL_MOVES_TARGET],
+    uint16_t function[PARALLEL_MOVES_FUNCTION],
+    uint16_t cache[PARALLEL_MOVES_CACHE])
+    PARALLEL_MOVES_SYMBOL("parallel_moves_frame_formula");
+
+/* Resolves a patch of a formula as parallel_moves_resolve does. The formula's number is
+ * below the number of shares; its tables are those that it was opened with, and the
+ * frame is as the last call of any formula left it. */
+size_t parallel_moves_frame_resolve(
+    uint16_t frame[PARALLEL_MOVES_FRAME],
+    size_t formula,
+    const uint16_t target[PARALLEL_MOVES_TARGET],
+    const uint16_t function[PARALLEL_MOVES_FUNCTION],
+    const uint32_t *free_units, size_t free_units_length,
+    const uint32_t *numbers, size_t numbers_length,
+    uint16_t cache[PARALLEL_MOVES_CACHE],
+    uint64_t *list, size_t list_length,
+    uint8_t *refusal,
+    uint16_t *position,
+    uint16_t entries[PARALLEL_MOVES_ENTRIES],
+    uint16_t writers[PARALLEL_MOVES_WRITERS],
+    bool available[PARALLEL_MOVES_UNITS],
+    bool sources[PARALLEL_MOVES_UNITS],
+    uint64_t edits[PARALLEL_MOVES_EDITS],
+    uint16_t slots[PARALLEL_MOVES_SLOTS],
+    uint16_t diverted[PARALLEL_MOVES_DIVERTED],
+    uint8_t marks[PARALLEL_MOVES_MARKS],
+    uint16_t carried[PARALLEL_MOVES_CARRIED])
+    PARALLEL_MOVES_SYMBOL("parallel_moves_frame_resolve");
+
+/* Asks for a patch of a formula as parallel_moves_ask does, and changes neither frame
+ * nor cache. *made is how many slots the formula itself has made once the answer is
+ * taken. To take it, keep *to, *stamp, *counter and the table `slots`. */
+size_t parallel_moves_frame_ask(
+    const uint16_t frame[PARALLEL_MOVES_FRAME],
+    size_t formula,
+    const uint16_t target[PARALLEL_MOVES_TARGET],
+    const uint16_t function[PARALLEL_MOVES_FUNCTION],
+    const uint32_t *free_units, size_t free_units_length,
+    const uint32_t *numbers, size_t numbers_length,
+    const uint16_t cache[PARALLEL_MOVES_CACHE],
+    uint64_t *list, size_t list_length,
+    uint8_t *refusal,
+    uint16_t *to,
+    uint16_t *made,
+    uint16_t *position,
+    uint64_t *stamp,
+    uint16_t *counter,
+    uint16_t entries[PARALLEL_MOVES_ENTRIES],
+    uint16_t writers[PARALLEL_MOVES_WRITERS],
+    bool available[PARALLEL_MOVES_UNITS],
+    bool sources[PARALLEL_MOVES_UNITS],
+    uint64_t edits[PARALLEL_MOVES_EDITS],
+    uint16_t slots[PARALLEL_MOVES_SLOTS],
+    uint16_t diverted[PARALLEL_MOVES_DIVERTED],
+    uint8_t marks[PARALLEL_MOVES_MARKS],
+    uint16_t carried[PARALLEL_MOVES_CARRIED])
+    PARALLEL_MOVES_SYMBOL("parallel_moves_frame_ask");
+
+/* Takes what a formula asked for. Returns 0; or 20, frame and cache as they were, where
+ * the formula has taken an answer or resolved a patch since the asking, or another
+ * formula made a slot. */
+PARALLEL_MOVES_LOOK_AT_IT uint8_t parallel_moves_frame_take(
+    uint16_t frame[PARALLEL_MOVES_FRAME],
+    size_t formula,
+    uint16_t to,
+    uint64_t stamp,
+    uint16_t counter,
+    const uint16_t slots[PARALLEL_MOVES_SLOTS],
+    uint16_t cache[PARALLEL_MOVES_CACHE])
+    PARALLEL_MOVES_SYMBOL("parallel_moves_frame_take");
+
+/* How many emergency slots a formula, below 16, has made. */
+uint16_t parallel_moves_frame_made(
+    const uint16_t frame[PARALLEL_MOVES_FRAME],
+    size_t formula)
+    PARALLEL_MOVES_SYMBOL("parallel_moves_frame_made");
 
 /* How many emergency slots an opened function has so far. docs/JOB.md says how
  * large each is. */
@@ -336,6 +530,75 @@ static inline size_t parallel_moves_answer_in(
         memory->free_units, memory->entries, memory->writers,
         memory->available, memory->sources, memory->edits, memory->slots,
         memory->diverted, memory->marks, memory->carried);
+}
+
+/* What parallel_moves_resolve_groups_in works in beside the memory. What it held does not
+ * matter. */
+struct parallel_moves_groups {
+    uint64_t joined[PARALLEL_MOVES_JOINED];
+    uint16_t work[PARALLEL_MOVES_CACHE];
+    uint8_t owners[PARALLEL_MOVES_OWNERS];
+    uint8_t labels[PARALLEL_MOVES_LABELS];
+    uint8_t next[PARALLEL_MOVES_LABELS];
+    bool common[PARALLEL_MOVES_UNITS];
+};
+
+/* parallel_moves_resolve_groups in memory that parallel_moves_open_in opened. */
+static inline size_t parallel_moves_resolve_groups_in(
+    struct parallel_moves_memory *memory, struct parallel_moves_groups *groups,
+    const uint32_t *free_units, size_t free_units_length,
+    const uint32_t *numbers, size_t numbers_length,
+    uint64_t *list, size_t list_length,
+    uint8_t *refusal)
+{
+    return parallel_moves_resolve_groups(
+        memory->target, memory->function, free_units, free_units_length, numbers,
+        numbers_length, memory->cache, list, list_length, refusal, &memory->position,
+        memory->free_units, memory->entries, memory->writers, memory->available,
+        memory->sources, memory->edits, memory->slots, memory->diverted, memory->marks,
+        memory->carried, groups->owners, groups->labels, groups->next, groups->common,
+        groups->work, groups->joined);
+}
+
+/* What an asking leaves to take, about 64 KiB: one for each answer. */
+struct parallel_moves_preview {
+    uint16_t slots[PARALLEL_MOVES_SLOTS];
+    uint16_t made;
+    uint16_t position;
+    uint64_t stamp;
+};
+
+/* parallel_moves_ask of the function that is open in `memory`. Where it is not refused,
+ * `preview` has what is to take, and tells the slots made and the position. */
+static inline size_t parallel_moves_ask_in(
+    struct parallel_moves_memory *memory,
+    const uint32_t *free_units, size_t free_units_length,
+    const uint32_t *numbers, size_t numbers_length,
+    uint64_t *list, size_t list_length,
+    uint8_t *refusal,
+    struct parallel_moves_preview *preview)
+{
+    return parallel_moves_ask(
+        memory->target, memory->function, free_units, free_units_length,
+        numbers, numbers_length, memory->cache, list, list_length, refusal,
+        &preview->made, &preview->position, &preview->stamp,
+        memory->entries, memory->writers, memory->available, memory->sources,
+        memory->edits, preview->slots, memory->diverted, memory->marks,
+        memory->carried);
+}
+
+/* parallel_moves_take of a preview that was asked for in `memory`; taken, it sets
+ * memory->position. */
+PARALLEL_MOVES_LOOK_AT_IT static inline uint8_t parallel_moves_take_in(
+    struct parallel_moves_memory *memory,
+    const struct parallel_moves_preview *preview)
+{
+    uint8_t refusal = parallel_moves_take(
+        preview->made, preview->stamp, preview->slots, memory->cache);
+    if (refusal == 0) {
+        memory->position = preview->position;
+    }
+    return refusal;
 }
 
 /* The tables of parallel_moves_write, about a third of a megabyte: make one with
@@ -550,6 +813,52 @@ PARALLEL_MOVES_LOOK_AT_IT static inline uint8_t parallel_moves_try_in(
         memory->edits, memory->slots, memory->diverted, memory->marks,
         memory->carried);
 }
+
+/* Whether a list of edits does what a patch of a job asks: whether, from every start in
+ * which each kept source holds its value and whatever the values' contents are, every edit
+ * can be done, and in the end all destinations are right and all else outside free units
+ * and the slots from N on is as it began. Returns 1 if so and 0 if not, with *refusal 0; or
+ * 2, with *refusal the number by which the job up to that patch, the patch or, with 24, the
+ * list is refused: 24 for a word that is no edit, or names a register, a value or a slot
+ * that there is not. `patch` counts the job's patches from 0; 2 for one that the job has
+ * not. Patches before it are read and not resolved, those behind it are not read. The list
+ * may have any length. The working tables are `target` to `asked`. */
+PARALLEL_MOVES_LOOK_AT_IT uint8_t parallel_moves_examine(
+    const uint8_t *job, size_t job_length,
+    uint32_t patch,
+    const uint64_t *words, size_t words_length,
+    uint8_t *refusal,
+    uint16_t target[PARALLEL_MOVES_TARGET],
+    uint16_t function[PARALLEL_MOVES_FUNCTION],
+    bool free_units[PARALLEL_MOVES_UNITS],
+    uint16_t entries[PARALLEL_MOVES_ENTRIES],
+    uint16_t writers[PARALLEL_MOVES_WRITERS],
+    uint16_t ties[PARALLEL_MOVES_TIES],
+    uint16_t cells[PARALLEL_MOVES_CELLS],
+    uint16_t start[PARALLEL_MOVES_CELLS],
+    uint16_t held[PARALLEL_MOVES_WORDS],
+    uint16_t asked[PARALLEL_MOVES_WORDS])
+    PARALLEL_MOVES_SYMBOL("parallel_moves_examine");
+
+/* The same for a formula of a shared frame: slots below N plus the frame's limit may be
+ * named. 2, tested first, for a limit above 2,048. */
+PARALLEL_MOVES_LOOK_AT_IT uint8_t parallel_moves_examine_in(
+    uint32_t limit,
+    const uint8_t *job, size_t job_length,
+    uint32_t patch,
+    const uint64_t *words, size_t words_length,
+    uint8_t *refusal,
+    uint16_t target[PARALLEL_MOVES_TARGET],
+    uint16_t function[PARALLEL_MOVES_FUNCTION],
+    bool free_units[PARALLEL_MOVES_UNITS],
+    uint16_t entries[PARALLEL_MOVES_ENTRIES],
+    uint16_t writers[PARALLEL_MOVES_WRITERS],
+    uint16_t ties[PARALLEL_MOVES_TIES],
+    uint16_t cells[PARALLEL_MOVES_CELLS],
+    uint16_t start[PARALLEL_MOVES_CELLS],
+    uint16_t held[PARALLEL_MOVES_WORDS],
+    uint16_t asked[PARALLEL_MOVES_WORDS])
+    PARALLEL_MOVES_SYMBOL("parallel_moves_examine_in");
 
 #ifdef __cplusplus
 }

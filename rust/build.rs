@@ -10,14 +10,19 @@ use std::process::Command;
 /// Names the folder of the library by its whole path, where it is another than
 /// the repository's.
 const VARIABLE: &str = "PARALLEL_MOVES_LIB_DIR";
-/// What is linked: whole jobs, calls patch by patch, jobs written, what edits cost, and
-/// settings tried. `c/stamp` has their sums in this order.
+/// What is linked: whole jobs, calls patch by patch, patches asked for or by groups, formulas that share a
+/// frame, jobs written, what edits cost, settings tried, and lists of edits examined. `c/stamp`
+/// has their sums in this order.
 const LIBRARIES: &[&str] = &[
     "parallel_moves_c",
     "calls_c",
+    "asking_c",
+    "groups_c",
+    "frame_c",
     "job_writer_c",
     "price_c",
     "trying_c",
+    "examine_c",
 ];
 /// What `c/stamp` writes beside the library.
 const STAMP: &str = "parallel_moves_build.h";
@@ -36,7 +41,7 @@ fn main() {
     let archives: Vec<PathBuf> = LIBRARIES.iter().map(archive).collect();
     let stamp = folder.join(STAMP);
     println!("cargo::rerun-if-changed=build.rs");
-    println!("cargo::rerun-if-changed=src/sys.rs");
+    println!("cargo::rerun-if-changed=src/sys/calls.rs");
     println!("cargo::rerun-if-changed={}", stamp.display());
 
     // Not bundled: it is looked for when a program is linked, and not before.
@@ -61,9 +66,9 @@ fn main() {
 /// Which build it is: the one that is stamped, if the stamp is these archives'.
 fn build(here: &Path, archives: &[PathBuf], stamp: &Path) -> String {
     let version = env::var("CARGO_PKG_VERSION").expect("cargo sets it");
-    let sys = fs::read_to_string(here.join("src/sys.rs")).expect("it is the crate's");
+    let calls = fs::read_to_string(here.join("src/sys/calls.rs")).expect("it is the crate's");
     let interface =
-        between(&sys, "link_name = \"parallel_moves_open_", "\"").expect("it is declared there");
+        between(&calls, "link_name = \"parallel_moves_open_", "\"").expect("it is declared there");
     let start = format!("parallel_moves {version} interface {interface}");
     let sums: Option<Vec<String>> = archives.iter().map(|archive| sum(archive)).collect();
     let Some(sums) = sums else {

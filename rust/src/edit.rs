@@ -4,7 +4,7 @@ use std::fmt;
 use std::iter::FusedIterator;
 use std::{mem, slice};
 
-use crate::entity::{Allocation, PhysReg, SpillSlot, Value};
+use crate::entity::{Allocation, AllocationKind, PhysReg, SpillSlot, Value};
 
 /// One step of a resolved patch.
 ///
@@ -81,6 +81,33 @@ impl Edit {
         // declared, each of which is a `repr(transparent)` of a `u32`, and any
         // `u32` will do.
         unsafe { mem::transmute::<[u32; 4], Edit>([kind, to >> half, second, value]) }
+    }
+}
+
+impl Edit {
+    /// Its word, `((value * 2^14 + from) * 2^14 + to) * 8 + kind`, with places by their
+    /// codes: what [`examine`](crate::examine) is given. 0, which is no edit's word, if a
+    /// place or the value is too large to have one.
+    #[must_use]
+    pub fn word(&self) -> u64 {
+        let slot = |slot: &SpillSlot| slot.index() as u64 * 2;
+        let register = |register: &PhysReg| register.index() as u64 * 2 + 1;
+        let place = |place: &Allocation| match place.kind() {
+            AllocationKind::PhysReg(r) => register(&r),
+            AllocationKind::SpillSlot(s) => slot(&s),
+        };
+        let number = |value: &Value| value.index() as u64;
+        let (kind, to, from, value) = match self {
+            Edit::Move { to, from, value } => (1, place(to), place(from), number(value)),
+            Edit::Rematerialize { to, value } => (2, place(to), 0, number(value)),
+            Edit::EmergencySpill { to, from } => (3, slot(to), register(from), 0),
+            Edit::EmergencyReload { to, from } => (4, register(to), slot(from), 0),
+        };
+        if to < 16_384 && from < 16_384 && value < 4096 {
+            ((value * 16_384 + from) * 16_384 + to) * 8 + kind
+        } else {
+            0
+        }
     }
 }
 

@@ -5,17 +5,21 @@
 //! at once. [`ParallelMoves`] is opened for a function over a target and
 //! answers each [`Patch`] of such moves with the [`Edits`] that carry it out in
 //! order, or with a [`Refusal`]. A [`Resolver`] does the same with a whole job,
-//! which is a target, a function and its patches as bytes. Either is told how many
+//! which is a target, a function and its patches as bytes. [`ParallelMoves::preview`] shows
+//! a patch's edits before [`ParallelMoves::take`] settles on them; a [`Frame`] has several
+//! functions that share their emergency slots. Either is told how many
 //! evictions are kept, 1 or 2: how many registers may be evicted at once. For whoever
 //! lays out the frame, [`ParallelMoves::enough_slots`] says how many emergency slots
 //! are enough for a function. With a target's [`Prices`], [`ResolvedPatch::price`] and
 //! [`Edits::price`] say what an edge costs, and [`cheaper()`] chooses one of two lists of
 //! edits. [`try_settings`] compares one and two kept evictions on patches that it draws.
+//! [`examine`] says whether a list of edits from elsewhere does what a patch asks.
 //!
 //! A [`JobBuilder`] makes these bytes in the words of the trade, and says which register,
 //! class, value or entry is refused; [`write()`] and [`JobWriter`] make them of numbers, and
-//! [`text`] of a readable text, which it also prints of them. The program `parallel-moves`
-//! does the last two on the command line.
+//! [`text`] of a readable text, which it also prints of them. A [`Picture`] shows what stands
+//! where at every stop of a patch, and [`Resolver::locate`] says where a job is refused. The
+//! program `parallel-moves` does all this on the command line, for many jobs at once.
 //!
 //! The work is done by a library in which every function is proved to meet its
 //! contract; this crate lends it memory and takes its words apart.
@@ -41,8 +45,8 @@
 //!
 //! The static library is linked when a program is: from `target/staticlib` of
 //! the repository, where `rt staticlib` makes its archives `parallel_moves_c`,
-//! `calls_c`, `job_writer_c`, `price_c` and `trying_c`, or from the folder that
-//! `PARALLEL_MOVES_LIB_DIR` names. `cargo check` and `cargo doc` do without it.
+//! `calls_c`, `asking_c`, `groups_c`, `frame_c`, `job_writer_c`, `price_c`, `trying_c` and `examine_c`, or from the
+//! folder that `PARALLEL_MOVES_LIB_DIR` names. `cargo check` and `cargo doc` do without it.
 //! [`BUILD`] tells builds apart.
 
 mod answer;
@@ -50,10 +54,16 @@ mod build;
 mod builder;
 mod edit;
 mod entity;
+mod examine;
+mod frame;
+mod grouped;
 mod locate;
 mod parallel_moves;
 mod patch;
+mod picture;
+mod preview;
 mod price;
+mod reading;
 mod refusal;
 mod resolver;
 mod sys;
@@ -70,9 +80,14 @@ pub use edit::{Edit, Edits, Iter};
 pub use entity::{
     Allocation, AllocationKind, PhysReg, RegBank, RegClass, RegUnit, SpillSlot, Value,
 };
+pub use examine::{Cannot, Fault, examine, examine_in, first_fault};
+pub use frame::{Formula, Frame, FramePreview};
 pub use parallel_moves::{MOST_EDITS, ParallelMoves};
 pub use patch::Patch;
+pub use picture::Picture;
+pub use preview::{Preview, TakeError};
 pub use price::{Edge, Prices, cheaper};
+pub use reading::Location;
 pub use refusal::{Refusal, Unnamed};
 pub use resolver::Resolver;
 pub use trying::{Refusals, Tally, try_settings};

@@ -3,14 +3,17 @@
 //! A job is read number by number, so that the number at which it is refused is the
 //! last of the shortest beginning that is refused otherwise than for being cut off. The
 //! library is asked for it, and no test of its is made here a second time. What is
-//! tested of a whole target or a whole patch is then looked for among its parts.
+//! tested of a whole target or a whole patch is then looked for among its parts. So it is
+//! done with the numbers of a job that is to be written, and with bytes that were read.
 
 use std::collections::HashMap;
 
 use crate::builder::{JobBuilder, Part, TargetBuilder, place};
 use crate::entity::{Allocation, AllocationKind, PhysReg, RegBank, RegClass, RegUnit};
 use crate::patch::Patch;
+use crate::reading::{Location, Reading};
 use crate::refusal::Refusal;
+use crate::resolver::Resolver;
 use crate::writer::{JobWriter, MOST_BYTES, length};
 
 /// The part of a job at which the library refuses its numbers.
@@ -31,17 +34,72 @@ pub(crate) fn part(
     among_parts(job, refusal, at).unwrap_or(at)
 }
 
+/// Where a job's bytes are refused so, if it is told by a reading of them here, and by the
+/// library's answers to their beginnings.
+pub(crate) fn location(
+    resolver: &mut Resolver,
+    kept_evictions: u32,
+    job: &[u8],
+    refusal: Refusal,
+) -> Option<Location> {
+    if job.len() > MOST_BYTES {
+        let too_long = refusal == Refusal::NamesNothing;
+        return too_long.then_some(Location::new(MOST_BYTES, Part::Job));
+    }
+    let Reading {
+        job: read,
+        numbers,
+        end,
+    } = Reading::of(job);
+    let mut refusal_of = |end: usize| {
+        let refused = resolver.answer(kept_evictions, &job[..end]).err();
+        refused.map(|refused| refused.refusal())
+    };
+    let cut_off = Some(Refusal::NotANumber);
+    if refusal_of(0) != cut_off {
+        // It is not the job.
+        return None;
+    }
+    let last = first_not(numbers.len(), |index| {
+        refusal_of(numbers[index].1.end) == cut_off
+    });
+    let Some((at, range)) = numbers.get(last) else {
+        // All that could be read here is a job cut off.
+        let stopped = end.err().filter(|stopped| stopped.refusal() == refusal);
+        return stopped.map(|stopped| stopped.location());
+    };
+    match refusal_of(range.end) {
+        None if refusal == Refusal::LeftOver && range.end < job.len() => {
+            Some(Location::new(range.end, Part::Job))
+        }
+        refused if refused == Some(refusal) => {
+            let part = among_parts(&read, refusal, *at).unwrap_or(*at);
+            // 1 to 3 are of the number alone, others of its whole part.
+            let of_number = part == *at && refusal.number() <= 3;
+            let mut of_part = numbers.iter().filter(|(of, _)| *of == part);
+            let first = of_part.next().filter(|_| !of_number);
+            let range = first.map_or(range, |(_, range)| range);
+            Some(Location::new(range.start, part))
+        }
+        _ => None,
+    }
+}
+
 /// Where the last number of the shortest beginning stands that is refused otherwise than
 /// for being cut off. Nothing is lent, and so nothing written.
 fn last_number(writer: &mut JobWriter, numbers: &[u32]) -> usize {
-    let mut cut_off = |end: usize| {
-        let refused = writer.write_into(&numbers[..end], &mut []);
+    first_not(numbers.len(), |index| {
+        let refused = writer.write_into(&numbers[..=index], &mut []);
         refused == Err(Refusal::NotANumber)
-    };
-    let (mut below, mut above) = (0, numbers.len());
+    })
+}
+
+/// The first index that is not so, of indices that are so up to one.
+fn first_not(length: usize, mut is_so: impl FnMut(usize) -> bool) -> usize {
+    let (mut below, mut above) = (0, length);
     while below < above {
         let middle = below + (above - below) / 2;
-        if cut_off(middle + 1) {
+        if is_so(middle) {
             below = middle + 1;
         } else {
             above = middle;
@@ -62,6 +120,7 @@ fn among_parts(job: &JobBuilder, refusal: Refusal, at: Part) -> Option<Part> {
         (Refusal::TooManyEntries, Part::Entry(patch, entry)) => Some(Part::Entry(patch, entry + 1)),
         (Refusal::FreeDestination, Part::Entry(patch, _)) => free_destination(job, patch),
         (Refusal::EvictsDestination, Part::Entry(patch, _)) => evicts_destination(job, patch),
+        (Refusal::OutOfSlots, Part::Entry(patch, _)) => Some(Part::Patch(patch)),
         _ => None,
     }
 }

@@ -4,6 +4,7 @@ use std::fmt;
 
 use crate::edit::Edits;
 use crate::patch::Patch;
+use crate::preview::{Preview, TakeError};
 use crate::refusal::Refusal;
 use crate::sys::{self, Opened, Tables};
 
@@ -124,6 +125,49 @@ impl ParallelMoves {
         resolve(&mut self.tables, patch, &mut self.list[..])
     }
 
+    /// As [`ParallelMoves::resolve`], by groups: entries that share a unit of a source
+    /// or a destination belong together, also through others in a chain. Groups go in
+    /// the order of their first entry, each as a patch of its entries alone, whose free
+    /// units are those that no source of another group has.
+    ///
+    /// # Errors
+    ///
+    /// As [`ParallelMoves::resolve`], of the whole patch; [`Refusal::OutOfSlots`] where
+    /// a group gets it.
+    ///
+    /// ```
+    /// use parallel_moves::{Allocation, ParallelMoves, Patch, PhysReg, RegUnit, Refusal, Value};
+    ///
+    /// # fn main() -> Result<(), Refusal> {
+    /// // Four registers, three values; one emergency slot may be made.
+    /// let target_and_function = [
+    ///     4, 1, 3, 0, 1, 4, 0, 0, 1, 0, 0, 0, 1, 1, 0, 0, 1, 2, 0, 0, 1, 3, // units, bank, registers
+    ///     2, 0, 1, 4, 0, 1, 2, 3, 4, 0, 1, 2, 3, 0, 0, 4, 0, 1, 2, 3, 4, 0, 1, 2, 3, // classes
+    ///     3, 0, 1, 0, 0, 0, 0, 0, 0, // values and slots
+    /// ];
+    /// let mut moves = ParallelMoves::open(1, &target_and_function)?;
+    /// let [r0, r1, r2, r3] = [0, 1, 2, 3].map(|index| Allocation::reg(PhysReg::new(index)));
+    /// let mut patch = Patch::new();
+    /// patch.add_free_unit(RegUnit::new(2));
+    /// patch.add_move(r0, r1, Value::new(0));
+    /// patch.add_move(r1, r0, Value::new(1));
+    /// patch.add_move(r2, r3, Value::new(2));
+    /// // Unit 2 is free, but the second group reads it: the first one spares it.
+    /// let edits: Vec<String> = moves.resolve_by_groups(&patch)?.iter().map(|e| e.to_string()).collect();
+    /// assert_eq!(edits, ["M s0 r1 1", "M r1 r0 0", "M r0 s0 1", "M r3 r2 2"]);
+    /// # Ok(())
+    /// # }
+    /// ```
+    pub fn resolve_by_groups(&mut self, patch: &Patch) -> Result<Edits<'_>, Refusal> {
+        let (count, number) =
+            self.tables
+                .resolve_groups(&patch.free, &patch.entries, &mut self.list[..]);
+        match Refusal::of_number(number) {
+            None => Ok(Edits::new(&self.list[..count])),
+            Some(refusal) => Err(refusal),
+        }
+    }
+
     /// As [`ParallelMoves::resolve`], with the edits in a list of the caller's
     /// own. Only as many words as there are edits are written, at its front;
     /// none if the patch is refused. [`MOST_EDITS`] are always enough, 0 for a
@@ -141,6 +185,69 @@ impl ParallelMoves {
         resolve(&mut self.tables, patch, list)
     }
 
+    /// The edits that would carry a patch out, to look at before one settles on
+    /// them: the function stays as it is. [`ParallelMoves::take`] settles on them.
+    ///
+    /// # Errors
+    ///
+    /// As [`ParallelMoves::resolve`]; then there is nothing to take.
+    ///
+    /// ```
+    /// use parallel_moves::{Allocation, ParallelMoves, Patch, PhysReg, Refusal, TakeError, Value};
+    ///
+    /// # fn main() -> Result<(), Refusal> {
+    /// # let target_and_function = [
+    /// #     3, 1, 3, 0, 1, 3, 0, 0, 1, 0, 0, 0, 1, 1, 0, 0, 1, 2, 2, // units, bank, registers
+    /// #     0, 1, 3, 0, 1, 2, 3, 0, 1, 2, 0, 0, 3, 0, 1, 2, 3, 0, 1, 2, // classes
+    /// #     2, 0, 1, 0, 0, 0, 0, // values and slots
+    /// # ];
+    /// let mut moves = ParallelMoves::open(1, &target_and_function)?;
+    /// let [r0, r1] = [0, 1].map(|index| Allocation::reg(PhysReg::new(index)));
+    /// let mut swap = Patch::new();
+    /// swap.add_move(r0, r1, Value::new(0));
+    /// swap.add_move(r1, r0, Value::new(1));
+    ///
+    /// let preview = moves.preview(&swap)?;
+    /// assert_eq!(preview.edits().len(), 3);
+    /// assert_eq!((preview.made(), moves.made()), (1, 0));
+    ///
+    /// assert_eq!(moves.take(&preview), Ok(()));
+    /// assert_eq!(moves.made(), 1);
+    /// // The function has taken one since.
+    /// assert_eq!(moves.take(&preview), Err(TakeError::Refused(Refusal::TakenLate)));
+    /// # Ok(())
+    /// # }
+    /// ```
+    pub fn preview(&mut self, patch: &Patch) -> Result<Preview, Refusal> {
+        let asked = self
+            .tables
+            .ask(&patch.free, &patch.entries, &mut self.list[..]);
+        match asked {
+            Ok((count, pending)) => Ok(Preview {
+                edits: self.list[..count].into(),
+                pending,
+            }),
+            Err(number) => Err(Refusal::given(number)),
+        }
+    }
+
+    /// Settles on a preview: the function becomes what resolving the patch would
+    /// have made it, unless it has taken a preview or resolved a patch since the
+    /// asking.
+    ///
+    /// # Errors
+    ///
+    /// [`TakeError::Refused`] with [`Refusal::TakenLate`] if it has;
+    /// [`TakeError::Other`] for another function's preview. The function is then
+    /// as before.
+    pub fn take(&mut self, preview: &Preview) -> Result<(), TakeError> {
+        match self.tables.take(&preview.pending).map(Refusal::of_number) {
+            Some(None) => Ok(()),
+            Some(Some(refusal)) => Err(TakeError::Refused(refusal)),
+            None => Err(TakeError::Other),
+        }
+    }
+
     /// How many emergency slots the function has so far. They are numbered from
     /// its ordinary slots on; `docs/JOB.md` says how large each is.
     #[must_use]
@@ -148,7 +255,7 @@ impl ParallelMoves {
         self.tables.made().into()
     }
 
-    /// The greatest position that a search of the last resolved patch for a
+    /// The greatest position that a search of the last patch, resolved or taken, for a
     /// scratch register met, 0 without searches or before the first patch. A
     /// refused patch leaves it. [`ResolvedPatch::position`] says what a position
     /// is.

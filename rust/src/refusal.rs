@@ -80,8 +80,11 @@ refusals! {
     17 OutOfSlots: "an emergency slot is needed, none of its size is at hand, and no more may be made";
     18 BytesTooFew: "the lent bytes are fewer than the job has";
     19 OutsidePrice: "a price is above 65,535, a run count is 2^26 or more, or one of two lists to choose from has more than 65,536 entries";
+    20 TakenLate: "an answer is taken of a cache that has taken one or resolved a patch since it was asked for";
     21 OverlappingSources: "a move's source overlaps that of an earlier move without being equal to it, and both moves are kept";
     22 NoSuchSetting: "the number of kept evictions is neither 1 nor 2";
+    23 SharesAboveLimit: "the shares of the formulas of a frame add up to more than its limit";
+    24 NoSuchEdit: "an entry of a list to examine is no edit, or names a register, a value or a slot that there is not";
 }
 
 /// The number of a refusal without a name.
@@ -118,8 +121,8 @@ mod tests {
 
     #[test]
     fn each_has_words_of_its_own() {
-        assert!((1..=19).chain([21, 22]).eq(NAMED.iter().copied()));
-        let words: Vec<&str> = (1..=22)
+        assert!((1..=24).eq(NAMED.iter().copied()));
+        let words: Vec<&str> = (1..=24)
             .map(|number| Refusal::of_number(number).unwrap().words())
             .collect();
         for (index, words_of_one) in words.iter().enumerate() {

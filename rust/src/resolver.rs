@@ -3,6 +3,9 @@
 use std::fmt;
 
 use crate::answer::{Answer, RefusedJob};
+use crate::grouped;
+use crate::locate;
+use crate::reading::Location;
 use crate::refusal::Refusal;
 use crate::sys::Tables;
 
@@ -66,6 +69,58 @@ impl Resolver {
                 Some(refusal) => Err(RefusedJob::new(refusal, answer)),
             };
         }
+    }
+
+    /// As [`Resolver::answer`], each patch by groups:
+    /// [`ParallelMoves::resolve_by_groups`](crate::ParallelMoves::resolve_by_groups).
+    ///
+    /// # Errors
+    ///
+    /// As [`Resolver::answer`]; [`Refusal::OutOfSlots`] where a group gets it.
+    ///
+    /// ```
+    /// use parallel_moves::Resolver;
+    ///
+    /// // Two slots change contents, and two registers, with an emergency slot of theirs.
+    /// let job = std::fs::read("../examples/pictures/slot-handed-on.job").unwrap();
+    /// let answer = Resolver::new().answer_by_groups(1, &job).unwrap();
+    /// let patch = answer.patches().next().unwrap();
+    /// assert_eq!((patch.edits().len(), patch.made()), (11, 2));
+    /// ```
+    pub fn answer_by_groups(
+        &mut self,
+        kept_evictions: u32,
+        job: &[u8],
+    ) -> Result<Answer, RefusedJob> {
+        grouped::answer(self, kept_evictions, job)
+    }
+
+    /// Where a job is refused, which was so refused with as many `kept_evictions`: the byte
+    /// and the part, by a second reading. None, where that does not end in the same
+    /// refusal.
+    ///
+    /// It answers beginnings of the job, about 16 of them.
+    ///
+    /// ```
+    /// use parallel_moves::Resolver;
+    ///
+    /// let mut job = std::fs::read("../examples/swap-full.job").unwrap();
+    /// // The first move goes where it came from.
+    /// job[51] = job[50];
+    /// let mut resolver = Resolver::new();
+    /// let refusal = resolver.answer(1, &job).unwrap_err().refusal();
+    /// assert_eq!(refusal.number(), 10);
+    /// let location = resolver.locate(1, &job, refusal).unwrap();
+    /// assert_eq!(location.to_string(), "byte 49: patch 1, entry 1");
+    /// ```
+    #[must_use]
+    pub fn locate(
+        &mut self,
+        kept_evictions: u32,
+        job: &[u8],
+        refusal: Refusal,
+    ) -> Option<Location> {
+        locate::location(self, kept_evictions, job, refusal)
     }
 }
 

@@ -6,7 +6,7 @@ use std::str::SplitWhitespace;
 
 use crate::entity::{Allocation, RegUnit, Value};
 use crate::sys::Tables;
-use crate::{MOST_EDITS, ParallelMoves, Patch, Refusal};
+use crate::{Edit, MOST_EDITS, ParallelMoves, Patch, Preview, Refusal, TakeError};
 
 const CALLS: &str = include_str!("../tests/calls.txt");
 
@@ -170,6 +170,139 @@ fn recorded_calls() {
         left_out < 30 && 10 * refused >= 8 * all / 10,
         "{left_out} {refused}"
     );
+}
+
+/// A function of which patches are resolved, asked for and taken in any order, and
+/// the same function of which those that are resolved or taken are resolved at once.
+struct Mixed {
+    moves: ParallelMoves,
+    plain: ParallelMoves,
+    /// What is left to take: when it was asked for, the patch, and its answer.
+    asked: Vec<(usize, Patch, Preview)>,
+    /// How many patches were taken or resolved.
+    settled: usize,
+    random: u64,
+}
+
+/// How often each came about: resolved, asked for, taken, 20, 20 with an unchanged
+/// number of slots.
+#[derive(Debug, Default)]
+struct Happened([usize; 5]);
+
+impl Mixed {
+    fn below(&mut self, n: usize) -> usize {
+        self.random = self.random.wrapping_mul(6_364_136_223_846_793_005);
+        self.random = self.random.wrapping_add(1_442_695_040_888_963_407);
+        (self.random >> 33) as usize % n
+    }
+
+    fn resolve(&mut self, patch: &Patch) -> bool {
+        let edits = |edits: crate::Edits<'_>| edits.iter().collect::<Vec<Edit>>();
+        let mixed = self.moves.resolve(patch).map(edits);
+        assert_eq!(mixed, self.plain.resolve(patch).map(edits));
+        self.settled += usize::from(mixed.is_ok());
+        mixed.is_ok()
+    }
+
+    fn ask(&mut self, patch: &Patch) -> bool {
+        let cache = self.moves.tables.cache().to_vec();
+        let asked = self.moves.preview(patch);
+        assert_eq!(self.moves.tables.cache(), cache);
+        let accepted = asked.is_ok();
+        match asked {
+            Ok(preview) => self.asked.push((self.settled, patch.clone(), preview)),
+            // Resolving is refused alike, and leaves the function as it is.
+            Err(refusal) => assert_eq!(self.plain.resolve(patch), Err(refusal)),
+        }
+        accepted
+    }
+
+    /// Whether it was taken.
+    fn take(&mut self, at: usize) -> bool {
+        let (when, patch, preview) = &self.asked[at];
+        let cache = self.moves.tables.cache().to_vec();
+        let taken = self.moves.take(preview);
+        if *when == self.settled {
+            assert_eq!(taken, Ok(()));
+            let edits = self.plain.resolve(patch).unwrap();
+            assert_eq!(edits, preview.edits());
+            assert_eq!(self.plain.made(), preview.made());
+            assert_eq!(self.plain.position(), preview.position());
+            self.settled += 1;
+        } else {
+            assert_eq!(taken, Err(TakeError::Refused(Refusal::TakenLate)));
+            assert_eq!(self.moves.tables.cache(), cache);
+        }
+        taken.is_ok()
+    }
+
+    fn step(&mut self, patch: &Patch, happened: &mut Happened) {
+        let Happened([resolved, asked, taken, late, late_alike]) = happened;
+        match self.below(4) {
+            0 => *resolved += usize::from(self.resolve(patch)),
+            1 | 2 => *asked += usize::from(self.ask(patch)),
+            _ if self.asked.is_empty() => {}
+            _ => {
+                // The last ones can be taken most often.
+                let count = self.asked.len().min(3);
+                let at = self.asked.len() - 1 - self.below(count);
+                let made = self.moves.made();
+                if self.take(at) {
+                    *taken += 1;
+                } else {
+                    *late += 1;
+                    *late_alike += usize::from(self.asked[at].2.made() == made);
+                }
+            }
+        }
+        // Caches are equal to the last cell, the stamp included.
+        assert_eq!(self.moves.tables.cache(), self.plain.tables.cache());
+        assert_eq!(self.moves.position(), self.plain.position());
+    }
+}
+
+/// 02 g: asking then taking is resolving, unless a patch was taken or resolved between.
+#[test]
+fn mixed_calls() {
+    let mut happened = Happened::default();
+    for seed in 0..4 {
+        let mut mixed: Option<Mixed> = None;
+        for call in calls() {
+            match call {
+                Call::Open {
+                    refusal: 0,
+                    kept_evictions,
+                    bytes,
+                    ..
+                } => {
+                    let open = || ParallelMoves::open(kept_evictions, &bytes).unwrap();
+                    let mut next = Mixed {
+                        moves: open(),
+                        plain: open(),
+                        asked: Vec::new(),
+                        settled: 0,
+                        random: seed,
+                    };
+                    if let Some((_, _, preview)) = mixed.iter().flat_map(|m| m.asked.last()).next()
+                    {
+                        assert_eq!(next.moves.take(preview), Err(TakeError::Other));
+                    }
+                    mixed = Some(next);
+                }
+                Call::Open { .. } => {}
+                Call::Resolve { free, numbers, .. } => {
+                    if let Some(patch) = patch(&free, &numbers) {
+                        let mixed = mixed.as_mut().unwrap();
+                        for _ in 0..2 {
+                            mixed.step(&patch, &mut happened);
+                        }
+                    }
+                }
+            }
+        }
+    }
+    let Happened(counts) = happened;
+    assert!(counts.iter().all(|&count| count > 100), "{counts:?}");
 }
 
 /// Each refusal of a patch is among the recorded calls, 22 among those of functions,

@@ -1,13 +1,14 @@
-//! The commands `parallel-moves price` and `parallel-moves try`, and the programs `price_job`
-//! and `try_settings`, which print the same.
+//! The commands `parallel-moves resolve`, `price` and `try`, and the programs `resolve`,
+//! `price_job` and `try_settings`, which print the same.
 
 mod common;
 
-use std::fs::File;
-use std::path::Path;
-use std::process::{Command, Output};
+use std::fs::{self, File};
+use std::io::Write;
+use std::path::{Path, PathBuf};
+use std::process::{Command, Output, Stdio};
 
-use common::{jobs, root};
+use common::{jobs, kept_evictions, options, positions_met, printed, root};
 
 fn run(words: &str) -> Output {
     Command::new(env!("CARGO_BIN_EXE_parallel-moves"))
@@ -44,51 +45,126 @@ const UNFIT: &str = "compare/trials/refused-7-top-without-slots.job";
 fn prices() {
     assert!(Path::new(&root().join(UNFIT)).is_file());
     prints(
-        &format!("price {SWAP} 1 4 6 16 12"),
+        &format!("price --kept 1 --prices 4,6,16,12 {SWAP}"),
         "patch 1 edits 3 total 12\n",
     );
     prints(
-        &format!("price {SWAP} 2 4 6 16 12 67108863"),
+        &format!("price --kept 2 --prices 4,6,16,12 --runs 67108863 {SWAP}"),
         "patch 1 edits 3 total 12 runs 67108863 product 805306356\n",
     );
     prints(
-        &format!("price {SWAP} 1 65535 0 0 0 67108863"),
+        &format!("price --kept 1 --prices 65535,0,0,0 --runs 67108863 {SWAP}"),
         "patch 1 edits 3 total 196605 runs 67108863 product 13193938010115\n",
     );
     says(
-        &format!("price {SWAP} 1 4 6 16 12 67108864"),
+        &format!("price --kept 1 --prices 4,6,16,12 --runs 67108864 {SWAP}"),
         1,
         "refused 19: ",
     );
-    says(&format!("price {SWAP} 1 4 6 16 12 -1"), 1, "refused 19: ");
-    says(&format!("price {SWAP} 1 4 6 65536 12"), 1, "refused 19: ");
-    says(&format!("price {SWAP} 1 x 6 16 12"), 1, "refused 19: ");
-    says(&format!("price {SWAP} 3 65536 6 16 12"), 1, "refused 22: ");
     says(
-        &format!("price {SWAP} 1 4 6 16 12 1 2"),
+        &format!("price --kept 1 --prices 4,6,16,12 --runs -1 {SWAP}"),
+        1,
+        "refused 19: ",
+    );
+    says(
+        &format!("price --kept 1 --prices 4,6,65536,12 {SWAP}"),
+        1,
+        "refused 19: ",
+    );
+    says(
+        &format!("price --kept 1 --prices x,6,16,12 {SWAP}"),
+        1,
+        "refused 19: ",
+    );
+    says(
+        &format!("price --kept 3 --prices 65536,6,16,12 {SWAP}"),
+        1,
+        "refused 22: ",
+    );
+    says(
+        &format!("price --kept 1 --prices 4,6,16,12 --runs 1,2 {SWAP}"),
         2,
         "2 run counts of 1 patches",
     );
     // 7 before 19, and 19 before the patch's own number.
-    says(&format!("price {UNFIT} 1 4 6 16 65536"), 1, "refused 7: ");
     says(
-        "price examples/refused-17.job 1 4 6 16 12",
+        &format!("price --kept 1 --prices 4,6,16,65536 {UNFIT}"),
         1,
-        "refused 17: ",
+        "byte 11: class 0: refused 7: ",
     );
     says(
-        "price examples/refused-17.job 1 4 6 16 65536",
+        "price --kept 1 --prices 4,6,16,12 examples/refused-17.job",
+        1,
+        "byte 55: patch 2: refused 17: ",
+    );
+    says(
+        "price --kept 1 --prices 4,6,16,65536 examples/refused-17.job",
         1,
         "refused 19: ",
     );
-    says(&format!("price {SWAP} 1 4 6 16"), 2, "");
-    says("price /nowhere/at.all 1 4 6 16 12", 2, "");
+    says(&format!("price --kept 1 --prices 4,6,16 {SWAP}"), 2, "");
+    says("price --kept 1 --prices 4,6,16,12 /nowhere/at.all", 2, "");
+}
+
+/// What `examine` prints of a job and an answer, and says.
+fn examined(job: &str, answer: &str) -> (String, String) {
+    let mut child = Command::new(env!("CARGO_BIN_EXE_parallel-moves"))
+        .args(["examine", job])
+        .current_dir(root())
+        .stdin(Stdio::piped())
+        .stdout(Stdio::piped())
+        .stderr(Stdio::piped())
+        .spawn()
+        .unwrap();
+    let mut input = child.stdin.take().unwrap();
+    input.write_all(answer.as_bytes()).unwrap();
+    drop(input);
+    let output = child.wait_with_output().unwrap();
+    assert_eq!(output.status.code(), Some(0), "{answer}");
+    let text = |bytes: Vec<u8>| String::from_utf8(bytes).unwrap();
+    (text(output.stdout), text(output.stderr))
+}
+
+#[test]
+fn examines() {
+    let is = |answer: &str, printed: &str, said: &str| {
+        let expected = (printed.to_owned(), said.to_owned());
+        assert_eq!(examined(SWAP, answer), expected, "{answer}");
+    };
+    let ours = "patch 1 edits 3 made 1\nM s0 r1 1\nM r1 r0 0\nM r0 s0 1\n";
+    is(ours, "patch 1 yes\n", "");
+    is(ours.split_once('\n').unwrap().1, "patch 1 yes\n", "");
+    // Where a no first goes wrong.
+    is(
+        &ours.replace("M r0 s0 1", "M r0 r1 1"),
+        "patch 1 no\n",
+        "parallel-moves: patch 1: in the end r0 does not hold value 1\n",
+    );
+    is(
+        &ours.replace("M r1 r0 0\n", "M r1 r0 0\nL r2 s0\n"),
+        "patch 1 no\n",
+        "parallel-moves: patch 1: in the end unit 2, of r2, does not hold what it began with\n",
+    );
+    is(
+        "patch 1 edits 3 made 1\nM r1 r0 0\nM r0 s0 1\n",
+        "patch 1 no\n",
+        "parallel-moves: patch 1: line 3: edit 2, `M r0 s0 1`, cannot be done: \
+         what is read may have any number of words\n",
+    );
+    is(
+        "M r1 r0 0\nR r0 1\n",
+        "patch 1 no\n",
+        "parallel-moves: patch 1: line 2: edit 2, `R r0 1`, cannot be done: \
+         the value cannot be rebuilt\n",
+    );
+    is("patch 1 edits 1 made 0\nM r1 r9 0\n", "patch 1 24\n", "");
+    is("patch 1 edits 1 made 0\nM r1\n", "patch 1 24\n", "");
 }
 
 #[test]
 fn tries() {
     prints(
-        &format!("try {SWAP} 0 1024 4 6 16 12"),
+        &format!("try --seed 0 --patches 1024 --prices 4,6,16,12 {SWAP}"),
         "seed 0 patches 1024
 kept                   1           2
 accepted               1           1
@@ -102,16 +178,36 @@ refused 10          7547        7547
 refused 12          1661        1661
 ",
     );
-    says(&format!("try {SWAP} 0 0 4 6 16 12"), 1, "refused 2: ");
-    says(&format!("try {SWAP} 0 1025 4 6 16 65536"), 1, "refused 2: ");
     says(
-        &format!("try {SWAP} 4294967296 1 4 6 16 12"),
+        &format!("try --seed 0 --patches 0 --prices 4,6,16,12 {SWAP}"),
         1,
         "refused 2: ",
     );
-    says(&format!("try {SWAP} 0 1 4 6 16 65536"), 1, "refused 19: ");
-    says(&format!("try {UNFIT} 0 1 4 6 16 65536"), 1, "refused 7: ");
-    says(&format!("try {SWAP} 0 1 4 6 16"), 2, "");
+    says(
+        &format!("try --seed 0 --patches 1025 --prices 4,6,16,65536 {SWAP}"),
+        1,
+        "refused 2: ",
+    );
+    says(
+        &format!("try --seed 4294967296 --patches 1 --prices 4,6,16,12 {SWAP}"),
+        1,
+        "refused 2: ",
+    );
+    says(
+        &format!("try --seed 0 --patches 1 --prices 4,6,16,65536 {SWAP}"),
+        1,
+        "refused 19: ",
+    );
+    says(
+        &format!("try --seed 0 --patches 1 --prices 4,6,16,65536 {UNFIT}"),
+        1,
+        "byte 11: class 0: refused 7: ",
+    );
+    says(
+        &format!("try --seed 0 --patches 1 --prices 4,6,16 {SWAP}"),
+        2,
+        "",
+    );
 }
 
 /// Gives a program of `target/bin` the job of a file and words, and the command the same:
@@ -125,7 +221,7 @@ fn same(program: &str, command: &str, file: &str, words: &str) -> bool {
     let printed = Command::new(path).args(given).stdin(job).output().unwrap();
     assert!(printed.stderr.is_empty());
     let printed = String::from_utf8(printed.stdout).unwrap();
-    let output = run(&format!("{command} {file} {words}"));
+    let output = run(&format!("{command} {} {file}", options(command, words)));
     if output.status.success() {
         assert_eq!(
             String::from_utf8_lossy(&output.stdout),
@@ -135,9 +231,10 @@ fn same(program: &str, command: &str, file: &str, words: &str) -> bool {
         return true;
     }
     let said = String::from_utf8(output.stderr).unwrap();
-    let number = said.strip_prefix("parallel-moves: ").unwrap();
+    let (_, number) = said.split_once("refused ").unwrap();
     let (number, _) = number.split_once(':').unwrap();
-    assert_eq!(printed.lines().last(), Some(number), "{file} {words}");
+    let last = format!("refused {number}");
+    assert_eq!(printed.lines().last(), Some(&last[..]), "{file} {words}");
     false
 }
 
@@ -186,4 +283,227 @@ fn try_settings_prints_the_same() {
         same("try_settings", "try", SWAP, words);
         same("try_settings", "try", UNFIT, words);
     }
+}
+
+/// `resolve` prints of each trial what the program does.
+#[test]
+fn resolves() {
+    for (name, _) in jobs("compare/trials") {
+        let file = format!("compare/trials/{name}.job");
+        let expected = printed(&name);
+        let output = run(&format!("resolve --kept {} {file}", kept_evictions(&name)));
+        assert_eq!(String::from_utf8_lossy(&output.stdout), expected, "{name}");
+        let refused = expected
+            .lines()
+            .last()
+            .and_then(|line| line.strip_prefix("refused "));
+        let said = String::from_utf8(output.stderr).unwrap();
+        match refused {
+            None => assert_eq!((output.status.code(), &said[..]), (Some(0), ""), "{name}"),
+            Some(number) => {
+                assert_eq!(output.status.code(), Some(1), "{name}");
+                assert_eq!(said.lines().count(), 1, "{name}");
+                // All but 22 says where.
+                let start = match number {
+                    "22" => "parallel-moves: refused 22: ".to_owned(),
+                    number => {
+                        assert!(said.starts_with("parallel-moves: byte "), "{name}: {said}");
+                        format!(": refused {number}: ")
+                    }
+                };
+                assert!(said.contains(&start), "{name}: {said}");
+            }
+        }
+    }
+}
+
+/// `groups` prints the joined edits of a patch's groups, and otherwise what `resolve` does.
+#[test]
+fn groups() {
+    let slots = "examples/pictures/slot-handed-on.job";
+    let swapped =
+        "S s3 r3\nM r3 s1 1\nM s2 r3 1\nM r3 s0 0\nM s1 r3 0\nM r3 s2 1\nM s0 r3 1\nL r3 s3\n";
+    prints(
+        &format!("groups {slots}"),
+        &format!("patch 1 edits 11 made 2\n{swapped}M s3 r1 3\nM r1 r0 2\nM r0 s3 3\n"),
+    );
+    // One group each.
+    for name in ["swap-full", "slots-swapped", "rebuild-into-slot"] {
+        let file = format!("examples/{name}.job");
+        let whole = String::from_utf8(run(&format!("resolve {file}")).stdout).unwrap();
+        prints(&format!("groups {file}"), &whole);
+    }
+    let output = run("groups examples/refused-17.job");
+    assert_eq!(output.status.code(), Some(1));
+    assert_eq!(output.stdout, run("resolve examples/refused-17.job").stdout);
+    let said = String::from_utf8(output.stderr).unwrap();
+    assert!(
+        said.starts_with("parallel-moves: patch 2: refused 17: "),
+        "{said}"
+    );
+    let output = run(&format!("groups {UNFIT}"));
+    assert_eq!(output.stdout, b"refused 7\n");
+    let said = String::from_utf8(output.stderr).unwrap();
+    assert!(
+        said.starts_with("parallel-moves: byte 11: class 0: refused 7: "),
+        "{said}"
+    );
+    assert_eq!(
+        run(&format!("groups --kept 3 {slots}")).stdout,
+        b"refused 22\n"
+    );
+    // Several, a folder among them.
+    let output = run(&format!("groups {slots} examples"));
+    assert_eq!(output.status.code(), Some(1));
+    let text = String::from_utf8(output.stdout).unwrap();
+    assert!(
+        text.lines()
+            .filter(|line| line.starts_with("patch 1 "))
+            .count()
+            > 6
+    );
+}
+
+/// The positions of the trials that say them.
+#[test]
+fn positions() {
+    let mut met = 0;
+    for (name, _) in jobs("compare/trials") {
+        let Some(positions) = positions_met(&name) else {
+            continue;
+        };
+        let lines = (1..).zip(positions);
+        let expected: String = lines
+            .map(|(patch, position)| format!("patch {patch} position {position}\n"))
+            .collect();
+        let kept = kept_evictions(&name);
+        prints(
+            &format!("positions --kept {kept} compare/trials/{name}.job"),
+            &expected,
+        );
+        met += 1;
+    }
+    assert!(met > 5);
+    let output = run("positions examples/refused-17.job");
+    assert_eq!(output.status.code(), Some(1));
+    assert_eq!(output.stdout, b"patch 1 position 0\n");
+}
+
+/// A folder for a test, with nothing in it.
+fn folder(name: &str) -> PathBuf {
+    let path = Path::new(env!("CARGO_TARGET_TMPDIR")).join(name);
+    let _ = fs::remove_dir_all(&path);
+    fs::create_dir_all(&path).unwrap();
+    path
+}
+
+/// What a job's file is answered alone: the text and what is said.
+fn alone(file: &str) -> (String, String) {
+    let output = run(&format!("resolve {file}"));
+    let said = String::from_utf8(output.stderr).unwrap();
+    let said = said.replace("parallel-moves: ", &format!("parallel-moves: {file}: "));
+    (String::from_utf8(output.stdout).unwrap(), said)
+}
+
+/// Several jobs and folders of jobs, however many at once: what comes out is what comes out
+/// of each alone, one after the other.
+#[test]
+fn many() {
+    let (mut text, mut said) = (String::new(), String::new());
+    for (name, _) in jobs("compare/trials") {
+        let (of_one, said_of_one) = alone(&format!("compare/trials/{name}.job"));
+        text += &of_one;
+        said += &said_of_one;
+    }
+    for at_once in ["", "--jobs 1 ", "--jobs 2 ", "--jobs=7 ", "--jobs 1000 "] {
+        let output = run(&format!("resolve {at_once}compare/trials"));
+        assert_eq!(output.status.code(), Some(1));
+        assert!(output.stdout == text.as_bytes(), "{at_once}");
+        assert_eq!(String::from_utf8_lossy(&output.stderr), said, "{at_once}");
+    }
+    // A file and a folder, and an order that is the words'.
+    let twice = run(&format!("resolve {SWAP} compare/trials {SWAP}"));
+    let swap = alone(SWAP).0;
+    assert!(twice.stdout == [&swap[..], &text, &swap].concat().as_bytes());
+
+    let out = folder("many");
+    let output = run(&format!("resolve --to {} compare/trials", out.display()));
+    assert_eq!((output.status.code(), output.stdout.len()), (Some(1), 0));
+    assert_eq!(String::from_utf8_lossy(&output.stderr), said);
+    let mut written = String::new();
+    for (name, _) in jobs("compare/trials") {
+        written += &fs::read_to_string(out.join(format!("{name}.out"))).unwrap();
+    }
+    assert!(written == text);
+
+    // Texts have no file where there is none, and bytes come back from them.
+    let texts = folder("texts");
+    fs::write(texts.join("refused-1-empty.txt"), "of an earlier time").unwrap();
+    let output = run(&format!("text --to {} compare/trials", texts.display()));
+    assert_eq!(output.status.code(), Some(1));
+    assert!(!texts.join("refused-1-empty.txt").exists());
+    let back = folder("back");
+    run(&format!(
+        "bytes --to {} {}",
+        back.display(),
+        texts.display()
+    ));
+    for (name, job) in jobs("compare/trials") {
+        if let Ok(bytes) = fs::read(back.join(format!("{name}.job"))) {
+            assert_eq!(bytes, job, "{name}");
+        }
+    }
+    assert!(fs::read_dir(&back).unwrap().count() > 90);
+}
+
+/// What is wrong with words and files; the jobs that can be answered are.
+#[test]
+fn wrong_words() {
+    says(
+        "resolve --jobs 0 examples",
+        2,
+        "--jobs is given a number from 1 on; ",
+    );
+    says(
+        "resolve --jobs x examples",
+        2,
+        "--jobs is given a number from 1 on; ",
+    );
+    says("resolve --jobs", 2, "--jobs is given N; ");
+    says("resolve --what", 2, "--what is no option; ");
+    says("resolve --kept 1 --kept 2", 2, "--kept is said twice; ");
+    says("resolve - -", 2, "standard input is named twice; ");
+    says("resolve crates", 2, "crates has no file that ends in .job");
+    says("price --kept 1", 2, "--prices is missing; ");
+    says("try --seed 1 --prices 1,2,3,4", 2, "--patches is missing; ");
+    says("stamp it", 2, "stamp is given nothing; ");
+    says(
+        &format!("resolve --to /dev/null/no {SWAP}"),
+        2,
+        "/dev/null/no was not made: ",
+    );
+    let both = "compare/trials/swap-full.job";
+    says(
+        &format!("resolve --to /tmp {SWAP} {both}"),
+        2,
+        "examples/swap-full.job and compare/trials/swap-full.job have results of one name",
+    );
+    let output = run(&format!(
+        "resolve /nowhere/at.all {SWAP} examples/refused-17.job"
+    ));
+    assert_eq!(output.status.code(), Some(2));
+    let expected = alone(SWAP).0 + &alone("examples/refused-17.job").0;
+    assert_eq!(String::from_utf8_lossy(&output.stdout), expected);
+    let said = String::from_utf8(output.stderr).unwrap();
+    let lines: Vec<&str> = said.lines().collect();
+    assert_eq!(lines.len(), 2);
+    assert!(lines[0].starts_with("parallel-moves: /nowhere/at.all was not read: "));
+    assert!(lines[1].starts_with("parallel-moves: examples/refused-17.job: byte 55: patch 2: "));
+    // A word after `--` is a file, whatever it is.
+    says("resolve -- --kept", 2, "--kept was not read: ");
+}
+
+#[test]
+fn stamp() {
+    prints("stamp", &format!("{}\n", parallel_moves::BUILD));
 }

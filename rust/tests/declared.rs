@@ -1,5 +1,5 @@
-//! What `src/sys.rs` and the C header declare is what the library has: the same
-//! parameters in the same order, with tables of the same lengths. The compiler
+//! What the files of `sys` and the C header declare is what the library has: the
+//! same parameters in the same order, with tables of the same lengths. The compiler
 //! cannot see this across languages. And it is what `c/interface.txt` has for
 //! the version in which the names end, so that none changes without the other.
 
@@ -16,9 +16,13 @@ type Names = HashMap<String, String>;
 const LIBRARIES: &[&str] = &[
     "parallel_moves_c",
     "calls_c",
+    "asking_c",
+    "groups_c",
+    "frame_c",
     "job_writer_c",
     "price_c",
     "trying_c",
+    "examine_c",
 ];
 
 const FUNCTIONS: &[&str] = &[
@@ -33,12 +37,27 @@ const FUNCTIONS: &[&str] = &[
     "parallel_moves_price_edits",
     "parallel_moves_cheaper",
     "parallel_moves_try",
+    "parallel_moves_ask",
+    "parallel_moves_take",
+    "parallel_moves_resolve_groups",
+    "parallel_moves_frame_open",
+    "parallel_moves_frame_formula",
+    "parallel_moves_frame_resolve",
+    "parallel_moves_frame_ask",
+    "parallel_moves_frame_take",
+    "parallel_moves_frame_made",
+    "parallel_moves_examine",
+    "parallel_moves_examine_in",
 ];
 
 /// Where the C header has a pointer to one number, and not to many.
 const ONE_NUMBER: &[&str] = &[
     "*refusal",
     "*position",
+    "*made",
+    "*stamp",
+    "*to",
+    "*counter",
     "*total",
     "*runs_as_double",
     "*product",
@@ -139,15 +158,21 @@ fn library(function: &str) -> Vec<String> {
     list
 }
 
-/// What `src/sys.rs` declares.
+/// What the one file of `sys` declares that has the function. Its types are its own
+/// and those of `src/sys.rs`, which all share.
 fn rust(function: &str) -> Vec<String> {
-    let text = read("rust/src/sys.rs");
-    let mut names = Names::new();
-    types(&text, &mut names);
     let name = format!("#[link_name = \"{function}_{}\"]", interface());
-    let (_, declared) = text
-        .split_once(&name)
-        .unwrap_or_else(|| panic!("no {name}"));
+    let shared = read("rust/src/sys.rs");
+    let mut names = Names::new();
+    types(&shared, &mut names);
+    let mut texts = vec![shared];
+    for file in fs::read_dir(root().join("rust/src/sys")).unwrap() {
+        texts.push(fs::read_to_string(file.unwrap().path()).unwrap());
+    }
+    texts.retain(|text| text.contains(&name));
+    assert_eq!(texts.len(), 1, "files of sys with {name}");
+    types(&texts[0], &mut names);
+    let (_, declared) = texts[0].split_once(&name).unwrap();
     let (_, declared) = declared.split_once(&format!("fn {function}(")).unwrap();
     let (parameters, after) = declared.split_once(')').unwrap();
     let mut list: Vec<String> = listed(parameters).map(|p| type_of(p, &names)).collect();
@@ -204,7 +229,7 @@ fn parameters_agree() {
     let mut declared = String::new();
     for &function in FUNCTIONS {
         let library = library(function);
-        assert_eq!(rust(function), library, "rust/src/sys.rs, {function}");
+        assert_eq!(rust(function), library, "sys, {function}");
         assert_eq!(c(function), library, "c/parallel_moves.h, {function}");
         declared += &format!("{function}: {}\n", library.join(", "));
     }
@@ -250,6 +275,8 @@ fn memory_agrees() {
         "parallel_moves_open",
         "parallel_moves_enough_slots",
         "parallel_moves_resolve",
+        "parallel_moves_ask",
+        "parallel_moves_take",
     ] {
         for table in tables(&text, function) {
             assert!(all.contains(&table), "{table}");

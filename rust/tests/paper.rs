@@ -9,7 +9,7 @@ use std::io::Write;
 use std::process::{Command, Stdio};
 
 use common::machine::{Machine, Place, Register};
-use common::{encoded, numbers, root, text};
+use common::{encoded, numbers, options, root, text};
 use parallel_moves::Resolver;
 
 fn paper() -> String {
@@ -176,9 +176,10 @@ fn commands_print_what_is_shown() {
             let (given, file) = given.split_once(" < ").unwrap();
             let job = fs::read(root().join(file)).unwrap();
             let ours = Command::new(env!("CARGO_BIN_EXE_parallel-moves"));
+            let options = options(command, given);
+            let with_command: Vec<&str> = [command].into_iter().chain(options.split(' ')).collect();
+            assert_eq!(printed(ours, &with_command, &job), expected);
             let given: Vec<&str> = given.split(' ').collect();
-            let with_file = [&[command, "-"], &given[..]].concat();
-            assert_eq!(printed(ours, &with_file, &job), expected);
             let path = root().join("target/bin").join(program);
             assert!(path.is_file(), "run `rt check {program}`");
             assert_eq!(printed(Command::new(path), &given, &job), expected);

@@ -368,27 +368,28 @@ fn refusals_have_lines() {
 #[test]
 fn bytes_without_text() {
     let (job, _) = swap_full();
-    let check = |bytes: &[u8], byte: usize, number: u8| {
+    let check = |bytes: &[u8], byte: usize, part: &str, number: u8| {
         let none = text::from_bytes(bytes).unwrap_err();
         assert_eq!((none.byte(), none.refusal().number()), (byte, number));
-        assert_eq!(none.to_string(), format!("byte {byte}: {}", none.refusal()));
+        let printed = format!("byte {byte}: {part}: {}", none.refusal());
+        assert_eq!(none.to_string(), printed);
     };
-    check(&[], 0, 1);
-    check(&[128, 0], 0, 1);
-    check(&[255, 255, 255, 255, 16], 0, 1);
-    check(&[255, 255, 255, 255, 15], 5, 1);
-    check(&[&job[..], &[0]].concat(), 57, 8);
-    check(&vec![0; 65_537], 0, 2);
+    check(&[], 0, "the number of units", 1);
+    check(&[128, 0], 0, "the number of units", 1);
+    check(&[255, 255, 255, 255, 16], 0, "the number of units", 1);
+    check(&[255, 255, 255, 255, 15], 5, "the number of banks", 1);
+    check(&[&job[..], &[0]].concat(), 57, "the job", 8);
+    check(&vec![0; 65_537], 0, "the job", 2);
     let changed = |at: usize, byte: u8| {
         let mut job = job.clone();
         job[at] = byte;
         job
     };
     // A register's flag, a class's flag, a cost, an entry's kind.
-    check(&changed(6, 2), 6, 2);
-    check(&changed(20, 2), 20, 2);
-    check(&changed(43, 3), 43, 2);
-    check(&changed(49, 2), 49, 2);
+    check(&changed(6, 2), 6, "register 0", 2);
+    check(&changed(20, 2), 20, "class 0", 2);
+    check(&changed(43, 3), 43, "value 0", 2);
+    check(&changed(49, 2), 49, "patch 1, entry 1", 2);
 }
 
 fn command(words: &[&str], input: &Path, output: Option<&str>) -> Output {
@@ -442,7 +443,7 @@ fn the_command() {
     );
     let output = command(&["text"], &file("wrong.job", &job[..30]), None);
     assert_eq!((ended(&output), output.stdout.len()), (1, 0));
-    assert!(said(&output).starts_with("parallel-moves: byte 30: refused 1: "));
+    assert!(said(&output).starts_with("parallel-moves: byte 30: class 1: refused 1: "));
     let output = command(&["bytes"], &file("wrong.latin", [b'#', 0xe9]), None);
     assert_eq!(
         (ended(&output), said(&output)),
@@ -469,10 +470,19 @@ fn the_command() {
     let help = command(&["--help"], none, None);
     let help_of_all = String::from_utf8(help.stdout.clone()).unwrap();
     assert_eq!(ended(&help), 0);
-    for name in ["text", "bytes", "price", "try"] {
+    for name in [
+        "resolve",
+        "price",
+        "try",
+        "text",
+        "bytes",
+        "positions",
+        "show",
+        "stamp",
+    ] {
         let help = command(&[name, "--help"], none, None);
         let help_of_one = String::from_utf8(help.stdout).unwrap();
-        assert!(help_of_one.starts_with(&format!("parallel-moves {name} ")));
+        assert!(help_of_one.starts_with(&format!("parallel-moves {name}")));
         assert!(help_of_all.contains(&help_of_one));
     }
 }

@@ -121,6 +121,25 @@ pub fn positions_met(name: &str) -> Option<Vec<usize>> {
     Some(text.lines().map(|line| line.parse().unwrap()).collect())
 }
 
+/// The words of the programs `price_job` and `try_settings` as options of the commands
+/// `price` and `try`.
+pub fn options(command: &str, words: &str) -> String {
+    let words: Vec<&str> = words.split(' ').collect();
+    match (command, &words[..]) {
+        ("price", [kept, m, r, s, l, runs @ ..]) => {
+            let options = format!("--kept {kept} --prices {m},{r},{s},{l}");
+            match runs {
+                [] => options,
+                runs => format!("{options} --runs {}", runs.join(",")),
+            }
+        }
+        ("try", [seed, patches, m, r, s, l]) => {
+            format!("--seed {seed} --patches {patches} --prices {m},{r},{s},{l}")
+        }
+        _ => panic!("{command} is given {words:?}"),
+    }
+}
+
 /// An answer, or a refused one.
 pub type Answered = Result<Answer, RefusedJob>;
 

@@ -1,0 +1,100 @@
+/* Examines lists of edits for the job on standard input, whose one patch exchanges r0 and
+ * r1 as swap-full does: each answer of the library is held against request 02 m. Prints
+ * what differs, or that all is as said. It is C and C++. */
+#include <stdio.h>
+#include <stdlib.h>
+
+#include "parallel_moves.h"
+
+enum { MOST = 64 };
+
+static struct {
+    uint16_t target[PARALLEL_MOVES_TARGET];
+    uint16_t function[PARALLEL_MOVES_FUNCTION];
+    bool free_units[PARALLEL_MOVES_UNITS];
+    uint16_t entries[PARALLEL_MOVES_ENTRIES];
+    uint16_t writers[PARALLEL_MOVES_WRITERS];
+    uint16_t ties[PARALLEL_MOVES_TIES];
+    uint16_t cells[PARALLEL_MOVES_CELLS];
+    uint16_t start[PARALLEL_MOVES_CELLS];
+    uint16_t held[PARALLEL_MOVES_WORDS];
+    uint16_t asked[PARALLEL_MOVES_WORDS];
+} work;
+static struct parallel_moves_memory memory;
+static uint8_t job[1000];
+static size_t job_length;
+static int wrong;
+
+/* What is said of a list: 1 yes, 0 no, and 100 more than the number for a refusal. A frame
+ * has a limit; -1 for none. */
+static void is(
+    const char *what, long limit, uint32_t patch, const uint64_t *words, size_t length,
+    unsigned expected)
+{
+    uint8_t refusal = 77;
+    uint8_t said = limit < 0
+        ? parallel_moves_examine(
+              job, job_length, patch, words, length, &refusal, work.target, work.function,
+              work.free_units, work.entries, work.writers, work.ties, work.cells, work.start,
+              work.held, work.asked)
+        : parallel_moves_examine_in(
+              PARALLEL_MOVES_AS(uint32_t, limit), job, job_length, patch, words, length,
+              &refusal, work.target, work.function, work.free_units, work.entries,
+              work.writers, work.ties, work.cells, work.start, work.held, work.asked);
+    unsigned given = said == 2 ? 100U + refusal : said;
+    if (given != expected || (said == 2) != (refusal != 0)) {
+        printf("%s: %u with %u, not %u\n", what, said, refusal, expected);
+        wrong = 1;
+    }
+}
+
+/* A move of a value between places by their codes. */
+static uint64_t moved(uint64_t to, uint64_t from, uint64_t value)
+{
+    return ((value * 16384 + from) * 16384 + to) * 8 + 1;
+}
+
+int main(void)
+{
+    enum { R0 = 1, R1 = 3, R3 = 7, S0 = 0, S2 = 4 };
+    const uint64_t high[] = {moved(S2, R1, 1), moved(R1, R0, 0), moved(R0, S2, 1)};
+    uint64_t list[MOST], changed[MOST];
+    uint8_t refusal = 0;
+    size_t count;
+    job_length = fread(job, 1, sizeof job, stdin);
+    count = parallel_moves_answer_in(&memory, 1, job, job_length, list, MOST, &refusal);
+    if (refusal != 0 || count != 4) {
+        puts("the job is no swap");
+        return EXIT_FAILURE;
+    }
+    /* The first word is the patch's head. */
+    is("ours", -1, 0, list + 1, 3, 1);
+    is("ours in a frame", 1, 0, list + 1, 3, 1);
+    is("none", -1, 0, list, 0, 0);
+    is("one left out", -1, 0, list + 1, 2, 0);
+    for (size_t i = 0; i < 3; i++) {
+        changed[i] = list[i + 1];
+    }
+    changed[0] = moved(S0, R0, 0);
+    is("another operand", -1, 0, changed, 3, 0);
+    changed[0] = moved(S0, R3, 1);
+    is("a register that there is not", -1, 0, changed, 3, 124);
+    changed[0] = list[1] + (UINT64_C(1) << 63);
+    is("a bit too many", -1, 0, changed, 3, 124);
+    is("a head", -1, 0, list, 4, 124);
+    is("another patch", -1, 1, list + 1, 3, 102);
+    /* The slot counts by the limit of the frame. */
+    is("a slot that there is not", -1, 0, high, 3, 124);
+    is("a slot of a frame", 3, 0, high, 3, 1);
+    is("a slot above a frame's", 2, 0, high, 3, 124);
+    is("the greatest limit", 2048, 0, list + 1, 3, 1);
+    is("a limit", 2049, 0, list + 1, 3, 102);
+    /* Before all else. */
+    job_length = 0;
+    is("a limit, of no job", 2049, 0, list, 4, 102);
+    is("no job", 2048, 0, list + 1, 3, 101);
+    if (!wrong) {
+        puts("all as said");
+    }
+    return wrong;
+}

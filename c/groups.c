@@ -1,0 +1,96 @@
+/* Resolves patches by groups, and their groups one after the other with another
+ * function's memory: the edits, slots and positions must be the same. A group that is out
+ * of slots leaves list and cache as they were. Prints how many patches there were. It is
+ * C and C++. */
+#include <stdio.h>
+#include <stdlib.h>
+#include <string.h>
+
+#include "parallel_moves.h"
+
+enum { MOST = 64 };
+
+static struct parallel_moves_memory whole, parts;
+static struct parallel_moves_groups groups;
+static uint16_t cache[PARALLEL_MOVES_CACHE];
+static unsigned patches;
+
+/* Four registers, six slots, four values; two emergency slots may be made. */
+static const uint8_t bytes[] = {
+    4, 1, 3, 0, 1, 4, 0, 0, 1, 0, 0, 0, 1, 1, 0, 0, 1, 2, 0, 0, 1, 3, 2, 0, 1, 4, 0,
+    1, 2, 3, 4, 0, 1, 2, 3, 0, 0, 4, 0, 1, 2, 3, 4, 0, 1, 2, 3, 4, 6, 2, 0, 0, 0, 0, 0, 0, 0, 0};
+
+struct patch {
+    uint32_t free_units[MOST], numbers[MOST];
+    size_t units, length;
+};
+
+static void fail(const char *what)
+{
+    fprintf(stderr, "groups: %s\n", what);
+    exit(EXIT_FAILURE);
+}
+
+static void check(const struct patch *patch, const struct patch *each, size_t count)
+{
+    uint64_t list[MOST], joined[MOST];
+    uint8_t refusal;
+    size_t edits = 0, got;
+    for (size_t i = 0; i < count; i++) {
+        edits += parallel_moves_resolve_in(
+            &parts, each[i].free_units, each[i].units, each[i].numbers, each[i].length,
+            joined + edits, MOST - edits, &refusal);
+        if (refusal != 0) {
+            fail("a group is refused");
+        }
+    }
+    got = parallel_moves_resolve_groups_in(
+        &whole, &groups, patch->free_units, patch->units, patch->numbers, patch->length, list,
+        MOST, &refusal);
+    if (refusal != 0 || got != edits || memcmp(list, joined, got * sizeof *list) != 0) {
+        fail("edits");
+    }
+    if (parallel_moves_slots_made(whole.cache) != parallel_moves_slots_made(parts.cache)) {
+        fail("slots");
+    }
+    patches++;
+}
+
+int main(void)
+{
+    /* Two registers change their contents, and unit 2, which is free, is another group's source. */
+    static const struct patch spared = {{2}, {0, 1, 3, 0, 0, 3, 1, 1, 0, 5, 7, 2}, 1, 12};
+    static const struct patch spared_each[] = {
+        {{0}, {0, 1, 3, 0, 0, 3, 1, 1}, 0, 8}, {{2}, {0, 5, 7, 2}, 1, 4}};
+    /* Slots change theirs between registers that do. */
+    static const struct patch between = {
+        {0}, {0, 1, 3, 0, 0, 0, 2, 2, 0, 3, 1, 1, 0, 2, 0, 3}, 0, 16};
+    static const struct patch between_each[] = {
+        {{0}, {0, 1, 3, 0, 0, 3, 1, 1}, 0, 8}, {{0}, {0, 0, 2, 2, 0, 2, 0, 3}, 0, 8}};
+    static const struct patch nothing = {{1, 3}, {0}, 2, 0};
+    uint8_t refusal = 0;
+    uint64_t list[MOST] = {7};
+    /* The same function with L 1: the second group is out of slots. */
+    uint8_t few[sizeof bytes];
+    if (parallel_moves_open_in(&whole, 1, bytes, sizeof bytes) != 0
+        || parallel_moves_open_in(&parts, 1, bytes, sizeof bytes) != 0) {
+        fail("opening");
+    }
+    check(&spared, spared_each, 2);
+    check(&between, between_each, 2);
+    check(&nothing, NULL, 0);
+    memcpy(few, bytes, sizeof bytes);
+    few[49] = 1;
+    if (parallel_moves_open_in(&whole, 1, few, sizeof few) != 0) {
+        fail("opening");
+    }
+    memcpy(cache, whole.cache, sizeof cache);
+    (void)parallel_moves_resolve_groups_in(
+        &whole, &groups, between.free_units, between.units, between.numbers, between.length,
+        list, MOST, &refusal);
+    if (refusal != 17 || list[0] != 7 || memcmp(cache, whole.cache, sizeof cache) != 0) {
+        fail("17");
+    }
+    printf("the groups of %u patches\n", patches);
+    return EXIT_SUCCESS;
+}

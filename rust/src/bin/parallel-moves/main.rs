@@ -1,0 +1,98 @@
+//! Jobs on the command line: `parallel-moves --help` says what it does.
+//!
+//! Each command has a file of its own with a row [`Command`], and a line in [`COMMANDS`].
+
+mod bytes;
+mod command;
+mod examine;
+mod given;
+mod groups;
+mod jobs;
+mod positions;
+mod price;
+mod resolve;
+mod show;
+mod stamp;
+mod text;
+mod tries;
+
+use std::ffi::OsString;
+use std::io::{self, Write};
+use std::process::ExitCode;
+
+use command::{Command, Failure, Run};
+use given::Given;
+
+/// In the order in which they are explained.
+const COMMANDS: &[Command] = &[
+    resolve::COMMAND,
+    groups::COMMAND,
+    price::COMMAND,
+    tries::COMMAND,
+    text::COMMAND,
+    bytes::COMMAND,
+    positions::COMMAND,
+    show::COMMAND,
+    examine::COMMAND,
+    stamp::COMMAND,
+];
+
+fn main() -> ExitCode {
+    let words: Vec<OsString> = std::env::args_os().skip(1).collect();
+    ExitCode::from(run(&words))
+}
+
+/// Carries out the command of these words: the exit status.
+fn run(words: &[OsString]) -> u8 {
+    let Some((name, words)) = words.split_first() else {
+        return end(Err(no_command()));
+    };
+    if ["--help", "-h", "help"].iter().any(|word| name == word) {
+        return end(Ok(command::help(COMMANDS).into_bytes()));
+    }
+    let Some(command) = COMMANDS.iter().find(|command| name == command.name) else {
+        return end(Err(no_command()));
+    };
+    if words.iter().any(|word| word == "--help" || word == "-h") {
+        return end(Ok(command.help().into_bytes()));
+    }
+    match Given::read(command, words) {
+        Err(failure) => end(Err(failure)),
+        Ok(given) => match command.run {
+            Run::Once(run) => end(run(&given)),
+            Run::Each(each) => jobs::run_each(&given, each),
+        },
+    }
+}
+
+fn no_command() -> Failure {
+    let names: Vec<&str> = COMMANDS.iter().map(|command| command.name).collect();
+    Failure::Failed(format!(
+        "the command is one of: {}; `parallel-moves --help` says more",
+        names.join(", ")
+    ))
+}
+
+/// Prints what came out, and says what is wrong: the exit status.
+fn end(outcome: command::Outcome) -> u8 {
+    let (result, said) = command::parted(outcome);
+    let written = print(&result);
+    let said = said.or(written.err());
+    said.map_or(0, |failure| {
+        say(&failure.what());
+        failure.status()
+    })
+}
+
+/// Writes to standard output.
+fn print(result: &[u8]) -> Result<(), Failure> {
+    let mut output = io::stdout().lock();
+    let written = output.write_all(result).and_then(|()| output.flush());
+    written.map_err(|error| Failure::Failed(format!("the result was not written: {error}")))
+}
+
+/// Says what is wrong.
+fn say(what: &str) {
+    // Nobody is left to be told if this fails.
+    let _ = writeln!(io::stderr(), "parallel-moves: {what}");
+}

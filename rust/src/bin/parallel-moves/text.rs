@@ -1,0 +1,27 @@
+//! `parallel-moves text`.
+
+use parallel_moves::{Resolver, text};
+
+use crate::command::{Command, Each, Outcome, Run, refused};
+use crate::given::Given;
+
+pub const COMMAND: Command = Command {
+    name: "text",
+    words: "[JOB..]",
+    options: &[],
+    about: &[
+        "Prints a job's bytes as text, one line for each bank, register, class, value,",
+        "patch and entry. A refused job has a text too, unless its numbers cannot be",
+        "told apart.",
+    ],
+    run: Run::Each(Each {
+        reads: "job",
+        writes: "txt",
+        run,
+    }),
+};
+
+fn run(_: &Given, _: &mut Resolver, job: &[u8]) -> Outcome {
+    let text = text::from_bytes(job).map_err(refused)?;
+    Ok(text.into_bytes())
+}

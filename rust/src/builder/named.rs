@@ -1,0 +1,70 @@
+//! Targets that have a name.
+
+use super::{Class, TargetBuilder};
+use crate::entity::PhysReg;
+
+/// The names, and what they stand for.
+const NAMED: &[(&str, fn() -> TargetBuilder)] = &[("shipped", shipped)];
+
+impl TargetBuilder {
+    /// The target with a name, of which there is one, `shipped`:
+    ///
+    /// | bank | slots | registers | units of each | classes |
+    /// |---|---|---|---|---|
+    /// | 0 | 2^2 bytes | 0 to 31 | 1 | 0 and 1 |
+    /// | 1 | 2^3 bytes | 32 to 47 | 2 | 2 and 3 |
+    /// | 2 | 2^4 bytes | 48 to 55 | 4 | 4 and 5 |
+    ///
+    /// The 32 units are in each bank one after the other, so that register 32 has those of
+    /// registers 0 and 1. The first class of a bank is its top-level class, with slots, and
+    /// the second its stack class; both have all its registers in rising order, and none is
+    /// memory.
+    ///
+    /// ```
+    /// use parallel_moves::{JobBuilder, RegBank, PhysReg, Resolver, TargetBuilder};
+    ///
+    /// let mut job = JobBuilder::on(TargetBuilder::named("shipped").unwrap());
+    /// let pair = job.function().value(RegBank::new(1));
+    /// job.patch().move_(PhysReg::new(32), PhysReg::new(33), pair);
+    /// let answer = Resolver::new().answer(1, &job.bytes().unwrap()).unwrap();
+    /// assert_eq!(answer.text(), "patch 1 edits 1 made 0\nM r33 r32 0\n");
+    /// assert!(job.to_string().starts_with("target shipped\n"));
+    /// ```
+    #[must_use]
+    pub fn named(name: &str) -> Option<Self> {
+        let named = NAMED.iter().find(|(of, _)| *of == name);
+        named.map(|(_, target)| target())
+    }
+
+    /// The name of this target, if it has one.
+    #[must_use]
+    pub fn name(&self) -> Option<&'static str> {
+        let is_it = |target: TargetBuilder| {
+            self.unit_count() == target.unit_count()
+                && self.banks == target.banks
+                && self.registers == target.registers
+                && self.classes == target.classes
+        };
+        let named = NAMED.iter().find(|(_, target)| is_it(target()));
+        named.map(|(name, _)| *name)
+    }
+}
+
+fn shipped() -> TargetBuilder {
+    let mut target = TargetBuilder::default();
+    for (size_log2, width) in [(2, 1), (3, 2), (4, 4)] {
+        let bank = target.bank(size_log2);
+        let registers: Vec<PhysReg> = (0..32 / width)
+            .map(|index| {
+                let first = index * width;
+                let units: Vec<u32> = (first..first + width).collect();
+                target.register(&units)
+            })
+            .collect();
+        let top = target.class(Class::of(&registers).with_slots());
+        let stack = target.class(Class::of(&registers));
+        target.top_level_class(bank, top);
+        target.stack_class(bank, stack);
+    }
+    target
+}

@@ -1,0 +1,118 @@
+//! Patches by groups: `groups_c`.
+
+use super::{
+    Carried, Diverted, EditBuffer, Entries, Function, Marks, Opened, RegInfo, RegUnitSet,
+    SlotCache, Slots, SparseMap, table,
+};
+use crate::entity::RegUnit;
+
+/// Of each unit an entry that has it.
+type Owners = [u8; 4608];
+/// A number for each entry.
+type Labels = [u8; 128];
+/// The words of all groups.
+type Joined = [u64; 1024];
+
+unsafe extern "C" {
+    #[link_name = "parallel_moves_resolve_groups_4"]
+    fn parallel_moves_resolve_groups(
+        target: &RegInfo,
+        function: &Function,
+        free_units: *const u32,
+        free_units_length: usize,
+        numbers: *const u32,
+        numbers_length: usize,
+        cache: &mut SlotCache,
+        list: *mut u64,
+        list_length: usize,
+        refusal: &mut u8,
+        position: &mut u16,
+        units: &mut RegUnitSet,
+        entries: &mut Entries,
+        writers: &mut SparseMap,
+        available: &mut RegUnitSet,
+        sources: &mut RegUnitSet,
+        edits: &mut EditBuffer,
+        slots: &mut Slots,
+        diverted: &mut Diverted,
+        marks: &mut Marks,
+        carried: &mut Carried,
+        owners: &mut Owners,
+        labels: &mut Labels,
+        next: &mut Labels,
+        common: &mut RegUnitSet,
+        work: &mut SlotCache,
+        joined: &mut Joined,
+    ) -> usize;
+}
+
+/// The tables that only a call by groups needs.
+pub(super) struct GroupTables {
+    owners: Box<Owners>,
+    labels: Box<Labels>,
+    next: Box<Labels>,
+    common: Box<RegUnitSet>,
+    work: Box<SlotCache>,
+    joined: Box<Joined>,
+}
+
+impl GroupTables {
+    fn new() -> Self {
+        GroupTables {
+            owners: table(),
+            labels: table(),
+            next: table(),
+            common: table(),
+            work: table(),
+            joined: table(),
+        }
+    }
+}
+
+impl Opened {
+    /// As `resolve`, by groups.
+    pub(crate) fn resolve_groups(
+        &mut self,
+        free: &[RegUnit],
+        entries: &[[u32; 4]],
+        list: &mut [u64],
+    ) -> (usize, u8) {
+        let Opened(tables, _) = self;
+        let entries = entries.as_flattened();
+        let groups = tables.groups.get_or_insert_with(GroupTables::new);
+        let mut refusal = 0;
+        // SAFETY: as in `resolve` of `calls`.
+        let count = unsafe {
+            parallel_moves_resolve_groups(
+                &tables.target,
+                &tables.function,
+                free.as_ptr().cast(),
+                free.len(),
+                entries.as_ptr(),
+                entries.len(),
+                &mut tables.cache,
+                list.as_mut_ptr(),
+                list.len(),
+                &mut refusal,
+                &mut tables.position,
+                &mut tables.free,
+                &mut tables.entries,
+                &mut tables.writers,
+                &mut tables.available,
+                &mut tables.sources,
+                &mut tables.edits,
+                &mut tables.slots,
+                &mut tables.diverted,
+                &mut tables.marks,
+                &mut tables.carried,
+                &mut groups.owners,
+                &mut groups.labels,
+                &mut groups.next,
+                &mut groups.common,
+                &mut groups.work,
+                &mut groups.joined,
+            )
+        };
+        (count, refusal)
+    }
+}

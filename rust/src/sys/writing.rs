@@ -1,0 +1,72 @@
+//! Jobs written: `job_writer_c`.
+
+use super::{Entries, Function, RegInfo, RegUnitSet, SparseMap, table};
+
+/// The bytes of a job in the making.
+type Work = [u8; 65_536];
+
+unsafe extern "C" {
+    #[link_name = "parallel_moves_write_4"]
+    fn parallel_moves_write(
+        numbers: *const u32,
+        numbers_length: usize,
+        bytes: *mut u8,
+        bytes_length: usize,
+        refusal: &mut u8,
+        work: &mut Work,
+        target: &mut RegInfo,
+        function: &mut Function,
+        available: &mut RegUnitSet,
+        entries: &mut Entries,
+        writers: &mut SparseMap,
+    ) -> usize;
+}
+
+/// The tables of writing, which is apart from opened functions.
+pub(crate) struct WriterTables {
+    work: Box<Work>,
+    target: Box<RegInfo>,
+    function: Box<Function>,
+    available: Box<RegUnitSet>,
+    entries: Box<Entries>,
+    writers: Box<SparseMap>,
+}
+
+impl WriterTables {
+    pub(crate) fn new() -> Self {
+        WriterTables {
+            work: table(),
+            target: table(),
+            function: table(),
+            available: table(),
+            entries: table(),
+            writers: table(),
+        }
+    }
+
+    /// Writes the job of numbers to the front of `bytes`: how many bytes it has, and
+    /// the refusal's number or 0. What the tables hold does not matter.
+    pub(crate) fn write(&mut self, numbers: &[u32], bytes: &mut [u8]) -> (usize, u8) {
+        let mut refusal = 0;
+        // SAFETY: `numbers` and `bytes` are as long as the function is told, and
+        // each table has the length that it is declared with. `bytes` and the tables
+        // are borrowed mutably, so that nothing else reads or writes them. The
+        // function keeps no pointer.
+        let count = unsafe {
+            parallel_moves_write(
+                numbers.as_ptr(),
+                numbers.len(),
+                bytes.as_mut_ptr(),
+                bytes.len(),
+                &mut refusal,
+                &mut self.work,
+                &mut self.target,
+                &mut self.function,
+                &mut self.available,
+                &mut self.entries,
+                &mut self.writers,
+            )
+        };
+        (count, refusal)
+    }
+}
