@@ -17,7 +17,9 @@ mod target;
 mod values;
 
 mod counts;
+mod examining;
 mod generate;
+mod groups;
 mod growth;
 mod jobs;
 mod ours;
@@ -37,14 +39,20 @@ fn main() {
         ["times"] => times::print(),
         ["writing"] => writing::print(),
         ["growth"] => growth::print(),
-        ["shapes"] => shapes::print(),
+        ["shapes"] => {
+            shapes::print();
+            println!();
+            groups::print();
+        }
+        ["groups"] => groups::print(),
         ["stack"] => stack::print(),
         ["tries"] => tries::print(),
+        ["examining"] => examining::print(),
         ["count"] => counts::count(),
         ["counts", folder] => counts::print(folder),
         _ => {
             eprintln!(
-                "usage: bench times | writing | growth | shapes | stack | tries | count | counts FOLDER"
+                "usage: bench times | writing | growth | shapes | groups | stack | tries | examining | count | counts FOLDER"
             );
             std::process::exit(2);
         }

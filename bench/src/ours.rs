@@ -4,9 +4,13 @@ use crate::draft::{self, Draft, Patch, Place};
 
 #[link(name = "parallel_moves_c", kind = "static")]
 #[link(name = "calls_c", kind = "static")]
+#[link(name = "asking_c", kind = "static")]
+#[link(name = "groups_c", kind = "static")]
+#[link(name = "frame_c", kind = "static")]
 #[link(name = "job_writer_c", kind = "static")]
 #[link(name = "price_c", kind = "static")]
 #[link(name = "trying_c", kind = "static")]
+#[link(name = "examine_c", kind = "static")]
 unsafe extern "C" {
     #[link_name = "parallel_moves_open_4"]
     fn parallel_moves_open(
@@ -40,6 +44,37 @@ unsafe extern "C" {
         diverted: *mut u16,
         marks: *mut u8,
         carried: *mut u16,
+    ) -> usize;
+
+    #[link_name = "parallel_moves_resolve_groups_4"]
+    fn parallel_moves_resolve_groups(
+        target: *const u16,
+        function: *const u16,
+        free_units: *const u32,
+        free_units_len: usize,
+        numbers: *const u32,
+        numbers_len: usize,
+        cache: *mut u16,
+        list: *mut u64,
+        list_len: usize,
+        refusal: *mut u8,
+        position: *mut u16,
+        units: *mut u8,
+        entries: *mut u16,
+        writers: *mut u16,
+        available: *mut u8,
+        sources: *mut u8,
+        edits: *mut u64,
+        slots: *mut u16,
+        diverted: *mut u16,
+        marks: *mut u8,
+        carried: *mut u16,
+        owners: *mut u8,
+        labels: *mut u8,
+        next: *mut u8,
+        common: *mut u8,
+        work: *mut u16,
+        joined: *mut u64,
     ) -> usize;
 
     #[link_name = "parallel_moves_try_4"]
@@ -102,6 +137,26 @@ unsafe extern "C" {
         entries: *mut u16,
         writers: *mut u16,
     ) -> usize;
+
+    #[link_name = "parallel_moves_examine_4"]
+    fn parallel_moves_examine(
+        job: *const u8,
+        job_len: usize,
+        patch: u32,
+        words: *const u64,
+        words_len: usize,
+        refusal: *mut u8,
+        target: *mut u16,
+        function: *mut u16,
+        free_units: *mut u8,
+        entries: *mut u16,
+        writers: *mut u16,
+        ties: *mut u16,
+        cells: *mut u16,
+        start: *mut u16,
+        held: *mut u16,
+        asked: *mut u16,
+    ) -> u8;
 }
 
 /// The original keeps one eviction.
@@ -147,6 +202,11 @@ pub struct Memory {
     carried: Vec<u16>,
     written: Vec<u8>,
     work: Vec<u8>,
+    ties: Vec<u16>,
+    cells: Vec<u16>,
+    start: Vec<u16>,
+    held: Vec<u16>,
+    asked: Vec<u16>,
 }
 
 impl Memory {
@@ -167,6 +227,11 @@ impl Memory {
             carried: vec![0xa5a5; 2049],
             written: vec![0; MOST_BYTES],
             work: vec![0; MOST_BYTES],
+            ties: vec![0xa5a5; 12_416],
+            cells: vec![0xa5a5; 67_072],
+            start: vec![0xa5a5; 67_072],
+            held: vec![0xa5a5; 10],
+            asked: vec![0xa5a5; 10],
         }
     }
 
@@ -291,6 +356,76 @@ pub extern "C" fn timed_ours_patch(job: &mut Job, memory: &mut Memory, patch: us
             memory.diverted.as_mut_ptr(),
             memory.marks.as_mut_ptr(),
             memory.carried.as_mut_ptr(),
+        )
+    };
+    if refusal == 0 { count } else { usize::MAX }
+}
+
+/// What only a call by groups works in.
+pub struct GroupMemory {
+    owners: Vec<u8>,
+    labels: Vec<u8>,
+    next: Vec<u8>,
+    common: Vec<u8>,
+    work: Vec<u16>,
+    joined: Vec<u64>,
+}
+
+impl GroupMemory {
+    pub fn new() -> Self {
+        GroupMemory {
+            owners: vec![0xa5; 4608],
+            labels: vec![0xa5; 128],
+            next: vec![0xa5; 128],
+            common: vec![0; 512],
+            work: vec![0xa5a5; 65_600],
+            joined: vec![0; 1024],
+        }
+    }
+}
+
+/// Adds and resolves a patch by groups: how many edits it has.
+#[inline(never)]
+#[unsafe(no_mangle)]
+pub extern "C" fn timed_ours_groups(
+    job: &mut Job,
+    memory: &mut Memory,
+    groups: &mut GroupMemory,
+    patch: usize,
+) -> usize {
+    let Given { free, numbers } = &job.patches[patch];
+    let mut refusal = 0;
+    let mut position = 0;
+    // SAFETY: as in `timed_ours_patch`.
+    let count = unsafe {
+        parallel_moves_resolve_groups(
+            job.tables.target.as_ptr(),
+            job.tables.function.as_ptr(),
+            free.as_ptr(),
+            free.len(),
+            numbers.as_ptr(),
+            numbers.len(),
+            job.tables.cache.as_mut_ptr(),
+            memory.list.as_mut_ptr(),
+            memory.list.len(),
+            &mut refusal,
+            &mut position,
+            memory.free_units.as_mut_ptr(),
+            memory.entries.as_mut_ptr(),
+            memory.writers.as_mut_ptr(),
+            memory.available.as_mut_ptr(),
+            memory.sources.as_mut_ptr(),
+            memory.edits.as_mut_ptr(),
+            memory.slots.as_mut_ptr(),
+            memory.diverted.as_mut_ptr(),
+            memory.marks.as_mut_ptr(),
+            memory.carried.as_mut_ptr(),
+            groups.owners.as_mut_ptr(),
+            groups.labels.as_mut_ptr(),
+            groups.next.as_mut_ptr(),
+            groups.common.as_mut_ptr(),
+            groups.work.as_mut_ptr(),
+            groups.joined.as_mut_ptr(),
         )
     };
     if refusal == 0 { count } else { usize::MAX }
@@ -449,4 +584,36 @@ pub extern "C" fn timed_ours_write(numbers: *const u32, len: usize, memory: &mut
         )
     };
     if refusal == 0 { count } else { 0 }
+}
+
+/// Examines a list of edits for a job's first patch: whether it does what is asked, or the
+/// refusal.
+#[inline(never)]
+pub fn timed_ours_examine(bytes: &[u8], words: &[u64], memory: &mut Memory) -> Result<bool, u8> {
+    let mut refusal = 0;
+    // SAFETY: each array is as long as the function says, the flags are 0 or 1.
+    let answered = unsafe {
+        parallel_moves_examine(
+            bytes.as_ptr(),
+            bytes.len(),
+            0,
+            words.as_ptr(),
+            words.len(),
+            &mut refusal,
+            memory.tables.target.as_mut_ptr(),
+            memory.tables.function.as_mut_ptr(),
+            memory.free_units.as_mut_ptr(),
+            memory.entries.as_mut_ptr(),
+            memory.writers.as_mut_ptr(),
+            memory.ties.as_mut_ptr(),
+            memory.cells.as_mut_ptr(),
+            memory.start.as_mut_ptr(),
+            memory.held.as_mut_ptr(),
+            memory.asked.as_mut_ptr(),
+        )
+    };
+    match answered {
+        2 => Err(refusal),
+        said => Ok(said == 1),
+    }
 }

@@ -17,7 +17,7 @@ use crate::values::Values;
 pub const MOST_EDITS: usize = 1024;
 
 /// 16: lent list shorter than the bound.
-const LIST_TOO_SHORT: Refused = Refused(16);
+pub(crate) const LIST_TOO_SHORT: Refused = Refused(16);
 
 /// A patch as it is given, and how long a list is lent.
 #[derive(Clone, Default)]
@@ -44,7 +44,7 @@ pub enum Room {
 }
 
 impl Room {
-    fn length(self, bound: usize) -> usize {
+    pub(crate) fn length(self, bound: usize) -> usize {
         match self {
             Room::Most => MOST_EDITS,
             Room::Bound => bound,
@@ -65,13 +65,22 @@ impl Function {
     /// Reads a target and a function with nothing behind them. A setting without
     /// a judge is refused first.
     pub fn open(judge: Result<Judge, Refused>, bytes: &[u8]) -> Result<Function, Refused> {
+        Function::open_with(judge, bytes, None)
+    }
+
+    /// The same, of this N if one is given (request 02 l).
+    pub(crate) fn open_with(
+        judge: Result<Judge, Refused>,
+        bytes: &[u8],
+        of: Option<usize>,
+    ) -> Result<Function, Refused> {
         let judge = judge?;
         if bytes.len() > MOST_BYTES {
             return Err(NAMES_NOTHING);
         }
         let mut reader = Reader::new(bytes);
         let target = Target::read(&mut reader)?;
-        let values = Values::read(&mut reader, &target)?;
+        let values = Values::read_with(&mut reader, &target, of)?;
         if !reader.at_end() {
             return Err(LEFT_OVER);
         }
@@ -163,13 +172,29 @@ impl<'a> Session<'a> {
             }
             Err(refused) => {
                 // It ran to its end: one that did not takes its place.
-                self.resolver = self.function.resolver();
-                for patch in &self.accepted {
-                    self.resolver.resolve(patch)?;
-                }
+                self.again()?;
                 Err(refused)
             }
         }
+    }
+
+    /// A resolver that has seen the accepted calls and no other.
+    fn again(&mut self) -> Result<(), Refused> {
+        self.resolver = self.function.resolver();
+        for patch in &self.accepted {
+            self.resolver.resolve(patch)?;
+        }
+        Ok(())
+    }
+
+    /// What a call would come to, its slots made included. It is not made (request 02 g).
+    pub fn ask(&mut self, call: &Call) -> Expected {
+        let expected = self.call(call);
+        if expected.outcome.is_ok() {
+            self.accepted.pop();
+            self.again().expect("they were accepted");
+        }
+        expected
     }
 }
 
@@ -241,7 +266,7 @@ fn code(place: Allocation) -> u64 {
 }
 
 /// An edit as a packed word.
-fn word(edit: Edit) -> u64 {
+pub(crate) fn word(edit: Edit) -> u64 {
     let (kind, to, from, value) = match edit {
         Edit::Move { to, from, value } => (1, code(to), code(from), value.index()),
         Edit::Rematerialize { to, value } => (2, code(to), 0, value.index()),

@@ -4,6 +4,7 @@ mod accepted;
 pub mod calls;
 mod damaged;
 mod fans;
+pub mod groups;
 pub mod limits;
 mod patches;
 mod refused;

@@ -78,6 +78,7 @@ impl<'a> Plain<'a> {
             slots: Slots {
                 stacks: vec![Vec::new(); MOST_SIZE_LOG2 + 1],
                 made: 0,
+                shared: None,
                 first: values.slots,
                 limit: match slip {
                     Slip::FewSlots => values.emergency_limit.min(100),
@@ -92,6 +93,24 @@ impl<'a> Plain<'a> {
     /// How many emergency slots were made so far.
     pub fn made(&self) -> usize {
         self.slots.made
+    }
+
+    /// The edits of a patch in a frame (request 02 l), and the frame's counter after it. If it
+    /// is refused, or only asked for, the slots stay as they were.
+    pub fn resolve_in(
+        &mut self,
+        part: Part,
+        patch: &Patch,
+        asked: bool,
+    ) -> Result<(Vec<Edit>, usize), Refused> {
+        let before = self.slots.clone();
+        self.slots.shared = Some(part);
+        let edits = self.resolve(patch);
+        let counter = self.slots.shared.as_ref().map_or(0, |part| part.counter);
+        if asked || edits.is_err() {
+            self.slots = before;
+        }
+        Ok((edits?, counter))
     }
 
     /// The edits of a patch. If it is refused, the slots stay as they were.
@@ -110,11 +129,25 @@ impl<'a> Plain<'a> {
     }
 }
 
+/// A formula's part in a frame (request 02 l), at a call.
+#[derive(Clone)]
+pub(crate) struct Part {
+    /// "Slot numbers come from one counter."
+    pub counter: usize,
+    pub share: usize,
+    /// "What the others still lack of their shares."
+    pub others_lack: usize,
+    /// The common limit.
+    pub limit: usize,
+}
+
 /// "Emergency slots lie in 32 stacks by size."
 #[derive(Clone)]
 struct Slots {
     stacks: Vec<Vec<SpillSlot>>,
+    /// Of this function.
     made: usize,
+    shared: Option<Part>,
     /// N.
     first: usize,
     /// L.
@@ -131,6 +164,19 @@ impl Slots {
             && let Some(slot) = self.stacks.iter_mut().find_map(Vec::pop)
         {
             return Ok(slot);
+        }
+        if let Some(part) = &mut self.shared {
+            // "A formula may make a slot while it is below its share, or while all slots made plus
+            // what the others still lack of their shares are below the limit; otherwise its patch
+            // gets 17."
+            let below_share = self.made < part.share;
+            let all_below = part.counter + part.others_lack < part.limit;
+            if !below_share && !all_below {
+                return Err(OUT_OF_SLOTS);
+            }
+            self.made += 1;
+            part.counter += 1;
+            return Ok(SpillSlot::new(self.first + part.counter - 1));
         }
         if self.made == self.limit {
             return Err(OUT_OF_SLOTS);

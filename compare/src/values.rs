@@ -7,7 +7,7 @@ use original::function::{
 };
 use original::reginfo::{RegBank, RegClass, RegUnit};
 
-use crate::number::{Reader, Refused};
+use crate::number::{NAMES_NOTHING, Reader, Refused};
 use crate::target::Target;
 
 pub const MOST_VALUES: usize = 4096;
@@ -34,8 +34,20 @@ pub struct Values {
 impl Values {
     /// Reads a function.
     pub fn read(reader: &mut Reader, target: &Target) -> Result<Values, Refused> {
+        Values::read_with(reader, target, None)
+    }
+
+    /// Reads a function, of this N if one is given ("else 2, when that N is read").
+    pub fn read_with(
+        reader: &mut Reader,
+        target: &Target,
+        of: Option<usize>,
+    ) -> Result<Values, Refused> {
         let value_count = reader.within(0, MOST_VALUES)?;
         let slots = reader.within(0, MOST_SLOTS)?;
+        if of.is_some_and(|of| of != slots) {
+            return Err(NAMES_NOTHING);
+        }
         let emergency_limit = reader.within(0, MOST_EMERGENCY_SLOTS)?;
         let mut values = Vec::new();
         for _ in 0..value_count {

@@ -18,9 +18,13 @@ extern crate stub;
 
 #[cfg_attr(not(stub), link(name = "parallel_moves_c", kind = "static"))]
 #[cfg_attr(not(stub), link(name = "calls_c", kind = "static"))]
+#[cfg_attr(not(stub), link(name = "asking_c", kind = "static"))]
+#[cfg_attr(not(stub), link(name = "groups_c", kind = "static"))]
+#[cfg_attr(not(stub), link(name = "frame_c", kind = "static"))]
 #[cfg_attr(not(stub), link(name = "job_writer_c", kind = "static"))]
 #[cfg_attr(not(stub), link(name = "price_c", kind = "static"))]
 #[cfg_attr(not(stub), link(name = "trying_c", kind = "static"))]
+#[cfg_attr(not(stub), link(name = "examine_c", kind = "static"))]
 unsafe extern "C" {
     #[link_name = "parallel_moves_open_4"]
     fn parallel_moves_open(
