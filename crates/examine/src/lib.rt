@@ -158,9 +158,6 @@ fn same_list(c: &Cells, s: &Cells, at: usize, b: &mut Words, d: &mut Words) -> b
     requires { ⌜ Short (now c) × Short (now s) × (at < 6656) ⌝ }
     ensures { λ r. ⌜ (r ≡ sameWords (memoryOf (now (c .entry)) .lists at) (memoryOf (now (s .entry)) .lists at)) × Anything (now (b .exit)) × Anything (now (d .exit)) ⌝ }
 {
-    if untouched(c, s, at) {
-        return true;
-    }
     cells::get_list(c, at, b);
     cells::get_list(s, at, d);
     same_words(b, d)
@@ -173,6 +170,9 @@ fn same_unit(c: &Cells, s: &Cells, u: usize, b: &mut Words, d: &mut Words) -> bo
 {
     if cells::word_at(c, u) != cells::word_at(s, u) {
         return false;
+    }
+    if untouched(c, s, u) {
+        return true;
     }
     same_list(c, s, u, b, d)
 }
@@ -238,6 +238,9 @@ fn slot_stays(w: &SparseMap, c: &Cells, s: &Cells, x: usize, b: &mut Words, d: &
     requires { ⌜ Linked (now w) × Short (now c) × Short (now s) × (x < 4096) ⌝ }
     ensures { λ r. ⌜ (r ≡ slotStays (memoryOf (now (s .entry))) (memoryOf (now (c .entry))) (now (w .entry)) x) × Anything (now (b .exit)) × Anything (now (d .exit)) ⌝ }
 {
+    if untouched(c, s, 512 + x) {
+        return true;
+    }
     if same_list(c, s, 512 + x, b, d) {
         return true;
     }
