@@ -22,7 +22,7 @@ use Rattle.parallel_moves.specs.Given.{CacheOk}
 use Rattle.job_patch.specs.Patches.{patch}
 use Rattle.job.specs.declared.Step.the-variants.{Edits, Refused}
 use Rattle.job.specs.Steps.{CallAt, StepAt}
-use Rattle.job.proofs.Room.{room-for-every}
+use Rattle.job_rules.proofs.Room.{room-for-every}
 
 module _ (t f s list cache list′ cache′ : List ℕ) where
   abbrev T : RegInfo

@@ -9,7 +9,7 @@ use Rattle.parallel_moves.specs.Given.{CacheOk}
 use Rattle.print.specs.Put.{Put}
 use Rattle.print.proofs.Putting.{nothing-put, then-put, same-length}
 use Rattle.answer_text.specs.Heads.{patchWords}
-use Rattle.job.specs.Job.{Done, Answers, endsWith, leftOver}
+use Rattle.job_rules.specs.Job.{Done, Answers, endsWith, leftOver}
 use Rattle.answer.specs.Room.{patchesIn}
 use Rattle.answer.specs.Words.{wordsOf, AllPacked}
 use Rattle.answer.specs.declared.Onward.the-variants as O

@@ -27,9 +27,9 @@ use Rattle.job_target.specs.Target.{target}
 use Rattle.job_function.specs.Reads.{function}
 use Rattle.job_function.proofs.Accepted.{then-got, tested-got, read-accepted}
 use Rattle.job_patch.specs.Patches.{patch}
-use Rattle.job.specs.Job.{Header, before, afterRead, afterCall, afterTarget, header, opening, patches, job}
-use Rattle.job.proofs.WasRead.{early-got, given-got}
-use Rattle.job.proofs.Room.{room-for-every}
+use Rattle.job_rules.specs.Job.{Header, before, afterRead, afterCall, afterTarget, header, opening, patches, job}
+use Rattle.job_rules.proofs.WasRead.{early-got, given-got}
+use Rattle.job_rules.proofs.Room.{room-for-every}
 use Rattle.answer.specs.Room.{wordsTaken, callIn, patchesIn, jobIn, mostWords, MostWords}
 use Rattle.answer.proofs.Bytes.{Leaves, leaves-got, target-less, function-less, tested-less, patch-leaves}
 

@@ -15,7 +15,7 @@ use Rattle.parallel_moves.specs.Given.{CacheOk}
 use Rattle.print.proofs.Printing.{front-words, front-fits}
 use Rattle.job_patch.specs.Patches.{patch}
 use Rattle.job.specs.declared.Step.the-variants.{Edits, Refused}
-use Rattle.job.specs.Job.{Done, endsWith, before, patches}
+use Rattle.job_rules.specs.Job.{Done, endsWith, before, patches}
 use Rattle.job.specs.Steps.{StepAt}
 use Rattle.answer.specs.Whole.{rest}
 use Rattle.answer.proofs.Called.{Turned, unread, uncalled, turned, Called, called}

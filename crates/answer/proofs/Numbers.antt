@@ -22,9 +22,9 @@ use Rattle.reading.specs.Reading.{tested, times, distinct}
 use Rattle.job_target.specs.Target.{bank, reg, class, target}
 use Rattle.job_function.specs.Reads.{value, function}
 use Rattle.job_patch.specs.Patches.{rising, place, entry, patch}
-use Rattle.job.specs.Job.{opening}
-use Rattle.job.specs.Conditions.{afterGot, inNumber, afterNumber, inTested, afterTested, inTimes, inDistinct, inBank, inReg, inClass, inClasses, inTarget, ofTarget, inRebuilt, inValue, inFunction, inRising, afterResolved, inPlace, inEntry, inEntries, inPatch, ofCall, inPatches, inOpening, jobConditions}
-use Rattle.job.proofs.Conditions.{refusals}
+use Rattle.job_rules.specs.Job.{opening}
+use Rattle.job_rules.specs.Conditions.{afterGot, inNumber, afterNumber, inTested, afterTested, inTimes, inDistinct, inBank, inReg, inClass, inClasses, inTarget, ofTarget, inRebuilt, inValue, inFunction, inRising, afterResolved, inPlace, inEntry, inEntries, inPatch, ofCall, inPatches, inOpening, jobConditions}
+use Rattle.job_rules.proofs.Conditions.{refusals}
 use Rattle.answer.specs.Words.{OfTable, Numbered}
 
 abbrev Numbers : List Condition → Type 0

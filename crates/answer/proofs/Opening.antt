@@ -13,7 +13,7 @@ use Rattle.slots.specs.Stacks.{cacheOf}
 use Rattle.slots.specs.Steps.{Cleared}
 use Rattle.number.specs.Read.{Read, got, refused}
 use Rattle.number.specs.declared.Number.the-variants as N
-use Rattle.job.specs.Job.{Header, Answers, endsWith, afterRead, opening}
+use Rattle.job_rules.specs.Job.{Header, Answers, endsWith, afterRead, opening}
 use Rattle.job.specs.Steps.{HeaderAt}
 use Rattle.answer.specs.Room.{patchesIn, jobIn}
 use Rattle.answer.specs.Words.{wordsOf}

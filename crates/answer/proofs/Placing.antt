@@ -26,7 +26,7 @@ use Rattle.print.specs.Put.{Put}
 use Rattle.answer_text.specs.Heads.{headWord, patchWords}
 use Rattle.job_patch.specs.Patches.{patch}
 use Rattle.job.specs.declared.Step.the-variants.{Refused}
-use Rattle.job.specs.Job.{Done, endsWith, before}
+use Rattle.job_rules.specs.Job.{Done, endsWith, before}
 use Rattle.job.specs.Steps.{StepAt}
 use Rattle.answer.specs.Room.{callIn, patchesIn}
 use Rattle.answer.specs.declared.Onward.the-variants as O

@@ -5,7 +5,7 @@ use mathlib.Core.List.{List, [], _∷_, _++_}
 use Rattle.print.specs.Text.{patchText}
 use Rattle.answer_text.specs.Lines.{answerLines, refusalText}
 use Rattle.answer_text.proofs.Patches.{patch-printed}
-use Rattle.job.specs.Job.{Done}
+use Rattle.job_rules.specs.Job.{Done}
 use Rattle.answer.specs.Words.{wordsOf, numberOf, doneText, AllPacked, JobPrinted}
 
 done-printed : (k : ℕ) (l : List Done) → AllPacked l → answerLines k (wordsOf l) ≡ doneText k l

@@ -12,7 +12,7 @@ use Rattle.rules.specs.Patch.{Answer, resolve}
 use Rattle.rules.specs.Patch as rules
 use Rattle.number.specs.Read.{Read, got, refused}
 use Rattle.job_patch.specs.Patches.{patch}
-use Rattle.job.specs.Job.{Done, Answers, afterRead, afterCall, opening, patches, job}
+use Rattle.job_rules.specs.Job.{Done, Answers, afterRead, afterCall, opening, patches, job}
 use Rattle.answer_text.specs.Lines.{refusalText}
 use Rattle.answer.specs.Words.{numberOf, doneText, OfTable, SomePrinted}
 use Rattle.answer.proofs.MostWords.{opens}

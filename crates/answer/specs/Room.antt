@@ -15,7 +15,7 @@ use Rattle.rules.specs.Scratch.{Cache, emptyCache}
 use Rattle.rules.specs.Patch.{Patch, nothingSorted, Answer, refused, resolved, sorted, bound, freeDestination, lastOverlaps, run, resolve}
 use Rattle.rules.specs.Refusals.{ranOut, entriesConditions}
 use Rattle.job_patch.specs.Patches.{patch}
-use Rattle.job.specs.Job.{Answers, afterRead, afterCall, leftOver, opening, job}
+use Rattle.job_rules.specs.Job.{Answers, afterRead, afterCall, leftOver, opening, job}
 
 -- no word is left for the head
 abbrev pub headless : Answer → Answer

@@ -12,7 +12,7 @@ use Rattle.slots.specs.Stacks.{cacheOf}
 use Rattle.parallel_moves.specs.Given.{CacheOk}
 use Rattle.print.specs.Put.{Put}
 use Rattle.answer_text.specs.Heads.{patchWords}
-use Rattle.job.specs.Job.{Done, Answers, endsWith, before, patches}
+use Rattle.job_rules.specs.Job.{Done, Answers, endsWith, before, patches}
 use Rattle.answer.specs.Words.{wordsOf, Packed, AllPacked}
 use Rattle.answer.specs.Room.{patchesIn}
 use Rattle.answer.specs.declared.Onward.{Onward}

@@ -11,7 +11,7 @@ use Rattle.edit.specs.Word.{AllInRange}
 use Rattle.print.specs.Text.{patchText}
 use Rattle.answer_text.specs.Heads.{patchWords}
 use Rattle.answer_text.specs.Lines.{refusalText, answerText}
-use Rattle.job.specs.Job.{Done, Answers, job}
+use Rattle.job_rules.specs.Job.{Done, Answers, job}
 
 -- patch by patch
 unfoldable pub wordsOf : List Done → List ℕ

@@ -19,7 +19,7 @@ use Rattle.parallel_moves.specs.Given.{CacheOk}
 use Rattle.parallel_moves.specs.Answers.{Gives}
 use Rattle.parallel_moves.specs.Claim as patch
 use Rattle.parallel_moves.proofs.Claimed.{call, outcome, next}
-use Rattle.job.specs.Job as job
+use Rattle.job_rules.specs.Job as job
 use Rattle.calls.specs.declared.Opened.the-variants.{Yes}
 use Rattle.calls.specs.Opening.{opened, OpenedAs}
 use Rattle.calls.specs.Call.{freeRefusal, callOf}

@@ -23,9 +23,9 @@ use Rattle.parallel_moves.specs.Claim as patch
 use Rattle.parallel_moves.specs.Enough.{NeverOut, SizesClaim}
 use Rattle.parallel_moves.proofs.Enough.{edits, refused-handed, not-out, handed}
 use Rattle.job_function.proofs.Accepted.{then-got}
-use Rattle.job.specs.Job as job
-use Rattle.job.specs.Job.{beginning}
-use Rattle.job.proofs.Enough.{begun}
+use Rattle.job_rules.specs.Job as job
+use Rattle.job_rules.specs.Job.{beginning}
+use Rattle.job_rules.proofs.Enough.{begun}
 use Rattle.calls.specs.declared.Opened.the-variants.{Yes}
 use Rattle.calls.specs.Opening.{ended, opened, OpenedAs}
 use Rattle.calls.specs.Call.{freeFrom}

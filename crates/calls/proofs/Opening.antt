@@ -8,8 +8,8 @@ use Rattle.slots.specs.Steps.{Cleared}
 use Rattle.number.specs.Read.{Read, got, refused, then}
 use Rattle.reading.specs.declared.Next.the-variants as X
 use Rattle.parallel_moves.proofs.Resolving.{fresh}
-use Rattle.job.specs.Job as job
-use Rattle.job.specs.Job.{beginning}
+use Rattle.job_rules.specs.Job as job
+use Rattle.job_rules.specs.Job.{beginning}
 use Rattle.job.specs.Steps.{BegunAt}
 use Rattle.calls.specs.declared.Opened.the-variants.{Yes, Refused}
 use Rattle.calls.specs.Opening.{ended, opened, TablesAs, OpenedAs}

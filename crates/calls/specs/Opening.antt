@@ -9,8 +9,8 @@ use Rattle.function.specs.Table.{functionOf}
 use Rattle.slots.specs.Steps.{Cleared}
 use Rattle.number.specs.Read.{Read, got, refused, then}
 use Rattle.parallel_moves.specs.Given.{CacheOk}
-use Rattle.job.specs.Job as job
-use Rattle.job.specs.Job.{beginning}
+use Rattle.job_rules.specs.Job as job
+use Rattle.job_rules.specs.Job.{beginning}
 use Rattle.calls.specs.declared.Opened.{Opened}
 use Rattle.calls.specs.declared.Opened.the-variants.{Yes, Refused}
 

@@ -12,7 +12,7 @@ use Rattle.number.specs.Read as read
 use Rattle.number.specs.Read.{Read}
 use Rattle.parallel_moves.specs.declared.Resolved.the-variants as R
 use Rattle.parallel_moves.specs.Answers.{Gives}
-use Rattle.job.specs.Job.{Opened}
+use Rattle.job_rules.specs.Job.{Opened}
 use Rattle.calls.specs.declared.Opened.the-variants.{Yes, Refused}
 use Rattle.calls.specs.Opening.{TablesAs, OpenedAs}
 use Rattle.calls_c.specs.Called.{OpenedBy, PlannedBy, CalledAs}

@@ -15,7 +15,7 @@ use Rattle.slots.specs.Steps.{Cleared}
 use Rattle.number.specs.Read as read
 use Rattle.number.specs.Read.{Read}
 use Rattle.parallel_moves.specs.Given.{CacheOk}
-use Rattle.job.specs.Job.{Opened}
+use Rattle.job_rules.specs.Job.{Opened}
 
 -- opened: 0, the tables hold target and function, and the cache has no slot made; refused: 01's number, the tables hold anything, and the cache
 -- is as it was

@@ -11,7 +11,7 @@ use Rattle.number.specs.Read as read
 use Rattle.number.specs.Read.{Read}
 use Rattle.parallel_moves.specs.declared.Resolved.the-variants as R
 use Rattle.parallel_moves.specs.declared.TakeAnswer.the-variants as K
-use Rattle.job.specs.Job as job
+use Rattle.job_rules.specs.Job as job
 use Rattle.calls.specs.declared.Opened.the-variants as O
 use Rattle.frame.specs.declared.FrameOpened.the-variants as Q
 use Rattle.frame.specs.Opening.{shareConditions, FrameAs}

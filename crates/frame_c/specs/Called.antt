@@ -16,7 +16,7 @@ use Rattle.slots.specs.Steps.{Cleared, Committed}
 use Rattle.number.specs.Read as read
 use Rattle.number.specs.Read.{Read}
 use Rattle.parallel_moves.specs.Answers.{Pending}
-use Rattle.job.specs.Job as job
+use Rattle.job_rules.specs.Job as job
 use Rattle.frame.specs.Table.{counterOf, reachOf}
 use Rattle.frame.specs.Opening.{Filled}
 use Rattle.frame.specs.Steps.{WentOn}

@@ -20,8 +20,8 @@ use Rattle.slots.specs.Steps.{Cleared}
 use Rattle.number.specs.Read.{Read, got, refused, then}
 use Rattle.reading.specs.declared.Next.{Next}
 use Rattle.reading.specs.declared.Next.the-variants as X
-use Rattle.job.specs.Job as job
-use Rattle.job.specs.Formula.{beginningWithin}
+use Rattle.job_rules.specs.Job as job
+use Rattle.job_rules.specs.Formula.{beginningWithin}
 use Rattle.job.specs.Steps.{BegunAt}
 use Rattle.calls.specs.declared.Opened.the-variants.{Yes, Refused}
 use Rattle.calls.specs.Opening.{ended}

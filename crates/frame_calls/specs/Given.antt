@@ -14,8 +14,8 @@ use Rattle.slots.specs.Steps.{Cleared}
 use Rattle.number.specs.Read.{Read, got, refused, then}
 use Rattle.parallel_moves.specs.declared.Grant.{Grant}
 use Rattle.parallel_moves.specs.Given.{withMade}
-use Rattle.job.specs.Job as job
-use Rattle.job.specs.Formula.{beginningWithin}
+use Rattle.job_rules.specs.Job as job
+use Rattle.job_rules.specs.Formula.{beginningWithin}
 use Rattle.calls.specs.declared.Opened.{Opened}
 use Rattle.calls.specs.declared.Opened.the-variants.{Yes, Refused}
 use Rattle.calls.specs.Opening.{ended}

@@ -22,9 +22,9 @@ use Rattle.job_target.specs.Target.{target}
 use Rattle.job_function.specs.Reads.{functionWithin}
 use Rattle.job_function.proofs.Accepted.{then-got, read-within}
 use Rattle.job_patch.specs.Patches.{unlessGiven}
-use Rattle.job.specs.Job as job
-use Rattle.job.specs.Job.{withFunction, beginning}
-use Rattle.job.specs.Formula.{withFunctionWithin, beginningWithin}
+use Rattle.job_rules.specs.Job as job
+use Rattle.job_rules.specs.Job.{withFunction, beginning}
+use Rattle.job_rules.specs.Formula.{withFunctionWithin, beginningWithin}
 use Rattle.calls.specs.declared.Opened.the-variants as O
 use Rattle.calls.specs.Opening as alone
 use Rattle.calls.specs.Opening.{ended}

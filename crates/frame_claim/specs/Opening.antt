@@ -8,7 +8,7 @@ use Rattle.reginfo.specs.Table.{regInfoOf}
 use Rattle.function.specs.Function.{Function}
 use Rattle.function.specs.Table.{functionOf}
 use Rattle.number.specs.Read.{Read, got, refused}
-use Rattle.job.specs.Job as job
+use Rattle.job_rules.specs.Job as job
 use Rattle.calls.specs.declared.Opened.the-variants.{Yes}
 use Rattle.calls.specs.Opening as alone
 use Rattle.frame_rules.specs.Frame.{Inlined, noTarget, noFunction}

@@ -1,6 +1,6 @@
 -- The opening of a job: target and function, and the patch count.
 use Prim.Native.Nat.{ℕ, _<_, _≤_}
-use mathlib.Core.Path.{_≡_, refl, sym, ap, _∙_}
+use mathlib.Core.Path.{_≡_, refl, sym, ap}
 use mathlib.Core.Bool.{Bool, true, false}
 use mathlib.Core.List.{List}
 use mathlib.Core.Option.{Option, none, some}
@@ -30,9 +30,9 @@ use Rattle.job_function.specs.Reads.{function, functionWithin}
 use Rattle.job_function.specs.Answer.{FunctionReadWithin}
 use Rattle.job_function.proofs.Accepted.{read-within, read-accepted}
 use Rattle.job_patch.specs.Patches.{unlessGiven}
-use Rattle.job.specs.Job.{Opened, Header, afterTarget, header, withFunction, beginning, opening}
-use Rattle.job.specs.Priced.{unlessOutside, beginningIf, openingIf}
-use Rattle.job.specs.Formula.{withFunctionWithin, beginningWithin, counted, openingWithin}
+use Rattle.job_rules.specs.Job.{Opened, Header, afterTarget, header, withFunction, beginning, opening}
+use Rattle.job_rules.specs.Priced.{unlessOutside, beginningIf, openingIf}
+use Rattle.job_rules.specs.Formula.{withFunctionWithin, beginningWithin, counted, openingWithin}
 use Rattle.job.specs.Steps.{BegunAt, HeaderAt}
 
 -- a setting fits in a cell of the table
@@ -84,47 +84,6 @@ module _ (ok : Bool) (least most kept : ℕ) (s t f : List ℕ) where
     pub beginning-read : (t′ : List ℕ) (next : ℕ) (r : Next) → length s ≤ 65536 → TargetAt s 0 t (X.At next) → BegunAt s (unlessGiven (targetRefusal (regInfoOf t)) (unlessOutside ok (withFunctionWithin least most (regInfoOf t) kept (drop next s)))) r t′ f → BegunAt s (beginningWithin ok least most kept s) r t′ f
     unfolding beginningWithin
     beginning-read t′ next r l h g = rw (set, le-ltb 65536 (length s) l, ← h .reads) g
-
--- N from 0 to 4,096 is no other test than a function's own
-pub beginning-any : (ok : Bool) (kept : ℕ) (l : List ℕ) → beginningWithin ok 0 4096 kept l ≡ beginningIf ok kept l
-unfolding beginningWithin beginningIf withFunctionWithin withFunction functionWithin function
-beginning-any ok kept l = refl
-
--- without prices nothing is tested
-pub beginning-unpriced : (kept : ℕ) (l : List ℕ) → beginningIf true kept l ≡ beginning kept l
-unfolding beginningIf beginning
-beginning-unpriced kept l = refl
-
-pub opening-unpriced : (kept : ℕ) (l : List ℕ) → openingIf true kept l ≡ opening kept l
-unfolding openingIf opening header
-opening-unpriced kept l = refl
-
-opening-if-is : (ok : Bool) (kept : ℕ) (l : List ℕ) → openingIf ok kept l ≡ then (beginningIf ok kept l) (λ x q. counted x q)
-unfolding openingIf afterTarget beginningIf withFunction
-opening-if-is ok kept l = go (no (isSetting kept)) (ltb 65536 (length l)) (target l)
-  where
-    of-function : (t : RegInfo) (o : Option ℕ) (ok : Bool) (y : Read Function)
-        → unlessGiven o (unlessOutside ok (then y (λ f q. counted (record { target = t; function = f }) q)))
-        ≡ then (unlessGiven o (unlessOutside ok (then y (λ f q. got (record { target = t; function = f }) q)))) (λ x q. counted x q)
-    of-function t (some k) ok y = refl
-    of-function t none false y = refl
-    of-function t none true (refused k) = refl
-    of-function t none true (got f q) = refl
-
-    go : (a b : Bool) (x : Read RegInfo)
-        → pick a (refused 22) (pick b (refused 2) (then x (λ t r. unlessGiven (targetRefusal t) (unlessOutside ok (then (function t kept r) (λ f q. counted (record { target = t; function = f }) q))))))
-        ≡ then (pick a (refused 22) (pick b (refused 2) (then x (λ t r. unlessGiven (targetRefusal t) (unlessOutside ok (then (function t kept r) (λ f q. got (record { target = t; function = f }) q))))))) (λ x q. counted x q)
-    go true b x = refl
-    go false true x = refl
-    go false false (refused k) = refl
-    go false false (got t r) = of-function t (targetRefusal t) ok (function t kept r)
-
-pub opening-is : (kept : ℕ) (l : List ℕ) → opening kept l ≡ then (beginning kept l) (λ x q. counted x q)
-opening-is kept l = sym (opening-unpriced kept l) ∙ opening-if-is true kept l ∙ ap (λ (x : Read Opened). then x (λ x q. counted x q)) (beginning-unpriced kept l)
-
-pub opening-any : (ok : Bool) (kept : ℕ) (l : List ℕ) → openingWithin ok 0 4096 kept l ≡ openingIf ok kept l
-unfolding openingWithin
-opening-any ok kept l = ap (λ (x : Read Opened). then x (λ x q. counted x q)) (beginning-any ok kept l) ∙ sym (opening-if-is ok kept l)
 
 module _ (ok : Bool) (least most kept : ℕ) (s t f : List ℕ) where
   pub opening-refused : (k : ℕ) → BegunAt s (beginningWithin ok least most kept s) (X.Refused k) t f → HeaderAt s (openingWithin ok least most kept s) (N.Refused k) t f

@@ -25,7 +25,7 @@ use Rattle.job_patch.specs.Steps.{PatchAt}
 use Rattle.job.specs.declared.Step.{Step}
 use Rattle.job.specs.declared.Step.the-variants.{Edits, Refused}
 use Rattle.job.specs.Steps.{CallAt, StepAt}
-use Rattle.job.proofs.WasRead.{patch-taken}
+use Rattle.job_rules.proofs.WasRead.{patch-taken}
 
 module _ (f : List ℕ) (next : ℕ) (list list′ cache cache′ : List ℕ) where
   pub call-refused : (a : Answer) (k : ℕ) → Gives f a (R.Refused k) list list′ cache cache′ → CallAt f a next (Refused k) list list′ cache cache′

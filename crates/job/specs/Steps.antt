@@ -22,7 +22,7 @@ use Rattle.parallel_moves.specs.Given.{CacheOk}
 use Rattle.job_patch.specs.Patches.{patch}
 use Rattle.job.specs.declared.Step.{Step}
 use Rattle.job.specs.declared.Step.the-variants.{Edits, Refused}
-use Rattle.job.specs.Job.{Opened, Header}
+use Rattle.job_rules.specs.Job.{Opened, Header}
 
 -- target and function read: the tables hold them, and the answer is the next offset; where one is refused, the tables hold anything
 abbrev pub BegunAt : (s : List ℕ) → Read Opened → Next → (t f : List ℕ) → Type 0

@@ -32,9 +32,9 @@ ghost use Rattle.entries.specs.Table.{sortedOf};
 ghost use Rattle.entries.specs.Known.{EntriesOk};
 ghost use Rattle.job_patch.specs.Patches.{unlessGiven, patch};
 ghost use Rattle.parallel_moves.specs.Given.{CacheOk};
-ghost use Rattle.job.specs.Job.{beginning, opening};
-ghost use Rattle.job.specs.Priced.{unlessOutside, openingPriced};
-ghost use Rattle.job.specs.Formula.{withFunctionWithin, beginningWithin, openingWithin};
+ghost use Rattle.job_rules.specs.Job.{beginning, opening};
+ghost use Rattle.job_rules.specs.Priced.{unlessOutside, openingPriced};
+ghost use Rattle.job_rules.specs.Formula.{withFunctionWithin, beginningWithin, openingWithin};
 ghost use Rattle.job.specs.Steps.{BegunAt, HeaderAt, CallAt, StepAt};
 
 // How many edits a patch has, the greatest position that it met and where the next one stands, or 01's number.

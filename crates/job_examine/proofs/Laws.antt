@@ -24,9 +24,9 @@ use Rattle.reading.specs.declared.Next.{Next}
 use Rattle.reading.specs.declared.Next.the-variants as X
 use Rattle.job_patch.specs.Patches.{patch}
 use Rattle.job_patch.specs.Steps.{Holds, PatchAt}
-use Rattle.job.specs.Job.{Header, opening}
+use Rattle.job_rules.specs.Job.{Header, opening}
 use Rattle.job.specs.Steps.{HeaderAt}
-use Rattle.job.proofs.WasRead.{patch-taken}
+use Rattle.job_rules.proofs.WasRead.{patch-taken}
 use Rattle.examine_rules.specs.Examine.{Verdict, Refused}
 use Rattle.examine_rules.specs.Words.{examinePatch}
 use Rattle.job_examine.specs.Job.{patchAt, examineRead, examineAt, examineOpened, examineJob, examineJobIn}

@@ -9,7 +9,7 @@ use Rattle.function.specs.Function.{Function}
 use Rattle.rules.specs.Patch.{Patch}
 use Rattle.number.specs.Read.{Read, got, refused, then}
 use Rattle.job_patch.specs.Patches.{patch}
-use Rattle.job.specs.Job.{Header, opening}
+use Rattle.job_rules.specs.Job.{Header, opening}
 use Rattle.examine_rules.specs.Examine.{Verdict, Refused}
 use Rattle.examine_rules.specs.Words.{examinePatch}
 

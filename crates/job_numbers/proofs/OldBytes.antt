@@ -21,8 +21,8 @@ use Rattle.job_target.specs.Target.{Counted, bank, reg, class, classes, target}
 use Rattle.job_function.specs.Reads.{rebuilt, value, valued, function}
 use Rattle.job_function.proofs.Accepted.{tested-got}
 use Rattle.job_patch.specs.Patches.{rising, place, entry, entries, patch}
-use Rattle.job.specs.Job.{Header, afterTarget, header, opening}
-use Rattle.job.proofs.WasRead.{early-got, given-got}
+use Rattle.job_rules.specs.Job.{Header, afterTarget, header, opening}
+use Rattle.job_rules.proofs.WasRead.{early-got, given-got}
 use Rattle.job_numbers.specs.Numbers.{Job, eachOf, bankNumbers, regNumbers, classNumbers, targetNumbers, valueNumbers, functionNumbers, entryNumbers, patchNumbers, patchesNumbers, jobNumbers, bytesOf, readPatches, readJob}
 use Rattle.job_numbers.specs.Claim.{OldBytes}
 use Rattle.job_numbers.proofs.Stands.{Stands, join, nothing, made, where-read, unless-read, tested-stands, after, number-then, tested-then, distinct-then, times-then}

@@ -23,8 +23,8 @@ use Rattle.reading.specs.Reading.{tested, below, between, times, distinct}
 use Rattle.job_target.specs.Target.{bank, reg, class, classes, target}
 use Rattle.job_function.specs.Reads.{rebuilt, value, valued, function}
 use Rattle.job_patch.specs.Patches.{unlessGiven, rising, place, entry, entries, patch}
-use Rattle.job.specs.Job.{afterTarget, header, opening}
-use Rattle.job.proofs.Room.{room-for-every}
+use Rattle.job_rules.specs.Job.{afterTarget, header, opening}
+use Rattle.job_rules.proofs.Room.{room-for-every}
 use Rattle.job_numbers.specs.Numbers.{Job, bytesOf, readPatches, readJob, numberOf, wrote, notWritten, unlessNumber, written}
 use Rattle.job_numbers.specs.Claim.{OnlyReading, OverLong, Eighteen}
 

@@ -18,8 +18,8 @@ use Rattle.reading.specs.Reading.{between, times}
 use Rattle.job_target.specs.Target.{target}
 use Rattle.job_function.specs.Reads.{value, valued, function}
 use Rattle.job_patch.specs.Patches.{unlessGiven, patch}
-use Rattle.job.specs.Job.{Header, Answers, afterRead, afterCall, afterTarget, header, patches, opening, job}
-use Rattle.job.proofs.WasRead.{patch-called}
+use Rattle.job_rules.specs.Job.{Header, Answers, afterRead, afterCall, afterTarget, header, patches, opening, job}
+use Rattle.job_rules.proofs.WasRead.{patch-called}
 use Rattle.job_numbers.specs.Numbers.{Job, readPatches, readJob, numberOf}
 use Rattle.job_numbers.specs.Claim.{ReadersAgree}
 use Rattle.job_numbers.proofs.Kept.{withKept, patch-same, call-same}

@@ -14,8 +14,8 @@ use Rattle.number.specs.Read.{got}
 use Rattle.reading.specs.Reading.{below, between, times}
 use Rattle.job_target.specs.Target.{target}
 use Rattle.job_function.specs.Reads.{rebuilt, value, valued, function}
-use Rattle.job.specs.Job.{Header, afterTarget, header, opening}
-use Rattle.job.proofs.WasRead.{early-got, given-got}
+use Rattle.job_rules.specs.Job.{Header, afterTarget, header, opening}
+use Rattle.job_rules.proofs.WasRead.{early-got, given-got}
 use Rattle.job_numbers.specs.Numbers.{Job, counted, eachOf, bankNumbers, regNumbers, classNumbers, targetNumbers, valueNumbers, functionNumbers, patchesNumbers, jobNumbers, readPatches, readJob}
 use Rattle.job_numbers.specs.Claim.{plainValue, plain, SameTables}
 use Rattle.job_numbers.proofs.Stands.{made, where-read, after}

@@ -15,7 +15,7 @@ use Rattle.reading.specs.Reading.{tested, times, distinct}
 use Rattle.job_target.specs.Target.{bank, reg, class, classes, target}
 use Rattle.job_function.specs.Reads.{rebuilt, value, valued, function}
 use Rattle.job_patch.specs.Patches.{rising, place, entry, entries, patch}
-use Rattle.job.specs.Job.{afterTarget, header, patches, opening, job}
+use Rattle.job_rules.specs.Job.{afterTarget, header, patches, opening, job}
 use Rattle.job_numbers.specs.Numbers.{eachOf, targetNumbers, functionNumbers, patchesNumbers, bytesOf, readPatches, readJob, written}
 use Rattle.job_numbers.specs.Trials.{Trials}
 

@@ -12,7 +12,7 @@ use Rattle.reginfo.specs.RegInfo.{RegInfo}
 use Rattle.function.specs.Function.{ValueData, Function}
 use Rattle.number.specs.Read.{got, refused}
 use Rattle.number.specs.Number.{Bytes}
-use Rattle.job.specs.Job.{job}
+use Rattle.job_rules.specs.Job.{job}
 use Rattle.job_numbers.specs.Numbers.{Job, targetNumbers, functionNumbers, patchesNumbers, jobNumbers, bytesOf, readJob, numberOf, wrote, notWritten, written}
 
 -- every number fits 01's form

@@ -14,7 +14,7 @@ use Rattle.rules.specs.Patch.{Entry, move, remat, Patch, sorted, patchCondition
 use Rattle.number.specs.Read.{Read, got, refused, then}
 use Rattle.number.specs.Number.{encoded}
 use Rattle.job_patch.specs.Patches.{unlessGiven, patch}
-use Rattle.job.specs.Job.{opening}
+use Rattle.job_rules.specs.Job.{opening}
 
 -- "checked target, function and patches"
 pub record Job : Type 0 where

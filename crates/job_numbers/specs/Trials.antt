@@ -9,8 +9,8 @@ use Rattle.rules.specs.Trials.{doubled, fixed, whole, half}
 use Rattle.number.specs.Read.{got}
 use Rattle.job_target.specs.Trials.{swapGiven}
 use Rattle.job_target.specs.Trials as targets
-use Rattle.job.specs.Job.{job}
-use Rattle.job.specs.Trials.{jobWith, swapEntries, swapFull, targetWith, allOf}
+use Rattle.job_rules.specs.Job.{job}
+use Rattle.job_rules.specs.Trials.{jobWith, swapEntries, swapFull, targetWith, allOf}
 use Rattle.job_numbers.specs.Numbers.{targetNumbers, functionNumbers, patchesNumbers, bytesOf, readJob, wrote, notWritten, written}
 
 -- r0 to r1 of value 0, and r2 to r1 of value 1

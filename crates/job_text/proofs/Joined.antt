@@ -4,7 +4,7 @@ use mathlib.Core.Path.{_≡_, sym}
 use mathlib.Core.List.{List, [], _∷_}
 use lib.ListN.{length, drop, take-append-drop}
 use lib.Seq.{drop-drop, drop-length}
-use Rattle.job.specs.Job.{job}
+use Rattle.job_rules.specs.Job.{job}
 use Rattle.answer.specs.Words.{jobText}
 use Rattle.job_text.specs.Joined.{Made, Wrote, joined, WholeText}
 

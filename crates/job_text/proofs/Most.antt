@@ -17,9 +17,9 @@ use Rattle.print.proofs.Decimal.{short}
 use Rattle.print.proofs.Lengths.{edit-short, refused-short}
 use Rattle.answer_text.specs.Lines.{refusalText}
 use Rattle.job_patch.specs.Patches.{patch}
-use Rattle.job.specs.Job.{Header, Done, opening, job}
-use Rattle.job.specs.Claim.{DoneAt, OneByOne, Opened}
-use Rattle.job.proofs.Claimed.{every-job}
+use Rattle.job_rules.specs.Job.{Header, Done, opening, job}
+use Rattle.job_rules.specs.Claim.{DoneAt, OneByOne, Opened}
+use Rattle.job_rules.proofs.Claimed.{every-job}
 use Rattle.answer.specs.Words.{wordsOf, numberOf, doneText, AllPacked, Packed}
 use Rattle.answer.proofs.Numbers.{table-bounds, numbered}
 use Rattle.answer.proofs.Bytes.{leaves-got, patch-leaves}

@@ -15,7 +15,7 @@ use Rattle.number.specs.declared.Number.the-variants as N
 use Rattle.parallel_moves.proofs.Resolving.{fresh}
 use Rattle.print.specs.Put.{Put}
 use Rattle.answer_text.specs.Lines.{refusalText}
-use Rattle.job.specs.Job.{Header, Answers, endsWith, afterRead, opening, patches, job}
+use Rattle.job_rules.specs.Job.{Header, Answers, endsWith, afterRead, opening, patches, job}
 use Rattle.job.specs.Steps.{HeaderAt}
 use Rattle.answer.specs.Words.{doneText, jobText}
 use Rattle.answer.proofs.MostWords as header

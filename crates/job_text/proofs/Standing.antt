@@ -14,7 +14,7 @@ use Rattle.print.proofs.Putting.{nothing-put, same-length}
 use Rattle.print.proofs.Printing.{text-there}
 use Rattle.answer_text.specs.Lines.{refusalText}
 use Rattle.slots.specs.Stacks.{cacheOf}
-use Rattle.job.specs.Job.{Done, Answers, before, endsWith, leftOver, patches, job}
+use Rattle.job_rules.specs.Job.{Done, Answers, before, endsWith, leftOver, patches, job}
 use Rattle.answer.specs.Words.{numberOf, doneText, jobText}
 use Rattle.answer.specs.Whole.{rest}
 use Rattle.answer.proofs.Nexting.{Resolved}

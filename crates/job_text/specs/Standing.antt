@@ -9,7 +9,7 @@ use Rattle.function.specs.Known.{Checked}
 use Rattle.function.specs.Table.{functionOf}
 use Rattle.parallel_moves.specs.Given.{CacheOk}
 use Rattle.answer_text.specs.Lines.{refusalText}
-use Rattle.job.specs.Job.{Answers, leftOver, job}
+use Rattle.job_rules.specs.Job.{Answers, leftOver, job}
 use Rattle.answer.specs.Words.{numberOf, doneText, jobText}
 use Rattle.answer.specs.Whole.{rest}
 use Rattle.job_text.specs.declared.Progress.{Progress}

@@ -19,10 +19,10 @@ use Rattle.number.specs.Read.{Read, got, refused, then}
 use Rattle.number.specs.declared.Number.the-variants as N
 use Rattle.job_target.specs.Target.{target}
 use Rattle.job_function.proofs.Accepted.{then-got}
-use Rattle.job.specs.Job.{Header, afterTarget}
-use Rattle.job.specs.Priced.{unlessOutside, openingIf, openingPriced}
+use Rattle.job_rules.specs.Job.{Header, afterTarget}
+use Rattle.job_rules.specs.Priced.{unlessOutside, openingIf, openingPriced}
 use Rattle.job.specs.Steps.{HeaderAt}
-use Rattle.job.proofs.WasRead.{early-got, given-got}
+use Rattle.job_rules.proofs.WasRead.{early-got, given-got}
 use Rattle.trying.specs.Tried.{withKept, tried}
 use Rattle.trying.specs.Report.{Reported}
 use Rattle.trying.specs.Steps.{SettingTried}

@@ -8,8 +8,8 @@ use Rattle.reginfo.specs.RegInfo.{RegInfo}
 use Rattle.function.specs.Function.{Function}
 use Rattle.price.specs.declared.Prices.{Prices}
 use Rattle.number.specs.Read.{Read, got, refused}
-use Rattle.job.specs.Job.{Header}
-use Rattle.job.specs.Priced.{openingPriced}
+use Rattle.job_rules.specs.Job.{Header}
+use Rattle.job_rules.specs.Priced.{openingPriced}
 use Rattle.trying.specs.Tried.{Tries, tried}
 use Rattle.trying.specs.Report.{Reported}
 

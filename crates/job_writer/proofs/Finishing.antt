@@ -12,7 +12,7 @@ use Rattle.function.specs.Function.{isSetting}
 use Rattle.print.specs.Put.{Room}
 use Rattle.print.specs.Put as print
 use Rattle.number.specs.Read.{Read, refused}
-use Rattle.job.specs.Job.{Header, header, opening}
+use Rattle.job_rules.specs.Job.{Header, header, opening}
 use Rattle.job_bytes.specs.declared.Put.{Put}
 use Rattle.job_bytes.specs.declared.Put.the-variants.{At, Over}
 use Rattle.job_bytes.specs.Puts.{Puts}

@@ -26,7 +26,7 @@ use Rattle.reading.specs.declared.Next.{Next}
 use Rattle.reading.specs.declared.Next.the-variants as X
 use Rattle.job_patch.specs.Patches.{unlessGiven, patch}
 use Rattle.job_patch.specs.Steps.{Holds, PatchAt}
-use Rattle.job.specs.Job.{Header, opening}
+use Rattle.job_rules.specs.Job.{Header, opening}
 use Rattle.job.specs.Steps.{HeaderAt}
 use Rattle.job_numbers.specs.Numbers.{Job, readPatches, readJob, numberOf}
 use Rattle.job_writer.specs.Steps.{PassedAt}

@@ -1,7 +1,7 @@
 -- What `answer_job` answers, as a count and a number.
 use Prim.Native.Nat.{ℕ}
 use mathlib.Core.List.{List}
-use Rattle.job.specs.Job.{Answers}
+use Rattle.job_rules.specs.Job.{Answers}
 use Rattle.answer.specs.declared.Whole.the-variants.{Answered, Refused}
 use Rattle.answer.specs.Whole.{Wholly}
 use Rattle.answer.proofs.Ending.{none-refused, one-refused}

@@ -3,7 +3,7 @@ use Prim.Native.Nat.{ℕ, _≤_}
 use mathlib.Core.Path.{_≡_}
 use mathlib.Core.List.{List, _++_}
 use lib.ListN.{length, drop}
-use Rattle.job.specs.Job.{Answers}
+use Rattle.job_rules.specs.Job.{Answers}
 use Rattle.answer.specs.Words.{wordsOf, numberOf, AllPacked}
 
 -- the count of the words, 01's number or 0, the words at the front and the caller's own behind them, and each word is that of one edit or head

@@ -19,10 +19,10 @@ use Rattle.answer_text.specs.Heads.{headWord, isHead, countIn}
 use Rattle.answer_text.proofs.Patches.{head-read}
 use Rattle.edges.specs.Patches.{headed, patchesOf, nth}
 use Rattle.edges.proofs.Laws.{none-begins, one-more, numbered}
-use Rattle.job.specs.Job.{Header, Done, opening, job}
-use Rattle.job.specs.Claim.{OneByOne, Opened}
-use Rattle.job.proofs.Claimed.{every-job}
-use Rattle.job.proofs.Room.{room-for-every}
+use Rattle.job_rules.specs.Job.{Header, Done, opening, job}
+use Rattle.job_rules.specs.Claim.{OneByOne, Opened}
+use Rattle.job_rules.proofs.Claimed.{every-job}
+use Rattle.job_rules.proofs.Room.{room-for-every}
 use Rattle.answer.specs.Words.{wordsOf, AllPacked}
 use Rattle.answer.proofs.MostWords.{opens}
 use Rattle.price_job.specs.Text.{wordsDone, EdgesOfAnswer}

@@ -15,10 +15,10 @@ use Rattle.print.specs.Put.{Room}
 use Rattle.print.proofs.Lengths.{refused-short}
 use Rattle.job_target.specs.Target.{target}
 use Rattle.job_function.proofs.Accepted.{then-got}
-use Rattle.job.specs.Job.{Header, afterTarget}
-use Rattle.job.specs.Priced.{unlessOutside, openingIf, openingPriced}
+use Rattle.job_rules.specs.Job.{Header, afterTarget}
+use Rattle.job_rules.specs.Priced.{unlessOutside, openingIf, openingPriced}
 use Rattle.job.specs.Steps.{HeaderAt}
-use Rattle.job.proofs.WasRead.{early-got, given-got}
+use Rattle.job_rules.proofs.WasRead.{early-got, given-got}
 use Rattle.price_job.specs.Text.{runsFit, pricesDone, afterOpening, jobPrices}
 
 within : (ok : Bool) (x : Read Header) (h : Header) (r : List ℕ) → unlessOutside ok x ≡ got h r → ok ≡ true

@@ -11,7 +11,7 @@ use Rattle.price.specs.declared.Prices.{Prices}
 use Rattle.price.specs.Price.{inRange}
 use Rattle.print.specs.Put.{Room}
 use Rattle.edges.specs.Patches.{patchesOf}
-use Rattle.job.specs.Job.{Answers, job}
+use Rattle.job_rules.specs.Job.{Answers, job}
 use Rattle.answer.specs.Words.{wordsOf, numberOf, AllPacked}
 use Rattle.answer.specs.Room.{jobIn}
 use Rattle.answer.specs.Whole.{ended, Wholly}

@@ -10,8 +10,8 @@ use Rattle.edit.specs.Word.{wordOf}
 use Rattle.price.specs.declared.Prices.{Prices}
 use Rattle.number.specs.Read.{Read, got, refused}
 use Rattle.print.specs.Text.{refusedLine}
-use Rattle.job.specs.Job.{Header, Done, job}
-use Rattle.job.specs.Priced.{openingPriced}
+use Rattle.job_rules.specs.Job.{Header, Done, job}
+use Rattle.job_rules.specs.Priced.{openingPriced}
 use Rattle.edges.specs.Patches.{patchNumbered, nth}
 use Rattle.answer.specs.Words.{wordsOf, numberOf, AllPacked}
 use Rattle.price_text.specs.Lines.{edgesText}

@@ -5,7 +5,7 @@ use mathlib.Core.List.{List, _++_}
 use native.Mathlib.Omega.{arith}
 use lib.ListN.{length, take, drop, length-append}
 use lib.Seq.{take-at}
-use Rattle.job.specs.Job.{Answers, job}
+use Rattle.job_rules.specs.Job.{Answers, job}
 use Rattle.answer_text.specs.Lines.{answerText, Printed}
 use Rattle.answer.specs.Room.{jobIn, mostWords}
 use Rattle.answer.specs.Words.{wordsOf, numberOf, AllPacked}

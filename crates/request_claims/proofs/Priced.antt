@@ -24,7 +24,7 @@ use Rattle.group_rules.specs.Groups.{firsts, part, labelsOf, parts, resolvePart
 use Rattle.group_rules.proofs.Lists.{total, first-both}
 use Rattle.group_rules.proofs.Parts.{split}
 use Rattle.group_rules.proofs.Joined.{joint, passed-whole}
-use Rattle.job.proofs.Room.{Few, still-few, within, none-sorted}
+use Rattle.job_rules.proofs.Room.{Few, still-few, within, none-sorted}
 use Rattle.request_claims.specs.Priced.{FewByGroups}
 
 module _ (t : RegInfo) (f : Function) where

@@ -20,8 +20,8 @@ use Rattle.print.proofs.Lengths.{refused-short}
 use Rattle.print.proofs.Putting.{same-length}
 use Rattle.number.specs.Read.{Read, got, refused}
 use Rattle.number.specs.declared.Number.the-variants as N
-use Rattle.job.specs.Job.{Header}
-use Rattle.job.specs.Priced.{openingPriced}
+use Rattle.job_rules.specs.Job.{Header}
+use Rattle.job_rules.specs.Priced.{openingPriced}
 use Rattle.job.specs.Steps.{HeaderAt}
 use Rattle.job_tries.specs.Tries.{asked}
 use Rattle.try_settings.specs.Printed.{argumentsFit, askedWith, PrintedBoth, Printed}

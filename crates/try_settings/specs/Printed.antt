@@ -11,7 +11,7 @@ use Rattle.price.specs.declared.Prices.{Prices}
 use Rattle.print.specs.Text.{refusedLine}
 use Rattle.print.specs.Put.{Put}
 use Rattle.number.specs.Read.{Read, got, refused}
-use Rattle.job.specs.Job.{Header}
+use Rattle.job_rules.specs.Job.{Header}
 use Rattle.job_tries.specs.Tries.{asked, Both}
 use Rattle.try_settings.specs.Text.{tableText}
 

@@ -1,4 +1,4 @@
-use Rattle.job.proofs.Opening.{beginning-any, beginning-unpriced}
+use Rattle.job_rules.proofs.Opening.{beginning-any, beginning-unpriced}
 use native.Mathlib.Omega.{arith}
 use borrow.Author.Needs.{needs}
 use Rattle.job.proofs.read_beginning.Statement.{statement}

@@ -1,4 +1,4 @@
-use Rattle.job.proofs.Opening.{opening-any, opening-unpriced}
+use Rattle.job_rules.proofs.Opening.{opening-any, opening-unpriced}
 use native.Mathlib.Omega.{arith}
 use borrow.Author.Needs.{needs}
 use Rattle.job.proofs.read_opening.Statement.{statement}

@@ -1,5 +1,5 @@
 use native.Mathlib.Omega.{arith}
-use Rattle.job.proofs.Opening.{opening-any}
+use Rattle.job_rules.proofs.Opening.{opening-any}
 use borrow.Author.Needs.{needs}
 use Rattle.job.proofs.read_priced_opening.Statement.{statement}
 use Rattle.job.proofs.read_priced_opening.Tie as tie

@@ -4,7 +4,7 @@ use mathlib.Core.Path.{sym, ap, _∙_}
 use native.Mathlib.Omega.{arith}
 use borrow.Author.Needs.{needs}
 use Rattle.function.proofs.Laws.{low-limit}
-use Rattle.job.specs.Job.{opening}
+use Rattle.job_rules.specs.Job.{opening}
 use Rattle.job_examine.specs.Job.{examineOpened, examineJob}
 use Rattle.job_examine.proofs.Laws.{opening-refused, opening-got}
 use Rattle.job_examine.proofs.examine_job.Statement.{statement}

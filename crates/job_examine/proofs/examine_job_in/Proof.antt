@@ -3,7 +3,7 @@ use Prim.Native.Nat.{_-_}
 use mathlib.Core.Path.{refl, sym, ap, _∙_}
 use borrow.Author.Needs.{needs}
 use borrow.Author.Tests.{lt-ltb, le-ltb}
-use Rattle.job.specs.Job.{opening}
+use Rattle.job_rules.specs.Job.{opening}
 use Rattle.job_examine.specs.Job.{examineOpened, examineJobIn}
 use Rattle.job_examine.proofs.Laws.{opening-refused, opening-got}
 use Rattle.job_examine.proofs.examine_job_in.Statement.{statement}

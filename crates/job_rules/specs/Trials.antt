@@ -10,10 +10,10 @@ use Rattle.reginfo.specs.Refused.{Condition, cond}
 use Rattle.rules.specs.Edit.{Move, EmergencySpill}
 use Rattle.rules.specs.Trials.{r0Edits, r1Edits}
 use Rattle.job_target.specs.Trials.{swapGiven}
-use Rattle.job.specs.Job.{endsWith, before, job}
+use Rattle.job_rules.specs.Job.{endsWith, before, job}
 use Rattle.price.specs.Trials.{prices}
-use Rattle.job.specs.Conditions.{jobConditions}
-use Rattle.job.specs.Priced.{jobPriced}
+use Rattle.job_rules.specs.Conditions.{jobConditions}
+use Rattle.job_rules.specs.Priced.{jobPriced}
 
 -- behind swap-full's target: "2 0 1 0 0 0 0 1 0 2 0 1 3 0 0 3 1 1", with another L, free units and entries
 abbrev pub jobWith : ℕ → List ℕ → List ℕ

@@ -26,7 +26,7 @@ use Rattle.reading.specs.Reading.{tested, times, distinct}
 use Rattle.job_target.specs.Target.{bank, reg, class, unknownClass, target}
 use Rattle.job_function.specs.Reads.{value, function}
 use Rattle.job_patch.specs.Patches.{rising, place, entry, patch}
-use Rattle.job.specs.Job.{opening, job}
+use Rattle.job_rules.specs.Job.{opening, job}
 
 -- ---- one part after another
 -- the conditions of what is read next, where this part was read

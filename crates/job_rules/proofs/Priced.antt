@@ -20,11 +20,11 @@ use Rattle.rules.proofs.Accepted.{accepted}
 use Rattle.machine.proofs.Bound.{bound-ok}
 use Rattle.price.proofs.Laws.{edits-few}
 use Rattle.parallel_moves.proofs.First.{orThen, first-append, resolve-first}
-use Rattle.job.specs.Job.{job}
-use Rattle.job.specs.Priced as priced
-use Rattle.job.specs.Priced.{jobPriced, AsUnpriced}
-use Rattle.job.proofs.Opening.{opening-unpriced}
-use Rattle.job.proofs.Room.{Few, still-few, within, none-sorted}
+use Rattle.job_rules.specs.Job.{job}
+use Rattle.job_rules.specs.Priced as priced
+use Rattle.job_rules.specs.Priced.{jobPriced, AsUnpriced}
+use Rattle.job_rules.proofs.Opening.{opening-unpriced}
+use Rattle.job_rules.proofs.Room.{Few, still-few, within, none-sorted}
 
 pub as-unpriced : AsUnpriced
 unfolding jobPriced job

@@ -17,8 +17,8 @@ use Rattle.number.specs.Read.{got}
 use Rattle.number.specs.Number.{number}
 use Rattle.job_function.proofs.Accepted.{then-got}
 use Rattle.job_patch.specs.Patches.{rising, entry, entries, patch}
-use Rattle.job.specs.Conditions.{RoomForEvery}
-use Rattle.job.proofs.WasRead.{unless-got, given-got}
+use Rattle.job_rules.specs.Conditions.{RoomForEvery}
+use Rattle.job_rules.proofs.WasRead.{unless-got, given-got}
 
 -- what the entries became is no more than they are, and they are 128 at most
 pub record Few (a : Sorted) : Type 0 where

@@ -27,12 +27,12 @@ use Rattle.job_target.specs.Target.{target}
 use Rattle.job_function.specs.Reads as reads
 use Rattle.job_function.proofs.Accepted.{then-got, read-accepted}
 use Rattle.job_patch.specs.Patches.{unlessGiven, rising, place, entry, entries, patch}
-use Rattle.job.specs.Job.{Header, Opened, Done, withFunction, beginning, opening, job}
-use Rattle.job.specs.Claim.{Ends, all-done, left-over, not-read, not-resolved, OneByOne, EnoughWith, Enough, FewerEnough}
-use Rattle.job.proofs.WasRead.{early-got, given-got}
-use Rattle.job.specs.Formula.{counted}
-use Rattle.job.proofs.Opening.{opening-is}
-use Rattle.job.proofs.Claimed.{every-job}
+use Rattle.job_rules.specs.Job.{Header, Opened, Done, withFunction, beginning, opening, job}
+use Rattle.job_rules.specs.Claim.{Ends, all-done, left-over, not-read, not-resolved, OneByOne, EnoughWith, Enough, FewerEnough}
+use Rattle.job_rules.proofs.WasRead.{early-got, given-got}
+use Rattle.job_rules.specs.Formula.{counted}
+use Rattle.job_rules.proofs.Opening.{opening-is}
+use Rattle.job_rules.proofs.Claimed.{every-job}
 
 -- ---- reading a patch
 -- read, or refused by another number

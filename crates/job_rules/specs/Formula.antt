@@ -12,8 +12,8 @@ use Rattle.reading.specs.Reading.{between}
 use Rattle.job_target.specs.Target.{target}
 use Rattle.job_function.specs.Reads.{functionWithin}
 use Rattle.job_patch.specs.Patches.{unlessGiven}
-use Rattle.job.specs.Job.{Opened, Header, unlessEarly, opening}
-use Rattle.job.specs.Priced.{unlessOutside}
+use Rattle.job_rules.specs.Job.{Opened, Header, unlessEarly, opening}
+use Rattle.job_rules.specs.Priced.{unlessOutside}
 
 unfoldable pub withFunctionWithin : (least most : ℕ) → RegInfo → (kept : ℕ) → List ℕ → Read Opened
 withFunctionWithin least most t kept l = then (functionWithin least most t kept l) (λ f q. got (record { target = t; function = f }) q)

@@ -22,7 +22,7 @@ use Rattle.reading.specs.Reading.{below}
 use Rattle.parallel_moves.proofs.First.{first-append, resolve-first}
 use Rattle.job_function.proofs.Accepted.{then-got, pick-got, tested-got}
 use Rattle.job_patch.specs.Patches.{unlessGiven, rising, place, entry, entries, patch}
-use Rattle.job.specs.Job.{unlessEarly}
+use Rattle.job_rules.specs.Job.{unlessEarly}
 
 never : {A B : Type 0} {a : A} {r : List ℕ} {k : ℕ} → refused k ≡ got a r → B
 never e = let z : _≡_ {A = ℕ} 0 1 = cc in absurd (omega arith)

@@ -22,8 +22,8 @@ use Rattle.job_target.specs.Target.{target}
 use Rattle.job_function.specs.Reads.{function}
 use Rattle.job_function.proofs.Accepted.{read-accepted}
 use Rattle.job_patch.specs.Patches.{unlessGiven, patch}
-use Rattle.job.specs.Job.{Header, Done, Answers, afterRead, afterCall, leftOver, afterTarget, header, opening, patches, job}
-use Rattle.job.specs.Claim.{Ends, all-done, left-over, not-read, not-resolved, OneByOne, Opened, EveryJob, AllDone}
+use Rattle.job_rules.specs.Job.{Header, Done, Answers, afterRead, afterCall, leftOver, afterTarget, header, opening, patches, job}
+use Rattle.job_rules.specs.Claim.{Ends, all-done, left-over, not-read, not-resolved, OneByOne, Opened, EveryJob, AllDone}
 
 module _ (t : RegInfo) (f : Function) where
   abbrev Right : Answers → ℕ → Cache → List ℕ → Type 0

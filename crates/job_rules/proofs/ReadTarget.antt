@@ -17,8 +17,8 @@ use Rattle.number.specs.Number.{number}
 use Rattle.reading.specs.Reading.{tested, below, between, times, distinct}
 use Rattle.job_target.specs.Target.{Counted, bank, reg, class, classes, unknownClass, target}
 use Rattle.job_function.proofs.Accepted.{then-got, tested-got, times-got}
-use Rattle.job.specs.Conditions.{TargetRead}
-use Rattle.job.proofs.WasRead.{unless-got}
+use Rattle.job_rules.specs.Conditions.{TargetRead}
+use Rattle.job_rules.proofs.WasRead.{unless-got}
 
 -- ---- numbers below a limit, none twice and none listed before
 record Fresh (n limit : ℕ) (before xs : List ℕ) : Type 0 where

@@ -28,12 +28,12 @@ use Rattle.reading.specs.Reading.{tested, below, between, times, distinct}
 use Rattle.job_target.specs.Target.{bank, reg, class, classes, target}
 use Rattle.job_function.specs.Reads.{rebuilt, value, valued, function}
 use Rattle.job_patch.specs.Patches.{unlessGiven, rising, place, entry, entries, patch}
-use Rattle.job.specs.Job.{Header, Answers, afterRead, afterCall, leftOver, afterTarget, header, opening, patches, job}
-use Rattle.job.specs.Conditions.{afterGot, unread, inNumber, inTested, inTimes, inDistinct, inBank, inReg, inClass, inClasses, inTarget, ofTarget, inRebuilt, inValue, inFunction, inRising, afterResolved, inPlace, inEntry, inEntries, inPatch, ofCall, inPatches, inOpening, jobConditions, Refusals, NoNumber}
-use Rattle.job.specs.Priced.{unlessOutside, openingIf, openingPriced, jobPriced, inOpeningPriced, conditionsPriced, RefusalsPriced}
-use Rattle.job.proofs.Exactly.{refusalOf, Exactly, nothing, after, made, unless, within, passing, given, either, number-exactly, tested-exactly, times-exactly, distinct-exactly, rising-exactly}
-use Rattle.job.proofs.WasRead.{entry-named, settled, patch-called}
-use Rattle.job.proofs.ReadTarget.{target-read}
+use Rattle.job_rules.specs.Job.{Header, Answers, afterRead, afterCall, leftOver, afterTarget, header, opening, patches, job}
+use Rattle.job_rules.specs.Conditions.{afterGot, unread, inNumber, inTested, inTimes, inDistinct, inBank, inReg, inClass, inClasses, inTarget, ofTarget, inRebuilt, inValue, inFunction, inRising, afterResolved, inPlace, inEntry, inEntries, inPatch, ofCall, inPatches, inOpening, jobConditions, Refusals, NoNumber}
+use Rattle.job_rules.specs.Priced.{unlessOutside, openingIf, openingPriced, jobPriced, inOpeningPriced, conditionsPriced, RefusalsPriced}
+use Rattle.job_rules.proofs.Exactly.{refusalOf, Exactly, nothing, after, made, unless, within, passing, given, either, number-exactly, tested-exactly, times-exactly, distinct-exactly, rising-exactly}
+use Rattle.job_rules.proofs.WasRead.{entry-named, settled, patch-called}
+use Rattle.job_rules.proofs.ReadTarget.{target-read}
 
 -- a number that passes a test, then the rest
 tested-then : {B : Type 0} (ok : ℕ → Bool) (l : List ℕ) (next : ℕ → List ℕ → Read B) (ns : ℕ → List ℕ → List Condition)

@@ -26,8 +26,8 @@ use Rattle.number.specs.Read.{Read, got, refused, then}
 use Rattle.job_target.specs.Target as given
 use Rattle.job_function.specs.Reads as reads
 use Rattle.job_patch.specs.Patches.{unlessGiven}
-use Rattle.job.specs.Job.{Opened, Header, Answers, unlessEarly, afterTarget, withFunction, afterRead, opening, patches, job}
-use Rattle.job.specs.Conditions.{afterGot, inTested, inTarget, ofTarget, inFunction, inPatches}
+use Rattle.job_rules.specs.Job.{Opened, Header, Answers, unlessEarly, afterTarget, withFunction, afterRead, opening, patches, job}
+use Rattle.job_rules.specs.Conditions.{afterGot, inTested, inTarget, ofTarget, inFunction, inPatches}
 
 -- 19, unless the prices pass
 abbrev pub unlessOutside : {A : Type 0} → Bool → Read A → Read A

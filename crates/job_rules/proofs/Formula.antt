@@ -17,9 +17,9 @@ use Rattle.job_target.specs.Target.{target}
 use Rattle.job_function.specs.Reads.{function, functionWithin}
 use Rattle.job_function.proofs.Accepted.{then-got, read-within}
 use Rattle.job_patch.specs.Patches.{unlessGiven}
-use Rattle.job.specs.Job.{Opened, Header, withFunction, beginning, opening}
-use Rattle.job.specs.Formula.{withFunctionWithin, beginningWithin, counted, openingWithin, OpensWithin}
-use Rattle.job.proofs.Opening.{opening-is}
+use Rattle.job_rules.specs.Job.{Opened, Header, withFunction, beginning, opening}
+use Rattle.job_rules.specs.Formula.{withFunctionWithin, beginningWithin, counted, openingWithin, OpensWithin}
+use Rattle.job_rules.proofs.Opening.{opening-is}
 
 -- a target and what is read behind it by v, as a function
 module _ (x : Opened) (r : List ℕ) where

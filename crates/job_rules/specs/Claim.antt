@@ -14,7 +14,7 @@ use Rattle.machine.specs.Claim.{Accepted}
 use Rattle.machine.specs.Enough.{numSizes}
 use Rattle.number.specs.Read.{Read, got, refused}
 use Rattle.job_patch.specs.Patches.{patch}
-use Rattle.job.specs.Job.{Header, Done, Answers, opening, job}
+use Rattle.job_rules.specs.Job.{Header, Done, Answers, opening, job}
 
 module _ (t : RegInfo) (f : Function) where
   -- the bytes l begin with a patch that is read, and d is what its call gives from the cache c: its edits, which are as demand 3 says, how

@@ -13,7 +13,7 @@ use Rattle.number.specs.Number.{number}
 use Rattle.number.proofs.Laws.{one-refusal}
 use Rattle.reading.specs.Reading.{tested, below, times, distinct}
 use Rattle.job_patch.specs.Patches.{unlessGiven, rising}
-use Rattle.job.specs.Conditions.{afterGot, unread, inNumber, inTested, inTimes, inDistinct, inRising}
+use Rattle.job_rules.specs.Conditions.{afterGot, unread, inNumber, inTested, inTimes, inDistinct, inRising}
 
 abbrev pub refusalOf : {A : Type 0} → Read A → Option ℕ
 refusalOf (got x r) = none

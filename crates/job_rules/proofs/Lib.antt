@@ -1,0 +1,11 @@
+pub mod Opening
+pub mod Claimed
+pub mod Exactly
+pub mod WasRead
+pub mod Conditions
+pub mod ReadTarget
+pub mod Trials
+pub mod Room
+pub mod Enough
+pub mod Priced
+pub mod Formula
