@@ -13,8 +13,8 @@ use Rattle.parallel_moves.specs.declared.Resolved.the-variants as R
 use Rattle.parallel_moves.specs.declared.TakeAnswer.the-variants as K
 use Rattle.job_rules.specs.Job as job
 use Rattle.calls.specs.declared.Opened.the-variants as O
-use Rattle.frame.specs.declared.FrameOpened.the-variants as Q
-use Rattle.frame.specs.Opening.{shareConditions, FrameAs}
+use Rattle.frame_table.specs.declared.FrameOpened.the-variants as Q
+use Rattle.frame_table.specs.Opening.{shareConditions, FrameAs}
 use Rattle.frame_calls.specs.declared.FrameAsked.the-variants as A
 use Rattle.frame_calls.specs.declared.FramePreview.{FramePreview}
 use Rattle.frame_calls.specs.Given.{OpenedAs}

@@ -17,10 +17,10 @@ use Rattle.number.specs.Read as read
 use Rattle.number.specs.Read.{Read}
 use Rattle.parallel_moves.specs.Answers.{Pending}
 use Rattle.job_rules.specs.Job as job
-use Rattle.frame.specs.Table.{counterOf, reachOf}
-use Rattle.frame.specs.Opening.{Filled}
-use Rattle.frame.specs.Steps.{WentOn}
-use Rattle.frame.specs.Held.{FrameOk}
+use Rattle.frame_table.specs.Table.{counterOf, reachOf}
+use Rattle.frame_table.specs.Opening.{Filled}
+use Rattle.frame_table.specs.Steps.{WentOn}
+use Rattle.frame_table.specs.Held.{FrameOk}
 use Rattle.frame_calls.specs.declared.FramePreview.{FramePreview}
 use Rattle.frame_calls.specs.Given.{InFrame, SlotsNoted}
 use Rattle.frame_calls.specs.Answers.{previewIn}

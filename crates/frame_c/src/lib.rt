@@ -4,10 +4,10 @@ use calls::Opened;
 use carried::Carried;
 use edit::Edits;
 use entries::Entries;
-use frame::Frame;
-use frame::FrameOpened;
 use frame_calls::FrameAsked;
 use frame_calls::FramePreview;
+use frame_table::Frame;
+use frame_table::FrameOpened;
 use function::Function;
 use parallel_moves::Resolved;
 use parallel_moves::TakeAnswer;
@@ -25,9 +25,9 @@ ghost use Rattle.entity.specs.Logic.{Anything};
 ghost use Rattle.reginfo.specs.Refused.{firstOf};
 ghost use Rattle.function.specs.Known.{Checked};
 ghost use Rattle.slots.specs.Stacks.{stampOf};
-ghost use Rattle.frame.specs.Table.{numberOf, counterOf, madeOf};
-ghost use Rattle.frame.specs.Opening.{shareConditions};
-ghost use Rattle.frame.specs.Held.{FrameOk};
+ghost use Rattle.frame_table.specs.Table.{numberOf, counterOf, madeOf};
+ghost use Rattle.frame_table.specs.Opening.{shareConditions};
+ghost use Rattle.frame_table.specs.Held.{FrameOk};
 ghost use Rattle.frame_calls.specs.Given.{InFrame, openedIn};
 ghost use Rattle.frame_calls.specs.Answers.{answerOf, CanTakeIn};
 ghost use Rattle.frame_c.specs.Called.{FrameBy, FormulaBy, ResolvedBy, AskedBy, previewOf, TakenBy};
@@ -38,7 +38,7 @@ ghost use Rattle.frame_c.specs.Called.{FrameBy, FormulaBy, ResolvedBy, A
 pub extern "C" fn parallel_moves_frame_open_4(frame: &mut Frame, limit: u32, shares: &[u32]) -> u8
     ensures { λ r. ⌜ FrameBy limit (now (shares .entry)) (firstOf (shareConditions limit (now (shares .entry)))) r (now (frame .entry)) (now (frame .exit)) ⌝ }
 {
-    match frame::open_frame(frame, limit, shares) {
+    match frame_table::open_frame(frame, limit, shares) {
         FrameOpened::Yes => 0,
         FrameOpened::Refused(k) => k,
     }
@@ -232,5 +232,5 @@ pub extern "C" fn parallel_moves_frame_made_4(frame: &Frame, formula: usize) -> 
     requires { ⌜ formula < 16 ⌝ }
     ensures { λ n. ⌜ n ≡ madeOf (now (frame .entry)) formula ⌝ }
 {
-    frame::made(frame, formula)
+    frame_table::made(frame, formula)
 }

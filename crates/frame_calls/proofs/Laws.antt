@@ -29,10 +29,10 @@ use Rattle.parallel_moves.specs.declared.TakeAnswer.{TakeAnswer}
 use Rattle.parallel_moves.specs.Given.{withMade, GrantOk}
 use Rattle.parallel_moves.specs.Answers.{GivesGranted, CanTake, Asks, Takes}
 use Rattle.calls.specs.Call.{freeRefusal, patchOf, callOf}
-use Rattle.frame.specs.Table.{numberOf, counterOf, madeOf, reachOf}
-use Rattle.frame.specs.Steps.{WentOn}
-use Rattle.frame.specs.Held.{FrameOk}
-use Rattle.frame.proofs.Held.{own-low, reach-low, went-ok}
+use Rattle.frame_table.specs.Table.{numberOf, counterOf, madeOf, reachOf}
+use Rattle.frame_table.specs.Steps.{WentOn}
+use Rattle.frame_table.specs.Held.{FrameOk}
+use Rattle.frame_table.proofs.Held.{own-low, reach-low, went-ok}
 use Rattle.frame_calls.specs.declared.FramePreview.{FramePreview}
 use Rattle.frame_calls.specs.declared.FrameAsked as A
 use Rattle.frame_calls.specs.Given.{grantOf, InFrame}

@@ -25,10 +25,10 @@ use Rattle.job_rules.specs.Formula.{beginningWithin}
 use Rattle.job.specs.Steps.{BegunAt}
 use Rattle.calls.specs.declared.Opened.the-variants.{Yes, Refused}
 use Rattle.calls.specs.Opening.{ended}
-use Rattle.frame.specs.Table.{counterOf, slotsOf}
-use Rattle.frame.specs.Steps.{SlotsSet}
-use Rattle.frame.specs.Held.{FrameOk}
-use Rattle.frame.proofs.Held.{slots-ok}
+use Rattle.frame_table.specs.Table.{counterOf, slotsOf}
+use Rattle.frame_table.specs.Steps.{SlotsSet}
+use Rattle.frame_table.specs.Held.{FrameOk}
+use Rattle.frame_table.proofs.Held.{slots-ok}
 use Rattle.frame_calls.specs.Given.{InFrame, leastOf, mostOf, openedIn, NotedIf, SlotsNoted, OpenedAs}
 
 pub least-first : (frame : List ℕ) (i : ℕ) → i ≡ 0 → 0 ≡ leastOf frame i

@@ -20,9 +20,9 @@ use Rattle.parallel_moves.specs.declared.TakeAnswer.{TakeAnswer}
 use Rattle.parallel_moves.specs.Given.{withMade}
 use Rattle.parallel_moves.specs.Answers.{numberOf, editsIn, positionIn, CanTake, Pending}
 use Rattle.calls.specs.Call.{callOf}
-use Rattle.frame.specs.Table.{counterOf, madeOf, reachOf}
-use Rattle.frame.specs.Steps.{WentOn}
-use Rattle.frame.specs.Held.{FrameOk}
+use Rattle.frame_table.specs.Table.{counterOf, madeOf, reachOf}
+use Rattle.frame_table.specs.Steps.{WentOn}
+use Rattle.frame_table.specs.Held.{FrameOk}
 use Rattle.frame_calls.specs.declared.FramePreview.{FramePreview}
 use Rattle.frame_calls.specs.declared.FrameAsked as A
 use Rattle.frame_calls.specs.declared.FrameAsked.{FrameAsked}

@@ -19,9 +19,9 @@ use Rattle.job_rules.specs.Formula.{beginningWithin}
 use Rattle.calls.specs.declared.Opened.{Opened}
 use Rattle.calls.specs.declared.Opened.the-variants.{Yes, Refused}
 use Rattle.calls.specs.Opening.{ended}
-use Rattle.frame.specs.Table.{counterOf, slotsOf, reachOf}
-use Rattle.frame.specs.Steps.{SlotsSet}
-use Rattle.frame.specs.Held.{FrameOk}
+use Rattle.frame_table.specs.Table.{counterOf, slotsOf, reachOf}
+use Rattle.frame_table.specs.Steps.{SlotsSet}
+use Rattle.frame_table.specs.Held.{FrameOk}
 
 -- "Slot numbers come from one counter", which may go as far as `reach`
 abbrev pub grantOf : List ℕ → ℕ → Grant

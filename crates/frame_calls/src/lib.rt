@@ -4,7 +4,7 @@ use carried::Carried;
 use edit::Edits;
 use entity::narrow;
 use entries::Entries;
-use frame::Frame;
+use frame_table::Frame;
 use function::Function;
 use parallel_moves::Asked;
 use parallel_moves::Grant;
@@ -26,8 +26,8 @@ ghost use Rattle.entity.specs.Logic.{Anything};
 ghost use Rattle.function.specs.Known.{Checked};
 ghost use Rattle.function.specs.Table.{functionOf};
 ghost use Rattle.slots.specs.Stacks.{stampOf};
-ghost use Rattle.frame.specs.Table.{numberOf, counterOf, slotsOf, madeOf};
-ghost use Rattle.frame.specs.Held.{FrameOk};
+ghost use Rattle.frame_table.specs.Table.{numberOf, counterOf, slotsOf, madeOf};
+ghost use Rattle.frame_table.specs.Held.{FrameOk};
 ghost use Rattle.frame_calls.specs.Given.{grantOf, InFrame, leastOf, mostOf, openedIn, SlotsNoted, OpenedAs};
 ghost use Rattle.frame_calls.specs.Answers.{answerOf, GivesIn, AsksIn, CanTakeIn, TakesIn};
 
@@ -54,7 +54,7 @@ fn least_slots(frame: &Frame, i: usize) -> u32
     if i == 0 {
         return 0;
     }
-    frame::slots(frame) as u32
+    frame_table::slots(frame) as u32
 }
 
 // The greatest.
@@ -64,7 +64,7 @@ fn most_slots(frame: &Frame, i: usize) -> u32
     if i == 0 {
         return 4096;
     }
-    frame::slots(frame) as u32
+    frame_table::slots(frame) as u32
 }
 
 // The first one's N is noted in the frame.
@@ -73,7 +73,7 @@ fn note_slots(frame: &mut Frame, i: usize, f: &Function)
     ensures { λ _. ⌜ SlotsNoted (now (frame .entry)) i (functionOf (now (f .entry)) .slots) (now (frame .exit)) ⌝ }
 {
     if i == 0 {
-        frame::set_slots(frame, narrow(function::num_slots(f)));
+        frame_table::set_slots(frame, narrow(function::num_slots(f)));
     }
 }
 
@@ -112,8 +112,8 @@ fn grant(frame: &Frame, i: usize) -> Grant
     ensures { λ g. ⌜ g ≡ grantOf (now (frame .entry)) i ⌝ }
 {
     Grant {
-        made: frame::counter(frame),
-        limit: frame::reach(frame, i),
+        made: frame_table::counter(frame),
+        limit: frame_table::reach(frame, i),
     }
 }
 
@@ -163,7 +163,7 @@ pub fn resolve_in(
     ) {
         Resolved::Refused(k) => Resolved::Refused(k),
         Resolved::Edits(n, met) => {
-            frame::go_on(frame, i, slots::made(cache));
+            frame_table::go_on(frame, i, slots::made(cache));
             Resolved::Edits(n, met)
         }
     }
@@ -174,10 +174,10 @@ fn shown(frame: &Frame, i: usize, a: Preview) -> FramePreview
     requires { ⌜ (i < 16) × (counterOf (now frame) ≤ a .made) × (madeOf (now frame) i ≤ counterOf (now frame)) ⌝ }
     ensures { λ r. ⌜ r ≡ record { to = a .made; made = madeOf (now (frame .entry)) i + (a .made - counterOf (now (frame .entry))); position = a .position; stamp = a .stamp; counter = counterOf (now (frame .entry)) } ⌝ }
 {
-    let counter = frame::counter(frame);
+    let counter = frame_table::counter(frame);
     FramePreview {
         to: a.made,
-        made: frame::made(frame, i) + (a.made - counter),
+        made: frame_table::made(frame, i) + (a.made - counter),
         position: a.position,
         stamp: a.stamp,
         counter,
@@ -245,7 +245,7 @@ pub fn take_in(
     requires { ⌜ FrameOk (now frame) × (i < numberOf (now frame)) × (a .stamp ≡ stampOf (now cache) → a .counter ≡ counterOf (now frame) → CanTakeIn (now frame) i a (now slots) (now cache)) ⌝ }
     ensures { λ r. ⌜ TakesIn (now (frame .entry)) (now (frame .exit)) i a (now (slots .entry)) (now (cache .entry)) r (now (cache .exit)) ⌝ }
 {
-    if frame::counter(frame) != a.counter {
+    if frame_table::counter(frame) != a.counter {
         return TakeAnswer::Refused(20);
     }
     let own = Preview {
@@ -256,7 +256,7 @@ pub fn take_in(
     match parallel_moves::take(own, slots, cache) {
         TakeAnswer::Refused(k) => TakeAnswer::Refused(k),
         TakeAnswer::Yes => {
-            frame::go_on(frame, i, a.to);
+            frame_table::go_on(frame, i, a.to);
             TakeAnswer::Yes
         }
     }

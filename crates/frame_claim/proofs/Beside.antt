@@ -25,9 +25,9 @@ use Rattle.calls.specs.Call.{patchOf, callOf}
 use Rattle.frame_rules.specs.Frame.{Inlined, noFormula, openRefusal, Asked, Formula, Frame, reach, cacheIn, nowIn, functionIn, resolveIn, standingIn, askedIn, madeTo, withCache, afterIn}
 use Rattle.frame_rules.proofs.Calls.{Moved, moved, goes-on, at-own, at-other}
 use Rattle.frame_rules.proofs.Claim.{Lying, lying-after, stacked-of}
-use Rattle.frame.specs.Table.{counterOf, shareOf, madeOf, reachOf}
-use Rattle.frame.specs.Held.{Holds, FrameOk}
-use Rattle.frame.proofs.Held.{reach-held}
+use Rattle.frame_table.specs.Table.{counterOf, shareOf, madeOf, reachOf}
+use Rattle.frame_table.specs.Held.{Holds, FrameOk}
+use Rattle.frame_table.proofs.Held.{reach-held}
 use Rattle.frame_calls.specs.Given.{InFrame}
 use Rattle.frame_calls.specs.Answers.{answerOf}
 use Rattle.frame_claim.specs.Claim.{Left, State, freeIn, Taken, Same}

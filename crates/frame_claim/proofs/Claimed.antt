@@ -22,10 +22,10 @@ use Rattle.frame_rules.proofs.Promise.{promised}
 use Rattle.frame_rules.proofs.Takes.{count-calls, takes-in-frame}
 use Rattle.frame_rules.proofs.Independent.{independent}
 use Rattle.frame_rules.proofs.Claim.{lying-opened, frame-demand-3, frame-slots}
-use Rattle.frame.specs.Table.{counterOf, madeOf}
-use Rattle.frame.specs.Steps.{WentOn}
-use Rattle.frame.specs.Held.{Holds, FrameOk}
-use Rattle.frame.proofs.Held.{went-holds}
+use Rattle.frame_table.specs.Table.{counterOf, madeOf}
+use Rattle.frame_table.specs.Steps.{WentOn}
+use Rattle.frame_table.specs.Held.{Holds, FrameOk}
+use Rattle.frame_table.proofs.Held.{went-holds}
 use Rattle.frame_calls.specs.declared.FrameAsked.{FrameAsked}
 use Rattle.frame_calls.specs.declared.FramePreview.{FramePreview}
 use Rattle.frame_calls.specs.Answers.{GivesIn, previewIn, AsksIn, CanTakeIn, TakesIn}

@@ -29,11 +29,11 @@ use Rattle.calls.specs.declared.Opened.the-variants as O
 use Rattle.calls.specs.Opening as alone
 use Rattle.calls.specs.Opening.{ended}
 use Rattle.frame_rules.specs.Frame.{Inlined, noFormula, frameConditions, formulaRefusal, formulasRefusal, firstSlots, openRefusal, Frame, opened}
-use Rattle.frame.specs.Table.{slotsOf}
-use Rattle.frame.specs.Steps.{SlotsSet}
-use Rattle.frame.specs.Opening.{shareConditions, Filled}
-use Rattle.frame.specs.Held.{Holds, FrameOk}
-use Rattle.frame.proofs.Held.{same-conditions, opened-holds, filled-ok}
+use Rattle.frame_table.specs.Table.{slotsOf}
+use Rattle.frame_table.specs.Steps.{SlotsSet}
+use Rattle.frame_table.specs.Opening.{shareConditions, Filled}
+use Rattle.frame_table.specs.Held.{Holds, FrameOk}
+use Rattle.frame_table.proofs.Held.{same-conditions, opened-holds, filled-ok}
 use Rattle.frame_calls.specs.Given.{leastOf, mostOf, openedIn, NotedIf, SlotsNoted, OpenedAs}
 use Rattle.frame_calls.proofs.Opening.{least-other, most-other, most-low}
 use Rattle.frame_claim.specs.Opening.{Opening, noOpening, targetRead, functionRead, inlinedOf, formulasOf, targetsOf, functionsOf, cachesOf, frameAfter, OpenedFrom, Begins, OpeningsBegin, SharedFromOpenings}

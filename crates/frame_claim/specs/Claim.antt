@@ -24,8 +24,8 @@ use Rattle.frame_rules.specs.Promise.{Kept, PromisedTo}
 use Rattle.frame_rules.specs.Claim.{FrameClaim, FrameStacks}
 use Rattle.frame_rules.specs.Takes.{settledBy, TakesAnswered}
 use Rattle.frame_rules.specs.Renamed.{Alike}
-use Rattle.frame.specs.Table.{numberOf, counterOf, madeOf}
-use Rattle.frame.specs.Held.{Holds, FrameOk}
+use Rattle.frame_table.specs.Table.{numberOf, counterOf, madeOf}
+use Rattle.frame_table.specs.Held.{Holds, FrameOk}
 use Rattle.frame_calls.specs.declared.FramePreview.{FramePreview}
 use Rattle.frame_calls.specs.declared.FrameAsked as A
 use Rattle.frame_calls.specs.declared.FrameAsked.{FrameAsked}

@@ -12,9 +12,9 @@ use Rattle.job_rules.specs.Job as job
 use Rattle.calls.specs.declared.Opened.the-variants.{Yes}
 use Rattle.calls.specs.Opening as alone
 use Rattle.frame_rules.specs.Frame.{Inlined, noTarget, noFunction}
-use Rattle.frame.specs.declared.FrameOpened.the-variants as F
-use Rattle.frame.specs.Opening.{FrameAs}
-use Rattle.frame.specs.Held.{FrameOk}
+use Rattle.frame_table.specs.declared.FrameOpened.the-variants as F
+use Rattle.frame_table.specs.Opening.{FrameAs}
+use Rattle.frame_table.specs.Held.{FrameOk}
 use Rattle.frame_calls.specs.Given.{openedIn, OpenedAs}
 use Rattle.frame_claim.specs.Claim.{Made, Named, Called, Begun, FewPatches, begun, Shared}
 

@@ -1,4 +1,4 @@
-use Rattle.frame.proofs.Held.{own-low}
+use Rattle.frame_table.proofs.Held.{own-low}
 use Rattle.frame_calls.proofs.Laws.{granted-ok, few, asked-on, refused-asking, accepted-asking}
 use borrow.Author.Needs.{needs}
 use Rattle.frame_calls.proofs.ask_in.Statement.{statement}

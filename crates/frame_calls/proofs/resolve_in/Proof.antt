@@ -1,4 +1,4 @@
-use Rattle.frame.proofs.Held.{own-low}
+use Rattle.frame_table.proofs.Held.{own-low}
 use Rattle.frame_calls.proofs.Laws.{granted-ok, few, led-on, refused-call, accepted-call}
 use borrow.Author.Needs.{needs}
 use Rattle.frame_calls.proofs.resolve_in.Statement.{statement}
@@ -6,7 +6,7 @@ use Rattle.frame_calls.proofs.resolve_in.Tie as tie
 use Rattle.frame_calls.proofs.resolve_in.Reads as reads
 use Rattle.frame_calls.proofs.resolve_in.Lts as lts
 use Rattle.calls.proofs.resolve_granted.Reads as resolve-granted-reads
-use Rattle.frame.proofs.go_on.Reads as go-on-reads
+use Rattle.frame_table.proofs.go_on.Reads as go-on-reads
 use Rattle.frame_calls.proofs.grant.Reads as grant-reads
 use Rattle.slots.proofs.made.Reads as made-reads
 

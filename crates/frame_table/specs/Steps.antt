@@ -2,7 +2,7 @@
 use Prim.Native.Nat.{ℕ, _+_, _-_, _<_}
 use mathlib.Core.Path.{_≡_}
 use mathlib.Core.List.{List}
-use Rattle.frame.specs.Table.{numberOf, limitOf, counterOf, slotsOf, shareOf, madeOf}
+use Rattle.frame_table.specs.Table.{numberOf, limitOf, counterOf, slotsOf, shareOf, madeOf}
 
 -- the first one's N is n, and nothing else has changed
 pub record SlotsSet (frame : List ℕ) (n : ℕ) (frame′ : List ℕ) : Type 0 where

@@ -17,9 +17,9 @@ use Rattle.reginfo.proofs.First.{first-none}
 use Rattle.frame_rules.specs.Frame.{Inlined, total, frameConditions, Formula, Frame, noFormula, opened, lacks, othersLack, withCache}
 use Rattle.frame_rules.proofs.Calls.{reach-far, lack-split, at-own, at-other}
 use Rattle.frame_rules.proofs.Promise.{reach-is}
-use Rattle.frame.specs.Table.{numberOf, limitOf, counterOf, shareOf, madeOf, lacksOf, lacksBeside, othersLackOf, reachOf}
-use Rattle.frame.specs.Opening.{sumOf, shareConditions, SameConditions}
-use Rattle.frame.specs.Held.{Holds, OpenedHolds, ReachIs, WentHolds, frameOf, FrameOk, FilledOk, SlotsOk, WentOk}
+use Rattle.frame_table.specs.Table.{numberOf, limitOf, counterOf, shareOf, madeOf, lacksOf, lacksBeside, othersLackOf, reachOf}
+use Rattle.frame_table.specs.Opening.{sumOf, shareConditions, SameConditions}
+use Rattle.frame_table.specs.Held.{Holds, OpenedHolds, ReachIs, WentHolds, frameOf, FrameOk, FilledOk, SlotsOk, WentOk}
 
 -- ---- opening
 shares-many : (l : List Inlined) → length (map (λ (x : Inlined). x .share) l) ≡ length l

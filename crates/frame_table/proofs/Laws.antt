@@ -15,9 +15,9 @@ use Rattle.entity.proofs.Laws.{drop-step}
 use Rattle.reginfo.specs.Refused.{firstOf}
 use Rattle.rules.specs.Counts.{sum}
 use Rattle.rules.proofs.Steps.{same?}
-use Rattle.frame.specs.Table.{numberOf, counterOf, shareOf, madeOf, lacksOf, lacksBeside, othersLackOf}
-use Rattle.frame.specs.Opening.{sumOf, shareConditions, Filled}
-use Rattle.frame.specs.Steps.{SlotsSet, WentOn}
+use Rattle.frame_table.specs.Table.{numberOf, counterOf, shareOf, madeOf, lacksOf, lacksBeside, othersLackOf}
+use Rattle.frame_table.specs.Opening.{sumOf, shareConditions, Filled}
+use Rattle.frame_table.specs.Steps.{SlotsSet, WentOn}
 
 -- ---- shares
 -- from share i on, what is left of the limit is enough exactly where the limit is enough for all

@@ -9,9 +9,9 @@ use lib.ListN.{length, getD}
 use Rattle.entity.specs.Logic.{or}
 use Rattle.reginfo.specs.Refused.{Condition, cond, firstOf}
 use Rattle.frame_rules.specs.Frame.{Inlined, frameConditions}
-use Rattle.frame.specs.declared.FrameOpened.{FrameOpened}
-use Rattle.frame.specs.declared.FrameOpened.the-variants.{Yes, Refused}
-use Rattle.frame.specs.Table.{numberOf, limitOf, counterOf, slotsOf, shareOf, madeOf}
+use Rattle.frame_table.specs.declared.FrameOpened.{FrameOpened}
+use Rattle.frame_table.specs.declared.FrameOpened.the-variants.{Yes, Refused}
+use Rattle.frame_table.specs.Table.{numberOf, limitOf, counterOf, slotsOf, shareOf, madeOf}
 
 unfoldable pub sumOf : List ℕ → ℕ
 sumOf [] = 0

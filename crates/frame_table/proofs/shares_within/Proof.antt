@@ -4,11 +4,11 @@ use mathlib.Core.Path.{refl}
 use native.Mathlib.Omega.{arith}
 use lib.ListN.{length}
 use borrow.Author.Needs.{needs}
-use Rattle.frame.proofs.Laws.{Left, left-out, left-step, left-end}
-use Rattle.frame.proofs.shares_within.Statement.{statement}
-use Rattle.frame.proofs.shares_within.Tie as tie
-use Rattle.frame.proofs.shares_within.Reads as reads
-use Rattle.frame.proofs.shares_within.Lts as lts
+use Rattle.frame_table.proofs.Laws.{Left, left-out, left-step, left-end}
+use Rattle.frame_table.proofs.shares_within.Statement.{statement}
+use Rattle.frame_table.proofs.shares_within.Tie as tie
+use Rattle.frame_table.proofs.shares_within.Reads as reads
+use Rattle.frame_table.proofs.shares_within.Lts as lts
 
 abbrev Inv-loop : tie.InvT-loop
 Inv-loop limit shares left₀ i₀ left i = Left limit shares left i

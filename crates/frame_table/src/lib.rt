@@ -6,9 +6,9 @@ ghost use mathlib.Core.Bool.{true};
 ghost use Prim.Native.Nat.{_+_, _<_, _≤_};
 ghost use lib.Dec.{leb};
 ghost use lib.ListN.{length, getD};
-ghost use Rattle.frame.specs.Table.{numberOf, limitOf, counterOf, slotsOf, madeOf, lacksOf, lacksBeside, othersLackOf, reachOf};
-ghost use Rattle.frame.specs.Opening.{sumOf, Filled, FrameAs};
-ghost use Rattle.frame.specs.Steps.{WentOn, SlotsSet};
+ghost use Rattle.frame_table.specs.Table.{numberOf, limitOf, counterOf, slotsOf, madeOf, lacksOf, lacksBeside, othersLackOf, reachOf};
+ghost use Rattle.frame_table.specs.Opening.{sumOf, Filled, FrameAs};
+ghost use Rattle.frame_table.specs.Steps.{WentOn, SlotsSet};
 
 pub type Frame = [u16; 36];
 

@@ -1,8 +1,8 @@
 use mathlib.Core.Path.{_∙_}
 use borrow.Author.Needs.{needs}
-use Rattle.frame.proofs.Laws.{beside-own, beside-other}
-use Rattle.frame.proofs.lacks_beside.Statement.{statement}
-use Rattle.frame.proofs.lacks_beside.Tie as tie
+use Rattle.frame_table.proofs.Laws.{beside-own, beside-other}
+use Rattle.frame_table.proofs.lacks_beside.Statement.{statement}
+use Rattle.frame_table.proofs.lacks_beside.Tie as tie
 
 returns : tie.Need-returns
 returns c = beside-own (c .before .args .frame .now) _ _ (c .if1 .taken)

@@ -7,9 +7,9 @@ use Rattle.reginfo.specs.Refused.{firstOf}
 use Rattle.rules.specs.Take.{Counted}
 use Rattle.frame_rules.specs.Frame.{Inlined, Asked, Frame, noTarget, noFunction, opened, reach, withCache}
 use Rattle.frame_rules.specs.Promise.{Kept}
-use Rattle.frame.specs.Table.{numberOf, limitOf, counterOf, slotsOf, shareOf, madeOf, reachOf}
-use Rattle.frame.specs.Opening.{shareConditions, Filled}
-use Rattle.frame.specs.Steps.{SlotsSet, WentOn}
+use Rattle.frame_table.specs.Table.{numberOf, limitOf, counterOf, slotsOf, shareOf, madeOf, reachOf}
+use Rattle.frame_table.specs.Opening.{shareConditions, Filled}
+use Rattle.frame_table.specs.Steps.{SlotsSet, WentOn}
 
 -- the table holds the numbers of a frame
 pub record Holds (frame : List ℕ) (s : Frame) : Type 0 where
