@@ -7,7 +7,8 @@ use Rattle.entity.specs.Place.{reg, slot}
 use Rattle.rules.specs.Edit.{Move, EmergencySpill, EmergencyReload}
 use Rattle.rules.specs.Patch.{Entry, move}
 use Rattle.rules.specs.Take.{taking}
-use Rattle.rules.specs.Trials.{three, halves, plain, over, keeping, swap}
+use Rattle.rules.specs.Trials.{three, halves, plain, over, swap}
+use Rattle.rules.specs.ChangeTrials.{keeping}
 use Rattle.rules.specs.TakeTrials.{exchanged, ask, put}
 use Rattle.machine.specs.Enough.{numSizes}
 use Rattle.frame_rules.specs.Frame.{Inlined, openRefusal, Frame, opened, FrameCall, afterCall, afterCalls, Told, nothing, number, edits, told}

@@ -9,7 +9,7 @@ use Rattle.rules.specs.Edit.{updated, andThen, each, find, firstAt, filter}
 use Rattle.rules.specs.Scratch.{acquireFrom, unevict, unevictBut, unevictForReg, makeRoom, slotScratch, evictLast, reuse, orScratch, getScratchReg, moveEdits, doMove}
 use Rattle.rules.specs.Order.{carryOne, carry, remats, rematWithScratch, writerFrom, writersOf, writers, cycleMoveSources, divert, lead, undivert, undivertAll, close, visit, visitUnlessMemory, start, moves}
 use Rattle.rules.specs.Patch.{destinations, add, sortedFrom, entryConditions, patchConditions, run, resolveSorted, resolveFrom, resolve}
-use Rattle.rules.specs.Trials.{doubled}
+use Rattle.rules.specs.ChangeTrials.{doubled}
 use Rattle.number.specs.Number.{groups, number, groupsOf}
 use Rattle.reading.specs.Reading.{tested, times, distinct}
 use Rattle.job_target.specs.Target.{bank, reg, class, classes, target}

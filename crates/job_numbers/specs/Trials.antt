@@ -5,7 +5,8 @@ use mathlib.Core.List.{List, [], _∷_, _++_}
 use mathlib.Core.Option.{some}
 use Rattle.function.specs.Function.{Function}
 use Rattle.rules.specs.Patch.{Patch}
-use Rattle.rules.specs.Trials.{doubled, fixed, whole, half}
+use Rattle.rules.specs.Trials.{fixed}
+use Rattle.rules.specs.ChangeTrials.{doubled, whole, half}
 use Rattle.number.specs.Read.{got}
 use Rattle.job_target.specs.Trials.{swapGiven}
 use Rattle.job_target.specs.Trials as targets

@@ -8,7 +8,7 @@ use mathlib.Core.Option.{none, some}
 use Rattle.entity.specs.Place.{reg, slot}
 use Rattle.reginfo.specs.Refused.{Condition, cond}
 use Rattle.rules.specs.Edit.{Move, EmergencySpill}
-use Rattle.rules.specs.Trials.{r0Edits, r1Edits}
+use Rattle.rules.specs.ChangeTrials.{r0Edits, r1Edits}
 use Rattle.job_target.specs.Trials.{swapGiven}
 use Rattle.job_rules.specs.Job.{endsWith, before, job}
 use Rattle.price.specs.Trials.{prices}

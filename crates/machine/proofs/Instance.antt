@@ -17,7 +17,8 @@ use Rattle.rules.specs.Edit.{Edit, updated, andThen, each, find, firstAt, filte
 use Rattle.rules.specs.Scratch.{emptyCache, acquireFrom, unevict, unevictBut, unevictForReg, makeRoom, slotScratch, evictLast, reuse, orScratch, getScratchReg, moveEdits, doMove}
 use Rattle.rules.specs.Order.{KeptMove, noMove, carryOne, carry, remats, rematWithScratch, writerFrom, writersOf, writers, cycleMoveSources, divert, lead, undivert, undivertAll, close, visit, visitUnlessMemory, start, moves}
 use Rattle.rules.specs.Patch.{Patch, Answer, refused, resolved, destinations, add, sortedFrom, sorted, entryConditions, patchConditions, run, resolveSorted, resolveFrom, resolve, cacheAfter}
-use Rattle.rules.specs.Trials.{three, plain, patch, swap, arguments, twoBanks, ofTwo, stored, Gives}
+use Rattle.rules.specs.Trials.{three, plain, patch, swap, Gives}
+use Rattle.rules.specs.ChangeTrials.{arguments, twoBanks, ofTwo, stored}
 use Rattle.rules.proofs.Steps.{updated-at}
 use Rattle.rules.proofs.Trials.{trials, told-apart, argument-words, two-kept}
 use Rattle.rules.specs.Take.{resolving, asking, taking, takeAnswer, standing, askedAfter}

@@ -10,7 +10,8 @@ use Rattle.reginfo.specs.RegInfo.{RegInfo}
 use Rattle.function.specs.Function.{Function}
 use Rattle.rules.specs.Edit.{Edit, Move, EmergencySpill, EmergencyReload}
 use Rattle.rules.specs.Patch.{Patch, move}
-use Rattle.rules.specs.Trials.{three, plain, patch, swap, arguments, twoBanks, ofTwo, stored, r0Edits, r1Edits}
+use Rattle.rules.specs.Trials.{three, plain, patch, swap}
+use Rattle.rules.specs.ChangeTrials.{arguments, twoBanks, ofTwo, stored, r0Edits, r1Edits}
 use Rattle.machine.specs.Machine.{Memory, inSlot, Machine, Waiting, begin, steps}
 use Rattle.machine.specs.Claim.{Stopped, Finished}
 

@@ -10,7 +10,8 @@ use Rattle.function.specs.Function.{Function}
 use Rattle.function.specs.Refused as function
 use Rattle.rules.specs.Scratch.{Cache, emptyCache}
 use Rattle.rules.specs.Patch.{Entry, move, Answer, refused, resolved, resolve, cacheAfter}
-use Rattle.rules.specs.Trials.{single, patch, fixed, over, keeping, regOf, slotsOf, soleOf, ofBankOne}
+use Rattle.rules.specs.Trials.{single, patch, fixed, over}
+use Rattle.rules.specs.ChangeTrials.{keeping, regOf, slotsOf, soleOf, ofBankOne}
 use Rattle.machine.specs.Enough.{numSizes, numBankSizes, enoughSlots}
 
 -- the number that a call was refused with, 0 if none, and the slots made so far

@@ -8,6 +8,7 @@ pub mod Evictions
 pub mod Patch
 pub mod Sorted
 pub mod Trials
+pub mod ChangeTrials
 pub mod Refusals
 pub mod Take
 pub mod TakeTrials

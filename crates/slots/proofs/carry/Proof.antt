@@ -1,6 +1,6 @@
 -- `carry` meets its contract: where each cell in turn is below its end, and where none is.
 use borrow.Author.Needs.{needs}
-use Rattle.slots.proofs.Laws.{second-raised, third-raised, fourth-raised, all-round}
+use Rattle.slots.proofs.Raising.{second-raised, third-raised, fourth-raised, all-round}
 use Rattle.slots.proofs.carry.Statement.{statement}
 use Rattle.slots.proofs.carry.Tie as tie
 

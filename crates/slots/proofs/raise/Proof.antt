@@ -1,6 +1,6 @@
 -- `raise` meets its contract: in the stamp's lowest cell, or by the carry.
 use borrow.Author.Needs.{needs}
-use Rattle.slots.proofs.Laws.{first-raised, carried}
+use Rattle.slots.proofs.Raising.{first-raised, carried}
 use Rattle.slots.proofs.raise.Statement.{statement}
 use Rattle.slots.proofs.raise.Tie as tie
 
