@@ -3,7 +3,7 @@ use Prim.Native.Nat.{ℕ, _+_, _<_, _≤_}
 use mathlib.Core.Path.{_≡_, refl, sym, _∙_}
 use mathlib.Core.Bool.{Bool, false}
 use mathlib.Core.List.{List, [], _∷_}
-use mathlib.Core.Option.{none, some}
+use mathlib.Core.Option.{Option, none, some}
 use native.Mathlib.Omega.{arith}
 use lib.Dec.{eqb, ltb}
 use lib.ListN.{length, getD, drop, drop-of-length-le}
@@ -16,6 +16,7 @@ use Rattle.small_set.specs.Set.{setOf, emptySet, inserted}
 use Rattle.slots.specs.Stacks.{cacheOf}
 use Rattle.rules.specs.Refusals.{withLimit}
 use Rattle.rules.specs.Patch.{Answer}
+use Rattle.entries.specs.Known.{freeIn}
 use Rattle.parallel_moves.specs.declared.Asked as A
 use Rattle.parallel_moves.specs.declared.Asked.{Asked}
 use Rattle.parallel_moves.specs.declared.Grant.{Grant}
@@ -69,14 +70,20 @@ module _ (units : ℕ) (us : List ℕ) where
       let end = drop-of-length-le us {i = at} l in
       record { is = sym (h .first ∙ rw end); has-all = λ _ u. h .has-all u ∙ rw end (or-none (setOf set u)) }
 
--- where none is listed, none is in the set
-pub none-listed : (us : List ℕ) → ltb 0 (length us) ≡ false → us ≡ []
-none-listed [] q = refl
-none-listed (u ∷ us) q = absurd (omega (arith, ltb-false 0 (length (u ∷ us)) q))
+-- where none is given, the set is left as it is
+pub none-taken : (units : ℕ) (us : List ℕ) (set : List Bool) → length us ≡ 0 → FreeTaken units us none (freeIn (ltb 0 (length us)) set)
+unfolding freeFrom has setOf
+none-taken units [] set q = record { is = refl; has-all = λ _ u. refl }
+none-taken units (u ∷ us) set q = absurd (omega arith)
 
-pub none-given : (units : ℕ) (us : List ℕ) (set : List Bool) → FreeTaken units us none set → us ≡ [] → (u : ℕ) → setOf set u ≡ false
+pub some-taken : (units : ℕ) (us : List ℕ) (r : Option ℕ) (set : List Bool) → (length us ≡ 0 → ⊥) → FreeTaken units us r set → FreeTaken units us r (freeIn (ltb 0 (length us)) set)
+some-taken units us r set q h = let l : 0 < length us = omega arith in rw (lt-ltb 0 (length us) l) h
+
+-- where none is listed, none is in the set
+pub none-given : (units : ℕ) (us : List ℕ) (set : List Bool) → FreeTaken units us none set → ltb 0 (length us) ≡ false → (u : ℕ) → setOf set u ≡ false
 unfolding has
-none-given units us set h e u = sym (h .has-all refl u) ∙ rw e refl
+none-given units [] set h q u = sym (h .has-all refl u)
+none-given units (x ∷ us) set h q u = absurd (omega (arith, ltb-false 0 (length (x ∷ us)) q))
 
 -- the call: refused for its free units, or that of its patch
 module _ (t f us numbers list cache : List ℕ) (set : List Bool) where

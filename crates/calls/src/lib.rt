@@ -18,8 +18,7 @@ use small_set::RegUnitSet;
 use sparse::SparseMap;
 use visits::Marks;
 ghost use mathlib.Core.Path.{_≡_};
-ghost use mathlib.Core.Bool.{false};
-ghost use mathlib.Core.List.{[]};
+ghost use lib.Dec.{ltb};
 ghost use lib.ListN.{length};
 ghost use Rattle.entity.specs.Logic.{Anything};
 ghost use Rattle.reginfo.specs.Refused.{Accepted};
@@ -28,6 +27,7 @@ ghost use Rattle.function.specs.Known.{Checked};
 ghost use Rattle.function.specs.Table.{functionOf};
 ghost use Rattle.slots.specs.Stacks.{cacheOf};
 ghost use Rattle.entries.specs.Answers.{addedOf};
+ghost use Rattle.entries.specs.Known.{freeIn};
 ghost use Rattle.rules.specs.Refusals.{withLimit};
 ghost use Rattle.parallel_moves.specs.Given.{withMade, GrantOk, CacheOk};
 ghost use Rattle.parallel_moves.specs.Answers.{Gives, GivesGranted, Asks};
@@ -99,9 +99,20 @@ pub fn take_free(t: &RegInfo, free: &[u32], available: &mut RegUnitSet) -> Added
     Added::Yes
 }
 
+// The same, but that the set is left as it is where no unit is given.
+fn take_given(t: &RegInfo, free: &[u32], available: &mut RegUnitSet) -> Added
+    requires { ⌜ Accepted (regInfoOf (now t)) ⌝ }
+    ensures { λ r. ⌜ FreeTaken (regInfoOf (now (t .entry)) .units) (now (free .entry)) (addedOf r) (freeIn (ltb 0 (length (now (free .entry)))) (now (available .exit))) ⌝ }
+{
+    if free.len() == 0 {
+        return Added::Yes;
+    }
+    take_free(t, free, available)
+}
+
 // Whether a free unit is given.
 pub fn some_given(free: &[u32]) -> bool
-    ensures { λ r. ⌜ (r ≡ false → now (free .entry) ≡ []) ⌝ }
+    ensures { λ r. ⌜ r ≡ ltb 0 (length (now (free .entry))) ⌝ }
 {
     0 < free.len()
 }
@@ -129,7 +140,7 @@ pub fn resolve(
     ensures { λ r. ⌜ Gives (now (f .entry)) (callOf (regInfoOf (now (t .entry))) (functionOf (now (f .entry))) (now (free .entry)) (now (numbers .entry)) (length (now (list .entry))) (cacheOf (now (cache .entry)))) r (now (list .entry)) (now (list .exit)) (now (cache .entry)) (now (cache .exit)) ⌝ }
     ensures { λ _. ⌜ Anything (now (e .exit)) × Anything (now (w .exit)) × Anything (now (available .exit)) × Anything (now (sources .exit)) × Anything (now (edits .exit)) × Anything (now (slots .exit)) × Anything (now (d .exit)) × Anything (now (marks .exit)) × Anything (now (c .exit)) ⌝ }
 {
-    if let Added::Refused(k) = take_free(t, free, available) {
+    if let Added::Refused(k) = take_given(t, free, available) {
         return Resolved::Refused(k);
     }
     let given = some_given(free);
@@ -175,7 +186,7 @@ pub fn resolve_granted(
     ensures { λ r. ⌜ GivesGranted (now (f .entry)) g (callOf (regInfoOf (now (t .entry))) (withLimit (regInfoOf (now (t .entry))) (functionOf (now (f .entry))) (g .limit)) (now (free .entry)) (now (numbers .entry)) (length (now (list .entry))) (withMade (g .made) (cacheOf (now (cache .entry))))) r (now (list .entry)) (now (list .exit)) (now (cache .entry)) (now (cache .exit)) ⌝ }
     ensures { λ _. ⌜ Anything (now (e .exit)) × Anything (now (w .exit)) × Anything (now (available .exit)) × Anything (now (sources .exit)) × Anything (now (edits .exit)) × Anything (now (slots .exit)) × Anything (now (d .exit)) × Anything (now (marks .exit)) × Anything (now (c .exit)) ⌝ }
 {
-    if let Added::Refused(k) = take_free(t, free, available) {
+    if let Added::Refused(k) = take_given(t, free, available) {
         return Resolved::Refused(k);
     }
     let given = some_given(free);
@@ -222,7 +233,7 @@ pub fn ask_granted(
     ensures { λ r. ⌜ Asks (now (f .entry)) (g .limit) (callOf (regInfoOf (now (t .entry))) (withLimit (regInfoOf (now (t .entry))) (functionOf (now (f .entry))) (g .limit)) (now (free .entry)) (now (numbers .entry)) (length (now (list .entry))) (withMade (g .made) (cacheOf (now (cache .entry))))) r (now (list .entry)) (now (list .exit)) (now (cache .entry)) (now (slots .exit)) ⌝ }
     ensures { λ _. ⌜ Anything (now (e .exit)) × Anything (now (w .exit)) × Anything (now (available .exit)) × Anything (now (sources .exit)) × Anything (now (edits .exit)) × Anything (now (d .exit)) × Anything (now (marks .exit)) × Anything (now (c .exit)) ⌝ }
 {
-    if let Added::Refused(k) = take_free(t, free, available) {
+    if let Added::Refused(k) = take_given(t, free, available) {
         return Asked::Refused(k);
     }
     let given = some_given(free);

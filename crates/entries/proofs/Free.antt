@@ -49,10 +49,10 @@ any-has-true : (p : ℕ → Bool) (l : List ℕ) (u : ℕ) → has u l ≡ true 
 any-has-true p l u h k = let w = has-where u l h in any-true p l (w .0) 0 (w .1) (rw (w .2) k)
 
 -- where no unit is free, none of a list is
-pub none-free : (set : List Bool) (l : List ℕ) → ((u : ℕ) → setOf set u ≡ false) → any (isFree set) l ≡ false
-unfolding any
-none-free set [] h = refl
-none-free set (u ∷ l) h = rw (h u, none-free set l h) (neither (ltb u 512))
+pub none-free : (l : List ℕ) → any (isFree []) l ≡ false
+unfolding any setOf
+none-free [] = refl
+none-free (u ∷ l) = rw (none-free l) (neither (ltb u 512))
   where
     neither : (b : Bool) → or (and b false) false ≡ false
     neither true = refl

@@ -50,6 +50,11 @@ pub record Roomy (e w : List ℕ) : Type 0 where
   pub keys : length (keysOf w) ≤ 1016
   pub linked : Linked w
 
+-- the free units that are given: those of the set, if any is
+abbrev pub freeIn : Bool → List Bool → List Bool
+freeIn true set = set
+freeIn false set = []
+
 -- a register unit of the set
 abbrev pub isFree : List Bool → ℕ → Bool
 isFree free u = and (ltb u 512) (setOf free u)

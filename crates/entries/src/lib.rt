@@ -38,7 +38,7 @@ ghost use Rattle.small_set.specs.Set.{setOf};
 ghost use Rattle.sparse.specs.Map.{mapOf, keysOf, Linked};
 ghost use Rattle.entries.specs.Table.{sortedOf, countedOne, storedMove, storedRemat, stampOf, isMove, isMoveOf, keptMove, rebuiltAs, withMove, withRemat};
 ghost use Rattle.function.specs.Known.{Checked};
-ghost use Rattle.entries.specs.Known.{Writable, isWritten, Roomy, isFree, lastClashes, clashesAt, SourcedAt, Sourced, SameIndex, NamedRemat, NamedMove, PassedMove, EntriesOk};
+ghost use Rattle.entries.specs.Known.{Writable, isWritten, Roomy, freeIn, isFree, lastClashes, clashesAt, SourcedAt, Sourced, SameIndex, NamedRemat, NamedMove, PassedMove, EntriesOk};
 ghost use Rattle.entries.specs.Answers.{addedOf, rebuiltOf, NotedNew, IndexedAs, AddedAs, RebuiltAs};
 
 pub type Entries = [u16; 1541];
@@ -524,10 +524,10 @@ fn is_free(free: &RegUnitSet, u: AllocationUnit) -> bool
     }
 }
 
-// 13: whether a free unit is a destination's: one that has a writer. Where no unit is free, no key is looked at.
+// 13: whether a free unit is a destination's: one that has a writer. Where none is given, neither the set nor a key is looked at.
 fn free_destination(w: &SparseMap, free: &RegUnitSet, given: bool) -> bool
-    requires { ⌜ Linked (now w) × (given ≡ false → (u : ℕ) → setOf (now free) u ≡ false) ⌝ }
-    ensures { λ r. ⌜ r ≡ any (isFree (now (free .entry))) (keysOf (now (w .entry))) ⌝ }
+    requires { ⌜ Linked (now w) ⌝ }
+    ensures { λ r. ⌜ r ≡ any (isFree (freeIn given (now (free .entry)))) (keysOf (now (w .entry))) ⌝ }
 {
     if !given {
         return false;
@@ -594,8 +594,8 @@ fn edit_bound(e: &Entries) -> usize
     8 * kept + (5 * scratch + remats)
 }
 
-// 13, 14, 16: the number by which the patch is refused, of which `free` are the free units, where the lent list has `room`. Asked is of
-// `given` only: if it is false, no unit is free.
+// 13, 14, 16: the number by which the patch is refused, where the lent list has `room`. Its free units are those of the set, if `given`; else
+// it has none, whatever the set holds.
 pub fn refusal(
     t: &RegInfo,
     f: &Function,
@@ -605,8 +605,8 @@ pub fn refusal(
     given: bool,
     room: usize,
 ) -> Added
-    requires { ⌜ Checked (now t) (now f) × EntriesOk (now t) (now f) (now e) (now w) × (given ≡ false → (u : ℕ) → setOf (now free) u ≡ false) ⌝ }
-    ensures { λ r. ⌜ ((p : Patch) → ((u : ℕ) → has u (p .free) ≡ setOf (now (free .entry)) u) → addedOf r ≡ firstOf (patchConditions (regInfoOf (now (t .entry))) (functionOf (now (f .entry))) p room (sortedOf (now (e .entry))))) ⌝ }
+    requires { ⌜ Checked (now t) (now f) × EntriesOk (now t) (now f) (now e) (now w) ⌝ }
+    ensures { λ r. ⌜ ((p : Patch) → ((u : ℕ) → has u (p .free) ≡ setOf (freeIn given (now (free .entry))) u) → addedOf r ≡ firstOf (patchConditions (regInfoOf (now (t .entry))) (functionOf (now (f .entry))) p room (sortedOf (now (e .entry))))) ⌝ }
 {
     if free_destination(w, free, given) {
         return Added::Refused(13);

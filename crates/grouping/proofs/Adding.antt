@@ -1,7 +1,7 @@
 -- The entries of a group, added one after the other.
 use Prim.Native.Nat.{ℕ, _+_, _*_, _<_, _≤_}
 use mathlib.Core.Path.{_≡_, refl, sym, ap, _∙_}
-use mathlib.Core.Bool.{Bool, false, false≢true}
+use mathlib.Core.Bool.{Bool, true, false, false≢true}
 use mathlib.Core.List.{List, [], _∷_}
 use mathlib.Core.Option.{Option, none, some}
 use native.Mathlib.Omega.{arith}
@@ -17,7 +17,7 @@ use Rattle.rules.specs.Refusals.{entriesConditions}
 use Rattle.small_set.specs.Set.{setOf}
 use Rattle.scratch.specs.State.{T}
 use Rattle.entries.specs.Table.{sortedOf}
-use Rattle.entries.specs.Known.{EntriesOk}
+use Rattle.entries.specs.Known.{EntriesOk, freeIn}
 use Rattle.entries.specs.Answers.{AddedAs}
 use Rattle.group_rules.specs.Groups.{chosen, part, labelsOf}
 use Rattle.group_rules.proofs.Lists.{filter-has}
@@ -30,7 +30,6 @@ use Rattle.slots.specs.Stacks.{cacheOf}
 use Rattle.groups.specs.Given.{entryAt, labelsIn}
 use Rattle.groups.specs.Free.{FreeAs}
 use Rattle.grouping.specs.Answers.{PartAdded, rest, PartGives, within}
-use Rattle.grouping.proofs.Givens.{given, is-given}
 
 pub entry-is : (t f e w e′ w′ numbers : List ℕ) (k : ℕ) (r : Option ℕ) → AddedAs t f e w e′ w′ (entryOf (getD numbers (k * 4) 0) (getD numbers (k * 4 + 1) 0) (getD numbers (k * 4 + 2) 0) (getD numbers (k * 4 + 3) 0)) r → AddedAs t f e w e′ w′ (entryAt numbers k) r
 unfolding entryAt
@@ -102,7 +101,9 @@ module _ (t f numbers : List ℕ) (g : ℕ) (e w : List ℕ) where
         rw (built-within t f limit available e q built (length list) (cacheOf work)) (out q (fr p num))
 
 -- where no unit is free, none is for a group
-pub still-none : (t : RegInfo) (numbers : List ℕ) (free out : List Bool) (g : ℕ) → ((u : ℕ) → setOf free u ≡ false) → FreeAs t numbers free g out → (u : ℕ) → setOf out u ≡ false
-unfolding part
-still-none t numbers free out g empty fr u =
-    sym (fr (given free numbers) (is-given free numbers) u) ∙ never-true _ (λ h. false≢true (sym (empty u) ∙ sym (is-given free numbers .free-is u) ∙ filter-has _ (given free numbers .free) u h .0))
+pub part-none : (t : RegInfo) (numbers : List ℕ) (free out : List Bool) (g : ℕ) (b : Bool) → b ≡ false → ((u : ℕ) → setOf free u ≡ false) → FreeAs t numbers free g (freeIn b out)
+unfolding part setOf
+part-none t numbers free out g b q empty p num u = rw q (never-true _ (λ h. false≢true (sym (empty u) ∙ sym (num .free-is u) ∙ filter-has _ (p .free) u h .0)))
+
+pub part-some : (t : RegInfo) (numbers : List ℕ) (free out : List Bool) (g : ℕ) (b : Bool) → b ≡ true → FreeAs t numbers free g out → FreeAs t numbers free g (freeIn b out)
+part-some t numbers free out g b q h = rw q h

@@ -24,7 +24,7 @@ use Rattle.rules.specs.Refusals.{entriesConditions}
 use Rattle.small_set.specs.Set.{setOf}
 use Rattle.scratch.specs.State.{T}
 use Rattle.entries.specs.Table.{sortedOf}
-use Rattle.entries.specs.Known.{EntriesOk}
+use Rattle.entries.specs.Known.{EntriesOk, freeIn}
 use Rattle.entries.proofs.Fates.{writable, code-fits}
 use Rattle.group_rules.specs.Groups.{wholeConditions}
 use Rattle.group_rules.specs.Refusals.{noEntry}
@@ -129,6 +129,12 @@ module _ (t f : List ℕ) (ok : Checked t f) where
       most (e ∷ l) h = let z = counted (T t) (functionOf f) (e ∷ l) nothingSorted h (omega arith) in omega arith
 
 -- ---- the tests of the whole patch
+-- where no unit is in the set unless one is given, the units given are those of the set
+pub all-given : (b : Bool) (set : List Bool) → (b ≡ false → (u : ℕ) → setOf set u ≡ false) → (u : ℕ) → setOf set u ≡ setOf (freeIn b set) u
+unfolding setOf
+all-given true set h u = refl
+all-given false set h u = h refl u
+
 module _ (t f e e′ w′ : List ℕ) (free : List Bool) (numbers : List ℕ) (room : ℕ) (ok : Checked t f) (empty : sortedOf e ≡ nothingSorted) where
   pub entries-refused : (n : ℕ) → AllAdded t f e e′ w′ (entriesOf numbers) (some n) → TestedAs t f free numbers room (some n)
   entries-refused n h =

@@ -27,11 +27,12 @@ ghost use Rattle.reginfo.specs.Table.{regInfoOf};
 ghost use Rattle.function.specs.Known.{Checked};
 ghost use Rattle.small_set.specs.Set.{setOf};
 ghost use Rattle.entries.specs.Answers.{addedOf};
+ghost use Rattle.entries.specs.Known.{freeIn};
 ghost use Rattle.slots.specs.Stacks.{cacheOf, CacheFits};
 ghost use Rattle.parallel_moves.specs.Given.{withMade, GrantOk, CacheOk};
 ghost use Rattle.groups.specs.Given.{KnownEntries};
 ghost use Rattle.groups.specs.Linked.{GroupAt};
-ghost use Rattle.groups.specs.Free.{CommonAs};
+ghost use Rattle.groups.specs.Free.{CommonAs, FreeAs};
 ghost use Rattle.grouping.specs.Copied.{StackCopied, StacksCopied, Written};
 ghost use Rattle.grouping.specs.Answers.{TestedAs, Laid, PartAdded, rest, PartGives, Passed, PartsGive, HandedOver, GroupsGranted, Groups};
 
@@ -138,6 +139,26 @@ fn add_part(
     Added::Yes
 }
 
+// The free units of the group whose first entry is `first`, where any is given; else the set is left as it is.
+fn part_given(
+    given: bool,
+    t: &RegInfo,
+    numbers: &[u32],
+    free: &RegUnitSet,
+    common: &RegUnitSet,
+    next: &Labels,
+    first: usize,
+    available: &mut RegUnitSet,
+)
+    requires { ⌜ KnownEntries (regInfoOf (now t)) (now numbers) × CommonAs (regInfoOf (now t)) (now numbers) (now free) (now common) × GroupAt (regInfoOf (now t)) (now numbers) (now next) first × (given ≡ false → (u : ℕ) → setOf (now free) u ≡ false) ⌝ }
+    ensures { λ _. ⌜ FreeAs (regInfoOf (now (t .entry))) (now (numbers .entry)) (now (free .entry)) first (freeIn given (now (available .exit))) ⌝ }
+{
+    if !given {
+        return;
+    }
+    groups::part_free(t, numbers, free, common, next, first, available);
+}
+
 // "each is resolved as a patch of its entries alone": the group whose first entry is `first`, on the working cache. Its edits go to the front of the
 // list.
 fn resolve_part(
@@ -169,7 +190,7 @@ fn resolve_part(
     if let Added::Refused(n) = add_part(t, f, numbers, next, first, e, w) {
         return Resolved::Refused(n);
     }
-    groups::part_free(t, numbers, free, common, next, first, available);
+    part_given(given, t, numbers, free, common, next, first, available);
     let g = Grant {
         made: slots::made(work),
         limit: limit,

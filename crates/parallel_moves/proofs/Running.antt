@@ -12,7 +12,7 @@ use Rattle.entity.specs.Logic.{has}
 use Rattle.function.specs.Known.{Checked}
 use Rattle.function.specs.Table.{functionOf}
 use Rattle.function.proofs.Laws.{few-slots}
-use Rattle.small_set.specs.Set.{setOf}
+use Rattle.small_set.specs.Set.{setOf, emptySet}
 use Rattle.rules.specs.Edit.{andThen, each}
 use Rattle.rules.specs.Scratch as rules
 use Rattle.rules.specs.Order.{rematWithScratch}
@@ -26,7 +26,7 @@ use Rattle.scratch.specs.State.{T, F, madeOf, evictedIn, Fits, Stacked, owed}
 use Rattle.scratch.specs.Contracts.{Tables, tables, stateOf}
 use Rattle.scratch.proofs.Bounds.{fewer, refit}
 use Rattle.entries.specs.Table.{sortedOf}
-use Rattle.entries.specs.Known.{EntriesOk}
+use Rattle.entries.specs.Known.{freeIn, EntriesOk}
 use Rattle.visits.specs.Marks.{movesOf, rematsOf, rematsWithScratchOf}
 use Rattle.rebuilds.specs.Rebuilds.{Rematted, Rebuilt}
 use Rattle.rebuilds.proofs.Direct.{rematted-fits}
@@ -53,6 +53,18 @@ free-at (suc i) b (false ∷ l) = let q : b + suc i ≡ b + 1 + i = omega arith 
 pub free-is : (free : List Bool) (u : ℕ) → has u (freeOf free) ≡ setOf free u
 unfolding setOf
 free-is free u = let q : 0 + u ≡ u = omega arith in rw q at (free-at u 0 free)
+
+-- where no unit is given, the set is the empty one
+pub settled-none : (given : Bool) (set set′ : List Bool) → given ≡ false → setOf set′ ≡ emptySet → setOf set′ ≡ setOf (freeIn given set)
+unfolding setOf emptySet
+settled-none given set set′ q e = rw q e
+
+pub settled-given : (given : Bool) (set : List Bool) → given ≡ true → setOf set ≡ setOf (freeIn given set)
+settled-given given set q = rw q
+
+-- a run hangs on the set that the flags hold, not on the flags
+pub ran-as : (t f cache e : List ℕ) (made : ℕ) (free free′ : List Bool) (k : ScratchAllocator) (x : Tables) → setOf free ≡ setOf free′ → Ran t f cache e made free k x → Ran t f cache e made free′ k x
+ran-as t f cache e made free free′ k x q h = record { is = λ p same. h .is p (λ u. rw q (same u)); fits = h .fits }
 
 module _ (t f cache e w : List ℕ) (known : Checked t f) (ok : EntriesOk t f e w) (g : Grant) (granted : GrantOk f g cache) where
   -- the tables as a run begins

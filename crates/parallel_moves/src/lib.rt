@@ -14,15 +14,14 @@ use small_set::RegUnitSet;
 use sparse::SparseMap;
 use visits::Marks;
 ghost use mathlib.Core.Path.{_≡_};
-ghost use mathlib.Core.Bool.{false};
-ghost use Prim.Native.Nat.{ℕ, _+_, _≤_};
+ghost use Prim.Native.Nat.{_+_, _≤_};
 ghost use lib.ListN.{length, getD};
 ghost use Rattle.entity.specs.Logic.{Anything};
 ghost use Rattle.small_set.specs.Set.{setOf};
 ghost use Rattle.function.specs.Known.{Checked};
 ghost use Rattle.function.specs.Table.{functionOf};
 ghost use Rattle.rules.specs.Patch as rules;
-ghost use Rattle.entries.specs.Known.{EntriesOk};
+ghost use Rattle.entries.specs.Known.{EntriesOk, freeIn};
 ghost use Rattle.entries.specs.Answers.{addedOf, AddedAs};
 ghost use Rattle.slots.specs.Stacks.{cacheOf, stampOf};
 ghost use Rattle.scratch.specs.State.{T};
@@ -126,8 +125,58 @@ fn run(
     )
 }
 
+// Makes the set that of the patch's free units: where none is given, it is cleared.
+fn settle(given: bool, available: &mut RegUnitSet)
+    ensures { λ _. ⌜ setOf (now (available .exit)) ≡ setOf (freeIn given (now (available .entry))) ⌝ }
+{
+    if given {
+        return;
+    }
+    small_set::clear(available);
+}
+
+// The same, with the free units of the set, if `given`; else with none, whatever the set holds.
+fn run_given(
+    g: Grant,
+    given: bool,
+    t: &RegInfo,
+    f: &Function,
+    cache: &SlotCache,
+    e: &Entries,
+    w: &SparseMap,
+    available: &mut RegUnitSet,
+    sources: &mut RegUnitSet,
+    edits: &mut Edits,
+    slots: &mut Slots,
+    d: &mut Diverted,
+    marks: &mut Marks,
+    c: &mut Carried,
+) -> ScratchAllocator
+    requires { ⌜ Checked (now t) (now f) × EntriesOk (now t) (now f) (now e) (now w) × GrantOk (now f) g (now cache) ⌝ }
+    ensures { λ r. ⌜ Ran (now (t .entry)) (now (f .entry)) (now (cache .entry)) (now (e .entry)) (g .made) (freeIn given (now (available .entry))) r (tables (now (edits .exit)) (now (available .exit)) (now (slots .exit))) ⌝ }
+    ensures { λ _. ⌜ Anything (now (sources .exit)) × Anything (now (d .exit)) × Anything (now (marks .exit)) × Anything (now (c .exit)) ⌝ }
+{
+    settle(given, available);
+    run(
+        g,
+        t,
+        f,
+        cache,
+        e,
+        w,
+        available,
+        sources,
+        edits,
+        slots,
+        d,
+        marks,
+        c,
+    )
+}
+
 // Resolves a patch under a grant, built of entries and with the set `available` as its free units: its edits go to the front of the lent list. On a
-// refusal the list and the cache are left as they were. If `given` is false, no unit is free. What the other working tables hold does not matter.
+// refusal the list and the cache are left as they were. If `given` is false, no unit is free, whatever the
+// set holds. What the other working tables hold does not matter.
 pub fn resolve_granted(
     g: Grant,
     t: &RegInfo,
@@ -145,8 +194,8 @@ pub fn resolve_granted(
     marks: &mut Marks,
     c: &mut Carried,
 ) -> Resolved
-    requires { ⌜ Checked (now t) (now f) × EntriesOk (now t) (now f) (now e) (now w) × GrantOk (now f) g (now cache) × (given ≡ false → (u : ℕ) → setOf (now available) u ≡ false) ⌝ }
-    ensures { λ r. ⌜ ResolvesGranted g (now (t .entry)) (now (f .entry)) (now (available .entry)) (now (e .entry)) r (now (list .entry)) (now (list .exit)) (now (cache .entry)) (now (cache .exit)) ⌝ }
+    requires { ⌜ Checked (now t) (now f) × EntriesOk (now t) (now f) (now e) (now w) × GrantOk (now f) g (now cache) ⌝ }
+    ensures { λ r. ⌜ ResolvesGranted g (now (t .entry)) (now (f .entry)) (freeIn given (now (available .entry))) (now (e .entry)) r (now (list .entry)) (now (list .exit)) (now (cache .entry)) (now (cache .exit)) ⌝ }
     ensures { λ _. ⌜ Anything (now (available .exit)) × Anything (now (sources .exit)) × Anything (now (edits .exit)) × Anything (now (slots .exit)) × Anything (now (d .exit)) × Anything (now (marks .exit)) × Anything (now (c .exit)) ⌝ }
 {
     if let Added::Refused(n) = entries::refusal(t, f, e, w, available, given, list.len()) {
@@ -157,8 +206,9 @@ pub fn resolve_granted(
         slots::raise(cache, g.made);
         return Resolved::Edits(n, 0);
     }
-    let k = run(
+    let k = run_given(
         g,
+        given,
         t,
         f,
         cache,
@@ -192,8 +242,8 @@ pub fn resolve_available(
     marks: &mut Marks,
     c: &mut Carried,
 ) -> Resolved
-    requires { ⌜ Checked (now t) (now f) × EntriesOk (now t) (now f) (now e) (now w) × CacheOk (now f) (now cache) × (given ≡ false → (u : ℕ) → setOf (now available) u ≡ false) ⌝ }
-    ensures { λ r. ⌜ Resolves (now (t .entry)) (now (f .entry)) (now (available .entry)) (now (e .entry)) r (now (list .entry)) (now (list .exit)) (now (cache .entry)) (now (cache .exit)) ⌝ }
+    requires { ⌜ Checked (now t) (now f) × EntriesOk (now t) (now f) (now e) (now w) × CacheOk (now f) (now cache) ⌝ }
+    ensures { λ r. ⌜ Resolves (now (t .entry)) (now (f .entry)) (freeIn given (now (available .entry))) (now (e .entry)) r (now (list .entry)) (now (list .exit)) (now (cache .entry)) (now (cache .exit)) ⌝ }
     ensures { λ _. ⌜ Anything (now (available .exit)) × Anything (now (sources .exit)) × Anything (now (edits .exit)) × Anything (now (slots .exit)) × Anything (now (d .exit)) × Anything (now (marks .exit)) × Anything (now (c .exit)) ⌝ }
 {
     let g = own_grant(f, cache);
@@ -296,8 +346,8 @@ pub fn ask_granted(
     marks: &mut Marks,
     c: &mut Carried,
 ) -> Asked
-    requires { ⌜ Checked (now t) (now f) × EntriesOk (now t) (now f) (now e) (now w) × GrantOk (now f) g (now cache) × (given ≡ false → (u : ℕ) → setOf (now available) u ≡ false) ⌝ }
-    ensures { λ r. ⌜ AsksGranted g (now (t .entry)) (now (f .entry)) (now (available .entry)) (now (e .entry)) r (now (list .entry)) (now (list .exit)) (now (cache .entry)) (now (slots .exit)) ⌝ }
+    requires { ⌜ Checked (now t) (now f) × EntriesOk (now t) (now f) (now e) (now w) × GrantOk (now f) g (now cache) ⌝ }
+    ensures { λ r. ⌜ AsksGranted g (now (t .entry)) (now (f .entry)) (freeIn given (now (available .entry))) (now (e .entry)) r (now (list .entry)) (now (list .exit)) (now (cache .entry)) (now (slots .exit)) ⌝ }
     ensures { λ _. ⌜ Anything (now (available .exit)) × Anything (now (sources .exit)) × Anything (now (edits .exit)) × Anything (now (d .exit)) × Anything (now (marks .exit)) × Anything (now (c .exit)) ⌝ }
 {
     if let Added::Refused(n) = entries::refusal(t, f, e, w, available, given, list.len()) {
@@ -316,8 +366,9 @@ pub fn ask_granted(
             },
         );
     }
-    let k = run(
+    let k = run_given(
         g,
+        given,
         t,
         f,
         cache,
@@ -430,7 +481,7 @@ pub fn add_entries(
 }
 
 // Resolves under a grant a patch whose free units are the set `available` and whose entries are given as numbers, four to an entry: 0 source destination
-// value, or 1 destination value and a number that is not read. If `given` is false, no unit is free.
+// value, or 1 destination value and a number that is not read. If `given` is false, no unit is free, whatever the set holds.
 pub fn resolve_patch_granted(
     g: Grant,
     t: &RegInfo,
@@ -449,8 +500,8 @@ pub fn resolve_patch_granted(
     marks: &mut Marks,
     c: &mut Carried,
 ) -> Resolved
-    requires { ⌜ Checked (now t) (now f) × GrantOk (now f) g (now cache) × (given ≡ false → (u : ℕ) → setOf (now available) u ≡ false) ⌝ }
-    ensures { λ r. ⌜ ResolvesPatchGranted g (now (t .entry)) (now (f .entry)) (now (available .entry)) (now (numbers .entry)) r (now (list .entry)) (now (list .exit)) (now (cache .entry)) (now (cache .exit)) ⌝ }
+    requires { ⌜ Checked (now t) (now f) × GrantOk (now f) g (now cache) ⌝ }
+    ensures { λ r. ⌜ ResolvesPatchGranted g (now (t .entry)) (now (f .entry)) (freeIn given (now (available .entry))) (now (numbers .entry)) r (now (list .entry)) (now (list .exit)) (now (cache .entry)) (now (cache .exit)) ⌝ }
     ensures { λ _. ⌜ Anything (now (e .exit)) × Anything (now (w .exit)) × Anything (now (available .exit)) × Anything (now (sources .exit)) × Anything (now (edits .exit)) × Anything (now (slots .exit)) × Anything (now (d .exit)) × Anything (now (marks .exit)) × Anything (now (c .exit)) ⌝ }
 {
     entries::new_parallel_move(e, w);
@@ -494,8 +545,8 @@ pub fn resolve_patch(
     marks: &mut Marks,
     c: &mut Carried,
 ) -> Resolved
-    requires { ⌜ Checked (now t) (now f) × CacheOk (now f) (now cache) × (given ≡ false → (u : ℕ) → setOf (now available) u ≡ false) ⌝ }
-    ensures { λ r. ⌜ ResolvesPatch (now (t .entry)) (now (f .entry)) (now (available .entry)) (now (numbers .entry)) r (now (list .entry)) (now (list .exit)) (now (cache .entry)) (now (cache .exit)) ⌝ }
+    requires { ⌜ Checked (now t) (now f) × CacheOk (now f) (now cache) ⌝ }
+    ensures { λ r. ⌜ ResolvesPatch (now (t .entry)) (now (f .entry)) (freeIn given (now (available .entry))) (now (numbers .entry)) r (now (list .entry)) (now (list .exit)) (now (cache .entry)) (now (cache .exit)) ⌝ }
     ensures { λ _. ⌜ Anything (now (e .exit)) × Anything (now (w .exit)) × Anything (now (available .exit)) × Anything (now (sources .exit)) × Anything (now (edits .exit)) × Anything (now (slots .exit)) × Anything (now (d .exit)) × Anything (now (marks .exit)) × Anything (now (c .exit)) ⌝ }
 {
     let g = own_grant(f, cache);
@@ -538,8 +589,8 @@ pub fn ask_patch_granted(
     marks: &mut Marks,
     c: &mut Carried,
 ) -> Asked
-    requires { ⌜ Checked (now t) (now f) × GrantOk (now f) g (now cache) × (given ≡ false → (u : ℕ) → setOf (now available) u ≡ false) ⌝ }
-    ensures { λ r. ⌜ AsksPatchGranted g (now (t .entry)) (now (f .entry)) (now (available .entry)) (now (numbers .entry)) r (now (list .entry)) (now (list .exit)) (now (cache .entry)) (now (slots .exit)) ⌝ }
+    requires { ⌜ Checked (now t) (now f) × GrantOk (now f) g (now cache) ⌝ }
+    ensures { λ r. ⌜ AsksPatchGranted g (now (t .entry)) (now (f .entry)) (freeIn given (now (available .entry))) (now (numbers .entry)) r (now (list .entry)) (now (list .exit)) (now (cache .entry)) (now (slots .exit)) ⌝ }
     ensures { λ _. ⌜ Anything (now (e .exit)) × Anything (now (w .exit)) × Anything (now (available .exit)) × Anything (now (sources .exit)) × Anything (now (edits .exit)) × Anything (now (d .exit)) × Anything (now (marks .exit)) × Anything (now (c .exit)) ⌝ }
 {
     entries::new_parallel_move(e, w);

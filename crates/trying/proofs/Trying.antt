@@ -13,7 +13,7 @@ use Rattle.reginfo.specs.RegInfo.{RegInfo}
 use Rattle.reginfo.specs.Table.{regInfoOf}
 use Rattle.function.specs.Function.{Function}
 use Rattle.function.specs.Table.{functionOf}
-use Rattle.small_set.specs.Set.{setOf, emptySet}
+use Rattle.small_set.specs.Set.{setOf}
 use Rattle.rules.specs.Edit.{Edit, filter}
 use Rattle.rules.specs.Counts.{bit}
 use Rattle.rules.specs.Scratch.{Cache}
@@ -125,10 +125,10 @@ tested f (resolved es c m) r list list′ cache cache′ h k g =
     }
 
 -- the numbers of a drawn patch give it, and no unit is free
-pub patch-numbered : (t f : List ℕ) (seed : ℕ) (numbers numbers′ : List ℕ) (d : DrawnPatch) (free : List Bool) → PatchDrawn t f seed numbers numbers′ d → setOf free ≡ emptySet
-    → Numbered free (take (d .count * 4) numbers′) (patchOf (drawPatch (regInfoOf t) (functionOf f) seed))
-unfolding has emptySet
-patch-numbered t f seed numbers numbers′ d free g e = record { free-is = λ u. sym (ap (λ (s : ℕ → Bool). s u) e); are = sym (g .are) }
+pub patch-numbered : (t f : List ℕ) (seed : ℕ) (numbers numbers′ : List ℕ) (d : DrawnPatch) → PatchDrawn t f seed numbers numbers′ d
+    → Numbered [] (take (d .count * 4) numbers′) (patchOf (drawPatch (regInfoOf t) (functionOf f) seed))
+unfolding has setOf
+patch-numbered t f seed numbers numbers′ d g = record { free-is = λ u. refl; are = sym (g .are) }
 
 -- a call of `resolve_patch` with them tests the patch
 pub tested-call : (t f : List ℕ) (p : Patch) (free : List Bool) (numbers : List ℕ) (r : Resolved) (list list′ cache cache′ : List ℕ) → answers.ResolvesPatch t f free numbers r list list′ cache cache′

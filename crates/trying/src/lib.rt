@@ -180,14 +180,13 @@ fn try_once(
 {
     let drawn = draw_patch(t, f, seed, numbers);
     let n = drawn.count * 4;
-    small_set::clear(available);
     let r = parallel_moves::resolve_patch(
         t,
         f,
         &numbers[..n],
         cache,
         list,
-        true,
+        false,
         e,
         w,
         available,

@@ -1,10 +1,10 @@
--- `free_destination` meets its contract: whether a key is free from the start equals whether one is from here; none is where no unit is.
+-- `free_destination` meets its contract: whether a key is free from the start equals whether one is from here; none is where none is given.
 use Prim.Native.Nat.{_≤_, _-_}
 use mathlib.Core.Path.{_≡_, refl, sym, ap, _∙_}
 use mathlib.Core.Bool.{true, false}
 use native.Mathlib.Omega.{arith}
 use lib.ListN.{getD, length, drop, drop-of-length-le}
-use borrow.Author.Tests.{not-true}
+use borrow.Author.Tests.{not-true, not-false}
 use Rattle.entity.specs.Logic.{any}
 use Rattle.sparse.specs.Map.{keysOf}
 use Rattle.entries.specs.Known.{isFree}
@@ -21,7 +21,9 @@ abbrev μ-loop : tie.MeasureT-loop
 μ-loop w free given n j₀ j = length (keysOf w) - j
 
 returns : tie.Need-returns Inv-loop μ-loop
-returns c = sym (none-free (c .before .args .free .now) (keysOf (c .before .args .w .now)) (c .before .pre .1 (not-true _ (c .if1 .taken))))
+returns c =
+    let q : c .before .args .given ≡ false = not-true _ (c .if1 .taken) in
+    rw q (sym (none-free (keysOf (c .before .args .w .now))))
 
 len-requires : tie.Need-len-requires Inv-loop μ-loop
 len-requires c κs = search needs
@@ -30,7 +32,7 @@ loop-holds : tie.Need-loop-holds Inv-loop μ-loop
 loop-holds c = (refl, omega arith, c .len .ensures)
 
 key-at-requires : tie.Need-key-at-requires Inv-loop μ-loop
-key-at-requires c κs = (c .before .before .before .before .pre .0, omega arith)
+key-at-requires c κs = (c .before .before .before .before .pre, omega arith)
 
 is-free-requires : tie.Need-is-free-requires Inv-loop μ-loop
 is-free-requires c κs = search needs
@@ -40,7 +42,8 @@ returns-2 c =
     let s = c .before .before .before .before .before .before .before in
     let l = c .before .before .before .before .loop in
     let h : isFree (s .args .free .now) (getD (keysOf (s .args .w .now)) (l .j) 0) ≡ true = rw (← c .before .before .key-at .ensures) (sym (c .before .is-free .ensures) ∙ c .if2 .taken) in
-    sym (l .inv .0 ∙ any-step (isFree (s .args .free .now)) (keysOf (s .args .w .now)) (l .j) 0 (omega arith) ∙ rw h)
+    let q : s .args .given ≡ true = not-false _ (c .before .before .before .before .before .before .if1 .left) in
+    rw q (sym (l .inv .0 ∙ any-step (isFree (s .args .free .now)) (keysOf (s .args .w .now)) (l .j) 0 (omega arith) ∙ rw h))
 
 add-j : tie.Need-add-j Inv-loop μ-loop
 add-j c = search needs
@@ -60,7 +63,8 @@ unfolding any
 returns-3 c =
     let s = c .before .before .before .before in
     let l = c .before .loop in
-    sym (l .inv .0 ∙ ap (any (isFree (s .args .free .now))) (drop-of-length-le (keysOf (s .args .w .now)) {i = l .j} (omega arith)))
+    let q : s .args .given ≡ true = not-false _ (c .before .before .before .if1 .left) in
+    rw q (sym (l .inv .0 ∙ ap (any (isFree (s .args .free .now))) (drop-of-length-le (keysOf (s .args .w .now)) {i = l .j} (omega arith))))
 
 pub free-destination-spec : {M : Type 1} → statement M
 free-destination-spec =

@@ -7,6 +7,7 @@ use Rattle.reginfo.specs.Table.{regInfoOf}
 use Rattle.function.specs.Table.{functionOf}
 use Rattle.rules.specs.Patch.{freeDestination, lastOverlaps, patchConditions}
 use Rattle.entries.specs.Table.{sortedOf}
+use Rattle.entries.specs.Known.{freeIn}
 use Rattle.entries.proofs.Free.{free-is}
 use borrow.Author.Needs.{needs}
 use Rattle.entries.proofs.refusal.Statement.{statement}
@@ -22,7 +23,7 @@ returns c p same =
     let T = regInfoOf (s .args .t .now) in
     let F = functionOf (s .args .f .now) in
     let a = sortedOf (s .args .e .now) in
-    let x : freeDestination T F p a ≡ true = sym (c .before .free-destination .ensures ∙ free-is T (s .pre .0 .target) F a (s .args .e .now) (s .args .w .now) (s .pre .1) (s .args .free .now) p same) ∙ c .if1 .taken in
+    let x : freeDestination T F p a ≡ true = sym (c .before .free-destination .ensures ∙ free-is T (s .pre .0 .target) F a (s .args .e .now) (s .args .w .now) (s .pre .1) (freeIn (s .args .given) (s .args .free .now)) p same) ∙ c .if1 .taken in
     rw x
 
 last-overlaps-requires : tie.Need-last-overlaps-requires
@@ -35,7 +36,7 @@ returns-2 c p same =
     let T = regInfoOf (s .args .t .now) in
     let F = functionOf (s .args .f .now) in
     let a = sortedOf (s .args .e .now) in
-    let x : freeDestination T F p a ≡ false = sym (c .before .before .before .free-destination .ensures ∙ free-is T (s .pre .0 .target) F a (s .args .e .now) (s .args .w .now) (s .pre .1) (s .args .free .now) p same) ∙ c .before .before .if1 .left in
+    let x : freeDestination T F p a ≡ false = sym (c .before .before .before .free-destination .ensures ∙ free-is T (s .pre .0 .target) F a (s .args .e .now) (s .args .w .now) (s .pre .1) (freeIn (s .args .given) (s .args .free .now)) p same) ∙ c .before .before .if1 .left in
     let y : lastOverlaps T F a ≡ true = sym (c .before .last-overlaps .ensures) ∙ c .if2 .taken in
     rw (x, y)
 
@@ -49,7 +50,7 @@ returns-3 c p same =
     let T = regInfoOf (s .args .t .now) in
     let F = functionOf (s .args .f .now) in
     let a = sortedOf (s .args .e .now) in
-    let x : freeDestination T F p a ≡ false = sym (c .before .before .before .before .before .free-destination .ensures ∙ free-is T (s .pre .0 .target) F a (s .args .e .now) (s .args .w .now) (s .pre .1) (s .args .free .now) p same) ∙ c .before .before .before .before .if1 .left in
+    let x : freeDestination T F p a ≡ false = sym (c .before .before .before .before .before .free-destination .ensures ∙ free-is T (s .pre .0 .target) F a (s .args .e .now) (s .args .w .now) (s .pre .1) (freeIn (s .args .given) (s .args .free .now)) p same) ∙ c .before .before .before .before .if1 .left in
     let y : lastOverlaps T F a ≡ false = sym (c .before .before .before .last-overlaps .ensures) ∙ c .before .before .if2 .left in
     rw (x, y, ← c .before .edit-bound .ensures, lt-ltb (s .args .room) _ (c .if3 .taken))
 
@@ -60,7 +61,7 @@ returns-4 c p same =
     let T = regInfoOf (s .args .t .now) in
     let F = functionOf (s .args .f .now) in
     let a = sortedOf (s .args .e .now) in
-    let x : freeDestination T F p a ≡ false = sym (c .before .before .before .before .before .free-destination .ensures ∙ free-is T (s .pre .0 .target) F a (s .args .e .now) (s .args .w .now) (s .pre .1) (s .args .free .now) p same) ∙ c .before .before .before .before .if1 .left in
+    let x : freeDestination T F p a ≡ false = sym (c .before .before .before .before .before .free-destination .ensures ∙ free-is T (s .pre .0 .target) F a (s .args .e .now) (s .args .w .now) (s .pre .1) (freeIn (s .args .given) (s .args .free .now)) p same) ∙ c .before .before .before .before .if1 .left in
     let y : lastOverlaps T F a ≡ false = sym (c .before .before .before .last-overlaps .ensures) ∙ c .before .before .if2 .left in
     rw (x, y, ← c .before .edit-bound .ensures, le-ltb (s .args .room) _ (c .if3 .left))
 

@@ -9,14 +9,13 @@ use Rattle.rules.specs.Patch.{Sorted}
 use Rattle.entries.specs.Answers.{addedOf}
 use Rattle.examine.proofs.Answers.{refused-as, taken-as}
 use Rattle.examine.proofs.Given.{few-bound}
-use mathlib.Core.Bool.{true≢false}
 use Rattle.reginfo.specs.Refused.{firstOf}
 use Rattle.rules.specs.Patch.{patchConditions}
 use Rattle.examine.proofs.examine_patch.Statement.{statement}
 use Rattle.examine.proofs.examine_patch.Tie as tie
 
 refusal-requires : tie.Need-refusal-requires
-refusal-requires c κs = let s = c .before in (s .pre .0, s .pre .1, λ q. absurd (true≢false q))
+refusal-requires c κs = let s = c .before in (s .pre .0, s .pre .1)
 
 enum-known-n : tie.Need-enum-known-n
 enum-known-n c = search needs

@@ -1,4 +1,5 @@
 -- `resolve_groups` meets its contract: refused for its free units, or what the patch is answered.
+use mathlib.Core.Path.{sym, _∙_}
 use borrow.Author.Needs.{needs}
 use Rattle.calls.proofs.Freeing.{none-given}
 use Rattle.group_calls.proofs.Freeing.{free-refused, free-taken}
@@ -25,7 +26,7 @@ some-given-requires c κs = search needs
 resolve-groups-requires : tie.Need-resolve-groups-requires
 resolve-groups-requires c κs =
     let pre = c .before .before .before .before .before .before .before .before .before .before .before .before .before .before .before .before .before .before .before .before .before .before .before .before .before .before .pre in
-    (pre .0, pre .1, λ q. none-given _ _ _ (rw (c .before .before .before .before .before .before .before .before .before .before .before .before .before .before .before .before .before .before .before .enum-told .given .1) at (c .before .before .before .before .before .before .before .before .before .before .before .before .before .before .before .before .before .before .before .before .before .take-free .ensures)) (c .before .before .before .before .before .before .before .before .before .before .before .before .before .before .before .before .before .before .some-given .ensures q))
+    (pre .0, pre .1, λ q. none-given _ _ _ (rw (c .before .before .before .before .before .before .before .before .before .before .before .before .before .before .before .before .before .before .before .enum-told .given .1) at (c .before .before .before .before .before .before .before .before .before .before .before .before .before .before .before .before .before .before .before .before .before .take-free .ensures)) (sym (c .before .before .before .before .before .before .before .before .before .before .before .before .before .before .before .before .before .before .some-given .ensures) ∙ q))
 
 same-length : tie.Need-same-length
 same-length c = search needs

@@ -2,7 +2,7 @@
 use mathlib.Core.Path.{_≡_, refl, sym, _∙_, ap}
 use native.Mathlib.Omega.{arith}
 use Rattle.reginfo.specs.Table.{regInfoOf}
-use Rattle.grouping.proofs.Adding.{part-refused, part-resolved, still-none}
+use Rattle.grouping.proofs.Adding.{part-refused, part-resolved}
 use borrow.Author.Needs.{needs}
 use Rattle.grouping.proofs.resolve_part.Statement.{statement}
 use Rattle.grouping.proofs.resolve_part.Tie as tie
@@ -23,10 +23,10 @@ returns c =
 enum-told : tie.Need-enum-told
 enum-told c = search needs
 
-part-free-requires : tie.Need-part-free-requires
-part-free-requires c κs =
+part-given-requires : tie.Need-part-given-requires
+part-given-requires c κs =
     let pre = c .before .before .before .before .before .before .before .before .pre in
-    (pre .1, pre .3, pre .2)
+    (pre .1, pre .3, pre .2, pre .4)
 
 made-requires : tie.Need-made-requires
 made-requires c κs = search needs
@@ -36,8 +36,7 @@ resolve-granted-requires c κs =
     let pre = c .before .before .before .before .before .before .before .before .before .before .before .before .before .before .before .before .before .before .before .before .before .before .pre in
     let add-part = c .before .before .before .before .before .before .before .before .before .before .before .before .before .before .before .before .before .add-part in
     let made = c .before .before .before .before .before .before .before .before .before .before .before .made in
-    let part-free = c .before .before .before .before .before .before .before .before .before .before .before .before .before .part-free in
-    (pre .0, add-part .ensures .ok, rw (made .ensures) (pre .5), λ q. still-none _ _ _ _ _ (pre .4 q) (part-free .ensures))
+    (pre .0, add-part .ensures .ok, rw (made .ensures) (pre .5))
 
 same-length : tie.Need-same-length
 same-length c = search needs
@@ -47,7 +46,7 @@ returns-2 c =
     let args = c .before .before .before .before .before .before .before .before .before .before .before .before .before .before .before .before .before .before .before .before .before .before .before .before .before .args in
     let enum-told = c .before .before .before .before .before .before .before .before .before .before .before .before .before .before .before .before .before .before .enum-told in
     let add-part = c .before .before .before .before .before .before .before .before .before .before .before .before .before .before .before .before .before .before .before .before .add-part in
-    let part-free = c .before .before .before .before .before .before .before .before .before .before .before .before .before .before .before .before .part-free in
+    let part-free = c .before .before .before .before .before .before .before .before .before .before .before .before .before .before .before .before .part-given in
     let made = c .before .before .before .before .before .before .before .before .before .before .before .before .before .before .made in
     (part-resolved (args .t .now) (args .f .now) (args .numbers .now) (args .first) _ _ (args .limit) (args .free .now) (args .list .now) (args .work .now) _ _ _ _ (rw (enum-told .given .1) at (add-part .ensures)) (part-free .ensures) (rw (made .ensures) at (c .before .before .resolve-granted .ensures .0)), (tt, tt, tt, tt, tt, tt, tt, tt, tt))
 
@@ -59,7 +58,7 @@ resolve-part-spec =
     enum-known-n
     returns
     enum-told
-    part-free-requires
+    part-given-requires
     made-requires
     resolve-granted-requires
     same-length

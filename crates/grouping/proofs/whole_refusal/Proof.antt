@@ -1,7 +1,7 @@
 -- `whole_refusal` meets its contract: by an entry, or by the patch.
 use mathlib.Core.Path.{_≡_, refl, sym, _∙_, ap}
 use native.Mathlib.Omega.{arith}
-use Rattle.grouping.proofs.Testing.{entries-refused, entries-taken}
+use Rattle.grouping.proofs.Testing.{entries-refused, entries-taken, all-given}
 use borrow.Author.Needs.{needs}
 use Rattle.grouping.proofs.whole_refusal.Statement.{statement}
 use Rattle.grouping.proofs.whole_refusal.Tie as tie
@@ -30,14 +30,14 @@ enum-told c = search needs
 refusal-requires : tie.Need-refusal-requires
 refusal-requires c κs =
     let pre = c .before .before .before .before .before .before .before .before .before .before .before .pre in
-    (pre .0, c .before .before .before .before .add-entries .ensures .ok, pre .1)
+    (pre .0, c .before .before .before .before .add-entries .ensures .ok)
 
 returns-2 : tie.Need-returns-2
 returns-2 c =
     let args = c .before .before .before .before .before .before .before .before .before .before .before .before .args in
     let pre = c .before .before .before .before .before .before .before .before .before .before .before .before .pre in
     let new-parallel-move = c .before .before .before .before .before .before .before .before .new-parallel-move in
-    (entries-taken _ _ _ _ _ (args .free .now) (args .numbers .now) (args .room) (pre .0) (new-parallel-move .ensures .0) _ (rw (c .before .before .before .enum-told .given .1) at (c .before .before .before .before .before .add-entries .ensures)) (c .refusal .ensures), tt, tt)
+    (entries-taken _ _ _ _ _ (args .free .now) (args .numbers .now) (args .room) (pre .0) (new-parallel-move .ensures .0) _ (rw (c .before .before .before .enum-told .given .1) at (c .before .before .before .before .before .add-entries .ensures)) (λ p q. c .refusal .ensures p (λ u. q u ∙ all-given (args .given) (args .free .now) (pre .1) u)), tt, tt)
 
 pub whole-refusal-spec : {M : Type 1} → statement M
 whole-refusal-spec =

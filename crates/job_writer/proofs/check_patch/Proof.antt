@@ -1,7 +1,5 @@
 -- `check_patch` meets its contract: a patch that is read has the tests of a call before it is resolved.
 use Rattle.job_writer.proofs.Passing.{unread, known, turned-away, passed}
-use mathlib.Core.Path.{sym}
-use mathlib.Core.Bool.{false≢true}
 use borrow.Author.Needs.{needs}
 use Rattle.job_writer.proofs.check_patch.Statement.{statement}
 use Rattle.job_writer.proofs.check_patch.Tie as tie
@@ -21,7 +19,7 @@ refusal-requires c κs =
     let args = c .before .before .before .before .before .before .before .before .before .before .before .args in
     let read-patch = c .before .before .before .before .before .before .read-patch in
     let next = c .before .before .before .before .next in
-    (pre, known (args .t .now) (args .f .now) (args .s .now) (args .at) (read-patch .last .1 .1 .1 .1 .0) (read-patch .last .1 .1 .1 .1 .1 .0) (read-patch .last .1 .1 .1 .1 .1 .1 .0) (read-patch .result) _ (read-patch .ensures) (next .given .1), λ q u. absurd (false≢true (sym q)))
+    (pre, known (args .t .now) (args .f .now) (args .s .now) (args .at) (read-patch .last .1 .1 .1 .1 .0) (read-patch .last .1 .1 .1 .1 .1 .0) (read-patch .last .1 .1 .1 .1 .1 .1 .0) (read-patch .result) _ (read-patch .ensures) (next .given .1))
 
 enum-known-k-2 : tie.Need-enum-known-k-2
 enum-known-k-2 c = search needs

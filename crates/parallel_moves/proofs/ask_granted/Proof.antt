@@ -1,6 +1,7 @@
 -- `ask_granted` meets its contract: refused, the rebuilds as they stand where there is nothing else, or the run shown.
 use mathlib.Core.Path.{sym, _∙_}
 use Rattle.scratch.specs.Contracts.{tables}
+use Rattle.entries.specs.Known.{freeIn}
 use Rattle.rebuilds.proofs.Known.{remats-fit}
 use Rattle.parallel_moves.proofs.Resolving.{asked-away, remats-room, asks-remats, can-hand-over, asks}
 use borrow.Author.Needs.{needs}
@@ -17,7 +18,7 @@ returns : tie.Need-returns
 returns c =
     let args = c .before .before .before .before .before .before .args in
     let pre = c .before .before .before .before .before .before .pre in
-    (asked-away (args .t .now) (args .f .now) (args .cache .now) (args .e .now) (args .w .now) (args .list .now) (pre .0) (pre .1) (args .g) (pre .2) (args .available .now) _ _ (λ p q. rw (c .before .n .given .1) at (c .before .before .before .refusal .ensures p q)), search needs)
+    (asked-away (args .t .now) (args .f .now) (args .cache .now) (args .e .now) (args .w .now) (args .list .now) (pre .0) (pre .1) (args .g) (pre .2) (freeIn (args .given) (args .available .now)) _ _ (λ p q. rw (c .before .n .given .1) at (c .before .before .before .refusal .ensures p q)), search needs)
 
 enum-told : tie.Need-enum-told
 enum-told c = search needs
@@ -35,7 +36,7 @@ hand-out-requires c κs =
     let args = c .before .before .before .before .before .before .before .before .before .before .args in
     let pre = c .before .before .before .before .before .before .before .before .before .before .pre in
     let refusal = c .before .before .before .before .before .before .before .refusal in
-    (remats-fit (args .t .now) (args .f .now) (pre .0) (args .e .now) (args .w .now) (pre .1), remats-room (args .t .now) (args .f .now) (args .cache .now) (args .e .now) (args .w .now) (args .list .now) (pre .0) (pre .1) (args .g) (pre .2) (args .available .now) (λ p q. rw (c .before .before .before .before .before .enum-told .given .1) at (refusal .ensures p q)))
+    (remats-fit (args .t .now) (args .f .now) (pre .0) (args .e .now) (args .w .now) (pre .1), remats-room (args .t .now) (args .f .now) (args .cache .now) (args .e .now) (args .w .now) (args .list .now) (pre .0) (pre .1) (args .g) (pre .2) (freeIn (args .given) (args .available .now)) (λ p q. rw (c .before .before .before .before .before .enum-told .given .1) at (refusal .ensures p q)))
 
 stamp-requires : tie.Need-stamp-requires
 stamp-requires c κs = search needs
@@ -51,10 +52,10 @@ returns-2 c =
     let refusal = c .before .before .before .before .before .before .before .before .before .before .before .refusal in
     let only-remats = c .before .before .before .before .before .before .before .before .only-remats in
     let if1 = c .before .before .before .before .before .before .before .if1 in
-    (λ p q. asks-remats (args .t .now) (args .f .now) (args .cache .now) (args .e .now) (args .w .now) (args .list .now) (pre .0) (pre .1) (args .g) (pre .2) (args .available .now) (λ p q. rw (enum-told .given .1) at (refusal .ensures p q)) (sym (only-remats .ensures) ∙ if1 .taken) _ _ _ _ (c .before .before .before .hand-out .ensures) (c .stamp .ensures .0) (c .before .before .before .before .before .begin .ensures) p q, search needs)
+    (λ p q. asks-remats (args .t .now) (args .f .now) (args .cache .now) (args .e .now) (args .w .now) (args .list .now) (pre .0) (pre .1) (args .g) (pre .2) (freeIn (args .given) (args .available .now)) (λ p q. rw (enum-told .given .1) at (refusal .ensures p q)) (sym (only-remats .ensures) ∙ if1 .taken) _ _ _ _ (c .before .before .before .hand-out .ensures) (c .stamp .ensures .0) (c .before .before .before .before .before .begin .ensures) p q, search needs)
 
-run-requires : tie.Need-run-requires
-run-requires c κs =
+run-given-requires : tie.Need-run-given-requires
+run-given-requires c κs =
     let pre = c .before .before .before .before .before .before .before .before .before .before .before .before .before .before .pre in
     (pre .0, pre .1, pre .2)
 
@@ -64,8 +65,8 @@ show-requires c κs =
     let pre = c .before .before .before .before .before .before .before .before .before .before .before .before .before .before .before .before .before .before .pre in
     let enum-told = c .before .before .before .before .before .before .before .before .before .before .before .before .before .enum-told in
     let refusal = c .before .before .before .before .before .before .before .before .before .before .before .before .before .before .before .refusal in
-    let run = c .before .before .before .run in
-    can-hand-over (args .t .now) (args .f .now) (args .cache .now) (args .e .now) (args .w .now) (args .list .now) (pre .0) (pre .1) (args .g) (pre .2) (args .available .now) (λ p q. rw (enum-told .given .1) at (refusal .ensures p q)) (run .result) (tables (run .last .1 .1 .1 .1 .1 .1 .1 .1 .0) (run .last .1 .1 .1 .1 .1 .1 .0) (run .last .1 .1 .1 .1 .1 .1 .1 .1 .1 .0)) (run .ensures .0)
+    let run = c .before .before .before .run-given in
+    can-hand-over (args .t .now) (args .f .now) (args .cache .now) (args .e .now) (args .w .now) (args .list .now) (pre .0) (pre .1) (args .g) (pre .2) (freeIn (args .given) (args .available .now)) (λ p q. rw (enum-told .given .1) at (refusal .ensures p q)) (run .result) (tables (run .last .1 .1 .1 .1 .1 .1 .1 .1 .1 .0) (run .last .1 .1 .1 .1 .1 .1 .1 .0) (run .last .1 .1 .1 .1 .1 .1 .1 .1 .1 .1 .0)) (run .ensures .0)
 
 same-length-2 : tie.Need-same-length-2
 same-length-2 c = search needs
@@ -76,8 +77,8 @@ returns-3 c =
     let pre = c .before .before .before .before .before .before .before .before .before .before .before .before .before .before .before .before .before .before .before .before .before .pre in
     let enum-told = c .before .before .before .before .before .before .before .before .before .before .before .before .before .before .before .before .enum-told in
     let refusal = c .before .before .before .before .before .before .before .before .before .before .before .before .before .before .before .before .before .before .refusal in
-    let run = c .before .before .before .before .before .before .run in
-    (λ p q. asks (args .t .now) (args .f .now) (args .cache .now) (args .e .now) (args .w .now) (args .list .now) (pre .0) (pre .1) (args .g) (pre .2) (args .available .now) (λ p q. rw (enum-told .given .1) at (refusal .ensures p q)) (run .result) (tables (run .last .1 .1 .1 .1 .1 .1 .1 .1 .0) (run .last .1 .1 .1 .1 .1 .1 .0) (run .last .1 .1 .1 .1 .1 .1 .1 .1 .1 .0)) (run .ensures .0) _ _ (c .before .before .show .ensures) p q, search needs)
+    let run = c .before .before .before .before .before .before .run-given in
+    (λ p q. asks (args .t .now) (args .f .now) (args .cache .now) (args .e .now) (args .w .now) (args .list .now) (pre .0) (pre .1) (args .g) (pre .2) (freeIn (args .given) (args .available .now)) (λ p q. rw (enum-told .given .1) at (refusal .ensures p q)) (run .result) (tables (run .last .1 .1 .1 .1 .1 .1 .1 .1 .1 .0) (run .last .1 .1 .1 .1 .1 .1 .1 .0) (run .last .1 .1 .1 .1 .1 .1 .1 .1 .1 .1 .0)) (run .ensures .0) _ _ (c .before .before .show .ensures) p q, search needs)
 
 pub ask-granted-spec : {M : Type 1} → statement M
 ask-granted-spec =
@@ -93,7 +94,7 @@ ask-granted-spec =
     stamp-requires
     same-length
     returns-2
-    run-requires
+    run-given-requires
     show-requires
     same-length-2
     returns-3)

@@ -1,4 +1,5 @@
 -- `ask_patch_granted` meets its contract: an entry is refused, or what they became is asked for.
+use Rattle.entries.specs.Known.{freeIn}
 use Rattle.parallel_moves.proofs.Adding.{asked-refused, patch-asked}
 use borrow.Author.Needs.{needs}
 use Rattle.parallel_moves.proofs.ask_patch_granted.Statement.{statement}
@@ -19,7 +20,7 @@ returns : tie.Need-returns
 returns c =
     let args = c .before .before .before .before .before .before .before .before .before .before .before .args in
     let new-parallel-move = c .before .before .before .before .before .before .new-parallel-move in
-    (λ p q. asked-refused _ _ _ _ _ (args .g) (args .available .now) (args .numbers .now) (args .list .now) (args .cache .now) (new-parallel-move .ensures .0) p q _ _ (rw (c .before .n .given .1) at (c .before .before .before .add-entries .ensures)), search needs)
+    (λ p q. asked-refused _ _ _ _ _ (args .g) (freeIn (args .given) (args .available .now)) (args .numbers .now) (args .list .now) (args .cache .now) (new-parallel-move .ensures .0) p q _ _ (rw (c .before .n .given .1) at (c .before .before .before .add-entries .ensures)), search needs)
 
 enum-told : tie.Need-enum-told
 enum-told c = search needs
@@ -28,7 +29,7 @@ ask-granted-requires : tie.Need-ask-granted-requires
 ask-granted-requires c κs =
     let pre = c .before .before .before .before .before .before .before .before .before .before .before .before .before .before .before .before .before .before .before .before .pre in
     let add-entries = c .before .before .before .before .before .before .before .before .before .before .before .before .add-entries in
-    (pre .0, add-entries .ensures .ok, pre .1, pre .2)
+    (pre .0, add-entries .ensures .ok, pre .1)
 
 same-length : tie.Need-same-length
 same-length c = search needs
@@ -39,7 +40,7 @@ returns-2 c =
     let new-parallel-move = c .before .before .before .before .before .before .before .before .before .before .before .before .before .before .before .before .before .before .new-parallel-move in
     let enum-told = c .before .before .before .before .before .before .before .before .before .before .before .before .before .enum-told in
     let add-entries = c .before .before .before .before .before .before .before .before .before .before .before .before .before .before .before .add-entries in
-    (λ p q. patch-asked _ _ _ _ _ (args .g) (args .available .now) (args .numbers .now) (args .list .now) (args .cache .now) (new-parallel-move .ensures .0) p q _ _ _ (rw (enum-told .given .1) at (add-entries .ensures)) (c .before .before .ask-granted .ensures .0), search needs)
+    (λ p q. patch-asked _ _ _ _ _ (args .g) (freeIn (args .given) (args .available .now)) (args .numbers .now) (args .list .now) (args .cache .now) (new-parallel-move .ensures .0) p q _ _ _ (rw (enum-told .given .1) at (add-entries .ensures)) (c .before .before .ask-granted .ensures .0), search needs)
 
 pub ask-patch-granted-spec : {M : Type 1} → statement M
 ask-patch-granted-spec =

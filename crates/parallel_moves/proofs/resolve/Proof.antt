@@ -1,5 +1,3 @@
-use mathlib.Core.Path.{sym}
-use mathlib.Core.Bool.{false≢true}
 use borrow.Author.Needs.{needs}
 use Rattle.parallel_moves.proofs.resolve.Statement.{statement}
 use Rattle.parallel_moves.proofs.resolve.Tie as tie
@@ -12,7 +10,7 @@ copy-from-requires : tie.Need-copy-from-requires
 copy-from-requires c κs = search needs
 
 resolve-available-requires : tie.Need-resolve-available-requires
-resolve-available-requires c κs = (search needs, search needs, search needs, λ q u. absurd (false≢true (sym q)))
+resolve-available-requires c κs = (search needs, search needs, search needs)
 
 same-length : tie.Need-same-length
 same-length c = search needs

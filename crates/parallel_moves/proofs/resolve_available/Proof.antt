@@ -2,6 +2,7 @@
 use Rattle.function.proofs.Laws.{low-limit}
 use Rattle.function.specs.Table.{functionOf}
 use Rattle.scratch.specs.State.{T}
+use Rattle.entries.specs.Known.{freeIn}
 use Rattle.parallel_moves.proofs.Resolving.{own-ok, own-resolves}
 use borrow.Author.Needs.{needs}
 use Rattle.parallel_moves.proofs.resolve_available.Statement.{statement}
@@ -17,7 +18,7 @@ resolve-granted-requires c κs =
     let pre = c .before .before .before .before .before .before .before .before .before .before .before .before .pre in
     let own-grant = c .before .before .before .before .before .before .before .before .before .own-grant in
     let args = c .before .before .before .before .before .before .before .before .before .before .before .before .args in
-    (pre .0, pre .1, rw (own-grant .ensures) (own-ok (args .t .now) (args .f .now) (args .cache .now) (pre .0) (pre .2)), pre .3)
+    (pre .0, pre .1, rw (own-grant .ensures) (own-ok (args .t .now) (args .f .now) (args .cache .now) (pre .0) (pre .2)))
 
 same-length : tie.Need-same-length
 same-length c = search needs
@@ -26,7 +27,7 @@ returns : tie.Need-returns
 returns c =
     let args = c .before .before .before .before .before .before .before .before .before .before .before .before .before .before .before .args in
     let own-grant = c .before .before .before .before .before .before .before .before .before .before .before .before .own-grant in
-    (own-resolves (args .t .now) (args .f .now) (args .cache .now) (args .available .now) (args .list .now) (own-grant .result) (own-grant .ensures) _ _ _ (args .e .now) (c .before .before .resolve-granted .ensures .0), search needs)
+    (own-resolves (args .t .now) (args .f .now) (args .cache .now) (freeIn (args .given) (args .available .now)) (args .list .now) (own-grant .result) (own-grant .ensures) _ _ _ (args .e .now) (c .before .before .resolve-granted .ensures .0), search needs)
 
 pub resolve-available-spec : {M : Type 1} → statement M
 resolve-available-spec = tie.close (tie.spec own-grant-requires resolve-granted-requires same-length returns)

@@ -2,7 +2,7 @@
 use Prim.Native.Nat.{_*_}
 use native.Mathlib.Omega.{arith}
 use mathlib.Core.Path.{sym, _∙_}
-use mathlib.Core.Bool.{false≢true}
+use mathlib.Core.List.{[]}
 use borrow.Author.Needs.{needs}
 use lib.ListN.{take}
 use lib.Seq.{length-take-le}
@@ -19,29 +19,25 @@ draw-patch-requires c κs = search needs
 mul-n : tie.Need-mul-n
 mul-n c = search needs
 
-clear-requires : tie.Need-clear-requires
-clear-requires c κs = search needs
-
 slice-reshare-prefix-resolve-patch : tie.Need-slice-reshare-prefix-resolve-patch
 slice-reshare-prefix-resolve-patch c = search needs
 
 slice-aggregate-resolve-patch : tie.Need-slice-aggregate-resolve-patch
 slice-aggregate-resolve-patch c =
-    let s = c .before .before .before .before .before .before .before .before .before .before in
-    let d = c .before .before .before .before .before .before .draw-patch in
+    let s = c .before .before .before .before .before .before .before .before in
+    let d = c .before .before .before .before .draw-patch in
     sym (length-take-le (d .result .count * 4) (d .last .1 .1 .1 .0) (omega (arith, d .ensures .few, d .ensures .long, s .pre .0 .numbers-long)))
 
 resolve-patch-requires : tie.Need-resolve-patch-requires
-resolve-patch-requires c κs = (search needs, search needs, λ q u. absurd (false≢true (sym q)))
+resolve-patch-requires c κs = search needs
 
 count-requires : tie.Need-count-requires
 count-requires c κs =
-    let s = c .before .before .before .before .before .before .before .before .before .before .before .before .before .before .before .before .before .before .before .before .before .before .before .before .before .before in
-    let d = c .before .before .before .before .before .before .before .before .before .before .before .before .before .before .before .before .before .before .before .before .before .before .draw-patch in
+    let s = c .before .before .before .before .before .before .before .before .before .before .before .before .before .before .before .before .before .before .before .before .before .before .before .before in
+    let d = c .before .before .before .before .before .before .before .before .before .before .before .before .before .before .before .before .before .before .before .before .draw-patch in
     let r = c .before .before .before .before .resolve-patch in
-    let k = c .before .before .before .before .before .before .before .before .before .before .before .before .before .before .before .before .before .clear in
-    let n = patch-numbered (s .args .t .now) (s .args .f .now) (s .args .seed) (s .args .numbers .now) (d .last .1 .1 .1 .0) (d .result) (k .last .0) (d .ensures) (k .ensures .0) in
-    let w = tested-call (s .args .t .now) (s .args .f .now) (patchOf (drawPatch (regInfoOf (s .args .t .now)) (functionOf (s .args .f .now)) (s .args .seed))) (k .last .0)
+    let n = patch-numbered (s .args .t .now) (s .args .f .now) (s .args .seed) (s .args .numbers .now) (d .last .1 .1 .1 .0) (d .result) (d .ensures) in
+    let w = tested-call (s .args .t .now) (s .args .f .now) (patchOf (drawPatch (regInfoOf (s .args .t .now)) (functionOf (s .args .f .now)) (s .args .seed))) []
     (take (d .result .count * 4) (d .last .1 .1 .1 .0)) (r .result) (s .args .list .now) (r .last .1 .1 .1 .1 .0) (s .args .cache .now) (r .last .1 .1 .1 .0) (r .ensures .0) n (s .pre .0 .list-long) (r .kept .1 .1 .1 .1 .0) (s .pre .0 .ok) in
     (s .pre .0 .priced, r .kept .1 .1 .1 .1 .0 ∙ s .pre .0 .list-long, w .within, s .pre .1)
 
@@ -53,12 +49,11 @@ same-length-2 c = search needs
 
 returns : tie.Need-returns
 returns c =
-    let s = c .before .before .before .before .before .before .before .before .before .before .before .before .before .before .before .before .before .before .before .before .before .before .before .before .before .before .before in
-    let d = c .before .before .before .before .before .before .before .before .before .before .before .before .before .before .before .before .before .before .before .before .before .before .before .draw-patch in
+    let s = c .before .before .before .before .before .before .before .before .before .before .before .before .before .before .before .before .before .before .before .before .before .before .before .before .before in
+    let d = c .before .before .before .before .before .before .before .before .before .before .before .before .before .before .before .before .before .before .before .before .before .draw-patch in
     let r = c .before .before .before .before .before .resolve-patch in
-    let k = c .before .before .before .before .before .before .before .before .before .before .before .before .before .before .before .before .before .before .clear in
-    let n = patch-numbered (s .args .t .now) (s .args .f .now) (s .args .seed) (s .args .numbers .now) (d .last .1 .1 .1 .0) (d .result) (k .last .0) (d .ensures) (k .ensures .0) in
-    let w = tested-call (s .args .t .now) (s .args .f .now) (patchOf (drawPatch (regInfoOf (s .args .t .now)) (functionOf (s .args .f .now)) (s .args .seed))) (k .last .0)
+    let n = patch-numbered (s .args .t .now) (s .args .f .now) (s .args .seed) (s .args .numbers .now) (d .last .1 .1 .1 .0) (d .result) (d .ensures) in
+    let w = tested-call (s .args .t .now) (s .args .f .now) (patchOf (drawPatch (regInfoOf (s .args .t .now)) (functionOf (s .args .f .now)) (s .args .seed))) []
     (take (d .result .count * 4) (d .last .1 .1 .1 .0)) (r .result) (s .args .list .now) (r .last .1 .1 .1 .1 .0) (s .args .cache .now) (r .last .1 .1 .1 .0) (r .ensures .0) n (s .pre .0 .list-long) (r .kept .1 .1 .1 .1 .0) (s .pre .0 .ok) in (
       once-tried (s .args .t .now) (s .args .f .now) (s .args .p) (s .args .seed) (s .args .tally .now) (c .count .last .1 .1 .1 .1 .0) (s .args .cache .now) (r .last .1 .1 .1 .0) (r .last .1 .1 .1 .1 .0) (d .result)
           (s .args .numbers .now) (d .last .1 .1 .1 .0) (r .result) (c .count .result) (s .pre .0 .priced) (d .ensures) w (c .count .ensures),
@@ -71,7 +66,6 @@ try-once-spec =
     (tie.spec
     draw-patch-requires
     mul-n
-    clear-requires
     slice-reshare-prefix-resolve-patch
     slice-aggregate-resolve-patch
     resolve-patch-requires
