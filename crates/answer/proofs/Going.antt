@@ -9,7 +9,7 @@ use Rattle.parallel_moves.specs.Given.{CacheOk}
 use Rattle.print.specs.Put.{Put}
 use Rattle.print.proofs.Putting.{nothing-put, then-put, same-length}
 use Rattle.answer_text.specs.Heads.{patchWords}
-use Rattle.job_rules.specs.Job.{Done, Answers, endsWith, leftOver}
+use Rattle.job_rules.specs.Job.{Resolver, Done, Answers, endsWith, leftOver}
 use Rattle.answer.specs.Room.{patchesIn}
 use Rattle.answer.specs.Words.{wordsOf, AllPacked}
 use Rattle.answer.specs.declared.Onward.the-variants as O
@@ -33,9 +33,9 @@ packed-append [] m p q = q
 packed-append (d ∷ l) m p q = (p .0, packed-append l m (p .1) q)
 
 -- the answers of the patches so far stand in the words, and the others are still to come
-pub record Going (t f s : List ℕ) (a : Answers) (words₀ cache words : List ℕ) (at n left : ℕ) : Type 0 where
+pub record Going (by : Resolver) (t f s : List ℕ) (a : Answers) (words₀ cache words : List ℕ) (at n left : ℕ) : Type 0 where
   pub done : List Done
-  pub is : a ≡ after done (restIn t f s at cache left (length words - n))
+  pub is : a ≡ after done (restIn by t f s at cache left (length words - n))
   pub put : Put words₀ words 0 (wordsOf done) n
   pub cached : CacheOk f cache
   pub packed : AllPacked done
@@ -56,25 +56,25 @@ none-over : (l : List ℕ) → length l ≡ 0 → leftOver l ≡ endsWith none
 none-over [] h = refl
 none-over (b ∷ l) h = absurd (omega arith)
 
-module _ (t f s : List ℕ) (a : Answers) (words₀ : List ℕ) where
-  pub begun : (cache : List ℕ) (at left : ℕ) → a ≡ restIn t f s at cache left (length words₀) → CacheOk f cache → Going t f s a words₀ cache words₀ at 0 left
+module _ (by : Resolver) (t f s : List ℕ) (a : Answers) (words₀ : List ℕ) where
+  pub begun : (cache : List ℕ) (at left : ℕ) → a ≡ restIn by t f s at cache left (length words₀) → CacheOk f cache → Going by t f s a words₀ cache words₀ at 0 left
   unfolding wordsOf
   begun cache at left e c =
       let z : length words₀ - 0 ≡ length words₀ = omega arith in
       record { done = []; is = rw z e; put = nothing-put record { fits = omega arith }; cached = c; packed = tt }
 
-  module _ (cache words : List ℕ) (at n left : ℕ) (g : Going t f s a words₀ cache words at n left) where
+  module _ (cache words : List ℕ) (at n left : ℕ) (g : Going by t f s a words₀ cache words at n left) where
     pub room : n ≤ length words
     room = omega (arith, g .put .next, g .put .room, same-length (g .put))
 
-    some-left : 0 < left → a ≡ after (g .done) (restIn t f s at cache (suc (left - 1)) (length words - n))
-    some-left h = let e : left ≡ suc (left - 1) = omega arith in g .is ∙ ap (λ (k : ℕ). after (g .done) (restIn t f s at cache k (length words - n))) e
+    some-left : 0 < left → a ≡ after (g .done) (restIn by t f s at cache (suc (left - 1)) (length words - n))
+    some-left h = let e : left ≡ suc (left - 1) = omega arith in g .is ∙ ap (λ (k : ℕ). after (g .done) (restIn by t f s at cache k (length words - n))) e
 
-    pub refused-here : (cache′ words′ : List ℕ) (k : ℕ) → 0 < left → Next t f s at cache cache′ words words′ n (O.Refused k) → Wholly words₀ a (ended (some k) n) words′
+    pub refused-here : (cache′ words′ : List ℕ) (k : ℕ) → 0 < left → Next by t f s at cache cache′ words words′ n (O.Refused k) → Wholly words₀ a (ended (some k) n) words′
     refused-here cache′ words′ k h x =
         rw (x .1) (all-told a words₀ words n (g .done) (g .put) (g .packed) (some k) (some-left h ∙ ap (after (g .done)) (x .0 (left - 1))))
 
-    pub goes-on : (cache′ words′ : List ℕ) (next m : ℕ) → 0 < left → Next t f s at cache cache′ words words′ n (O.At next m) → Going t f s a words₀ cache′ words′ next m (left - 1)
+    pub goes-on : (cache′ words′ : List ℕ) (next m : ℕ) → 0 < left → Next by t f s at cache cache′ words words′ n (O.At next m) → Going by t f s a words₀ cache′ words′ next m (left - 1)
     goes-on cache′ words′ next m h x =
         let l : List Done = g .done ++ (x .0 ∷ []) in
         let e : wordsOf l ≡ wordsOf (g .done) ++ patchWords (x .0 .edits) (x .0 .made) (x .0 .position) = rw (words-append (g .done) (x .0 ∷ []), words-one (x .0)) in
@@ -82,7 +82,7 @@ module _ (t f s : List ℕ) (a : Answers) (words₀ : List ℕ) where
           done = l;
           is =
               some-left h ∙ ap (after (g .done)) (x .1 (left - 1))
-              ∙ rw (same-length (x .2), append-assoc (g .done) (x .0 ∷ []) (restIn t f s next cache′ (left - 1) (length words - m) .done));
+              ∙ rw (same-length (x .2), append-assoc (g .done) (x .0 ∷ []) (restIn by t f s next cache′ (left - 1) (length words - m) .done));
           put = rw e (then-put (g .put) (x .2));
           cached = x .3;
           packed = packed-append (g .done) (x .0 ∷ []) (g .packed) (x .5, tt);
@@ -93,7 +93,7 @@ module _ (t f s : List ℕ) (a : Answers) (words₀ : List ℕ) where
     ended-here k h e =
         let z : left ≡ 0 = omega arith in
         all-told a words₀ words n (g .done) (g .put) (g .packed) k
-        (g .is ∙ ap (λ (k : ℕ). after (g .done) (restIn t f s at cache k (length words - n))) z ∙ ap (after (g .done)) e)
+        (g .is ∙ ap (λ (k : ℕ). after (g .done) (restIn by t f s at cache k (length words - n))) z ∙ ap (after (g .done)) e)
 
     pub left-over : left ≤ 0 → at < length s → Wholly words₀ a (ended (some 8) n) words
     left-over h q = ended-here (some 8) h (over (drop at s) (rw (length-drop at s) (omega arith)))

@@ -4,6 +4,7 @@ pub mod Placing
 pub mod Going
 pub mod Opening
 pub mod Ending
+pub mod Answering
 pub mod Printed
 pub mod Numbers
 pub mod SomeLine

@@ -18,8 +18,6 @@ use Rattle.rules.specs.Scratch.{Cache, emptyCache}
 use Rattle.rules.specs.Patch.{Patch, nothingSorted, Answer, answerOf, unlessRefused, sorted, bound, freeDestination, lastOverlaps, patchConditions, run, resolveSorted, resolve}
 use Rattle.rules.specs.Patch as rules
 use Rattle.rules.specs.Refusals.{entriesConditions}
-use Rattle.rules.proofs.Accepted.{accepted}
-use Rattle.machine.proofs.Bound.{bound-ok}
 use Rattle.parallel_moves.proofs.First.{resolve-first}
 use Rattle.number.specs.Read.{Read, got, refused}
 use Rattle.reading.specs.Reading.{between}
@@ -27,10 +25,11 @@ use Rattle.job_target.specs.Target.{target}
 use Rattle.job_function.specs.Reads.{function}
 use Rattle.job_function.proofs.Accepted.{then-got, tested-got, read-accepted}
 use Rattle.job_patch.specs.Patches.{patch}
-use Rattle.job_rules.specs.Job.{Header, before, afterRead, afterCall, afterTarget, header, opening, patches, job}
+use Rattle.job_rules.specs.Job.{Resolver, Header, before, afterRead, afterCall, afterTarget, header, opening, patchesBy, jobBy}
 use Rattle.job_rules.proofs.WasRead.{early-got, given-got}
 use Rattle.job_rules.proofs.Room.{room-for-every}
-use Rattle.answer.specs.Room.{wordsTaken, callIn, patchesIn, jobIn, mostWords, MostWords}
+use Rattle.answer.specs.Room.{wordsTaken, callIn, patchesIn, jobInBy, mostWords, MostWordsBy, MostWords}
+use Rattle.answer.proofs.Called.{Bounded, resolve-bounded}
 use Rattle.answer.proofs.Bytes.{Leaves, leaves-got, target-less, function-less, tested-less, patch-leaves}
 
 module _ (t : RegInfo) (f : Function) where
@@ -42,34 +41,43 @@ module _ (t : RegInfo) (f : Function) where
   unfolding resolveSorted patchConditions
   enough p room c h = resolve-first t f p room c ∙ rw (le-ltb room (bound (sorted t f p)) h)
 
-  same-call : (p : Patch) (left : ℕ) (c : Cache) → 1 + bound (sorted t f p) ≤ left → bound (sorted t f p) ≤ 1024 → callIn t f p left c ≡ resolve t f p 1024 c
-  same-call p zero c h q = absurd (omega arith)
-  same-call p (suc left) c h q = enough p left c (omega arith) ∙ sym (enough p 1024 c q)
+-- a call that was lent room for the bound is not asked for more
+abbrev pub Roomy : Resolver → Type 0
+Roomy by =
+    (t : RegInfo) (f : Function) → target.Accepted t → (p : Patch) (room room′ : ℕ) (c : Cache) → bound (sorted t f p) ≤ room → bound (sorted t f p) ≤ room′ → by t f p room c ≡ by t f p room′ c
 
-  module _ (at : target.Accepted t) (af : function.Accepted t f) where
+resolve-roomy : Roomy resolve
+resolve-roomy t f ta p room room′ c h q = enough t f p room c h ∙ sym (enough t f p room′ c q)
+
+module _ (by : Resolver) (bounded : Bounded by) (roomy : Roomy by) where
+  module _ (t : RegInfo) (f : Function) (at : target.Accepted t) (af : function.Accepted t f) where
+    same-call : (p : Patch) (left : ℕ) (c : Cache) → 1 + bound (sorted t f p) ≤ left → bound (sorted t f p) ≤ 1024 → callIn by t f p left c ≡ by t f p 1024 c
+    same-call p zero c h q = absurd (omega arith)
+    same-call p (suc left) c h q = roomy t f at p left 1024 c (omega arith) q
+
     -- what follows a call is the same, where it is so from every cache on and so many words are left
     after-call : (n : ℕ) (c : Cache) (left : ℕ) (p : Patch) (r : List ℕ) → 2 * length r + n + (1 + bound (sorted t f p)) ≤ left
-        → ((c′ : Cache) (left′ : ℕ) → 2 * length r + n ≤ left′ → patchesIn t f n c′ left′ r ≡ patches t f n c′ r)
-        → (a : Answer) → resolve t f p 1024 c ≡ a
-        → afterCall a (λ c′. patchesIn t f n c′ (left - wordsTaken a) r) ≡ afterCall a (λ c′. patches t f n c′ r)
+        → ((c′ : Cache) (left′ : ℕ) → 2 * length r + n ≤ left′ → patchesIn by t f n c′ left′ r ≡ patchesBy by t f n c′ r)
+        → (a : Answer) → by t f p 1024 c ≡ a
+        → afterCall a (λ c′. patchesIn by t f n c′ (left - wordsTaken a) r) ≡ afterCall a (λ c′. patchesBy by t f n c′ r)
     after-call n c left p r h on (rules.refused k) e = refl
     after-call n c left p r h on (rules.resolved es c′ m) e =
-        let few = bound-ok t f at af p 1024 c c′ es (accepted t f p 1024 c c′ es m e) in
+        let few = bounded t f at af p 1024 c c′ es m e in
         ap (before (record { edits = es; made = c′ .made; position = m })) (on c′ (left - (1 + length es)) (omega arith))
 
-    same : (n : ℕ) (c : Cache) (left : ℕ) (l : List ℕ) → 2 * length l + n ≤ left → patchesIn t f n c left l ≡ patches t f n c l
-    unfolding patchesIn patches
+    same : (n : ℕ) (c : Cache) (left : ℕ) (l : List ℕ) → 2 * length l + n ≤ left → patchesIn by t f n c left l ≡ patchesBy by t f n c l
+    unfolding patchesIn patchesBy
     same zero c left l h = refl
     same (suc n) c left l h = go (patch t f l) refl (patch-leaves t f l) (λ r c′ left′ q. same n c′ left′ r q)
       where
         go : (x : Read Patch) → patch t f l ≡ x → Leaves (λ p. bound (sorted t f p)) (2 * length l) x
-            → ((r : List ℕ) (c′ : Cache) (left′ : ℕ) → 2 * length r + n ≤ left′ → patchesIn t f n c′ left′ r ≡ patches t f n c′ r)
-            → afterRead x (λ p r. afterCall (callIn t f p left c) (λ c′. patchesIn t f n c′ (left - wordsTaken (callIn t f p left c)) r))
-            ≡ afterRead x (λ p r. afterCall (resolve t f p 1024 c) (λ c′. patches t f n c′ r))
+            → ((r : List ℕ) (c′ : Cache) (left′ : ℕ) → 2 * length r + n ≤ left′ → patchesIn by t f n c′ left′ r ≡ patchesBy by t f n c′ r)
+            → afterRead x (λ p r. afterCall (callIn by t f p left c) (λ c′. patchesIn by t f n c′ (left - wordsTaken (callIn by t f p left c)) r))
+            ≡ afterRead x (λ p r. afterCall (by t f p 1024 c) (λ c′. patchesBy by t f n c′ r))
         go (refused k) e q on = refl
         go (got p r) e q on =
             rw (same-call p left c (omega arith) (room-for-every t f l p r e))
-            (after-call n c left p r (omega arith) (on r) (resolve t f p 1024 c) refl)
+            (after-call n c left p r (omega arith) (on r) (by t f p 1024 c) refl)
 
 -- of a job that was opened: an accepted target and function with its setting, 1 to 1,024 patches, and no more bytes left than there were
 pub record Opens (kept : ℕ) (l : List ℕ) (h : Header) (r : List ℕ) : Type 0 where
@@ -108,14 +116,17 @@ opens kept l h r e =
     } in
     subst (λ (q : List ℕ). Opens kept l h q) on (subst (λ (y : Header). Opens kept l y (x .1)) is o)
 
-pub most-words : MostWords
-unfolding jobIn job
-most-words room h kept l = go (opening kept l) refl
+pub most-words-by : (by : Resolver) → Bounded by → Roomy by → MostWordsBy by
+unfolding jobInBy jobBy
+most-words-by by bounded roomy room h kept l = go (opening kept l) refl
   where
     go : (x : Read Header) → opening kept l ≡ x
-        → afterRead x (λ h r. patchesIn (h .target) (h .function) (h .patches) emptyCache room r)
-        ≡ afterRead x (λ h r. patches (h .target) (h .function) (h .patches) emptyCache r)
+        → afterRead x (λ h r. patchesIn by (h .target) (h .function) (h .patches) emptyCache room r)
+        ≡ afterRead x (λ h r. patchesBy by (h .target) (h .function) (h .patches) emptyCache r)
     go (refused k) e = refl
     go (got x r) e =
         let o = opens kept l x r e in
-        same (x .target) (x .function) (o .target-taken) (o .function-taken) (x .patches) emptyCache room r (omega (arith, o .few, o .short, o .fewer))
+        same by bounded roomy (x .target) (x .function) (o .target-taken) (o .function-taken) (x .patches) emptyCache room r (omega (arith, o .few, o .short, o .fewer))
+
+pub most-words : MostWords
+most-words = most-words-by resolve resolve-bounded resolve-roomy

@@ -18,7 +18,7 @@ use Rattle.function.specs.Function.{Function}
 use Rattle.function.specs.Table.{functionOf}
 use Rattle.rules.specs.Edit.{Edit}
 use Rattle.rules.specs.Scratch.{Cache}
-use Rattle.rules.specs.Patch.{Patch, resolve}
+use Rattle.rules.specs.Patch.{Patch}
 use Rattle.rules.specs.Patch as rules
 use Rattle.edit.specs.Word.{wordOf}
 use Rattle.slots.specs.Stacks.{cacheOf}
@@ -26,7 +26,7 @@ use Rattle.print.specs.Put.{Put}
 use Rattle.answer_text.specs.Heads.{headWord, patchWords}
 use Rattle.job_patch.specs.Patches.{patch}
 use Rattle.job.specs.declared.Step.the-variants.{Refused}
-use Rattle.job_rules.specs.Job.{Done, endsWith, before}
+use Rattle.job_rules.specs.Job.{Resolver, Done, endsWith, before}
 use Rattle.job.specs.Steps.{StepAt}
 use Rattle.answer.specs.Room.{callIn, patchesIn}
 use Rattle.answer.specs.declared.Onward.the-variants as O
@@ -109,7 +109,7 @@ module _ (words : List ℕ) (n from : ℕ) where
         }
 
 -- ---- the next patch
-module _ (t f s : List ℕ) (at : ℕ) (words : List ℕ) (n from : ℕ) (room : n ≤ length words) (is : from ≡ behindHead n (length words)) (cache list cache′ : List ℕ) where
+module _ (by : Resolver) (t f s : List ℕ) (at : ℕ) (words : List ℕ) (n from : ℕ) (room : n ≤ length words) (is : from ≡ behindHead n (length words)) (cache list cache′ : List ℕ) where
   abbrev T : RegInfo
   T = regInfoOf t
 
@@ -119,36 +119,36 @@ module _ (t f s : List ℕ) (at : ℕ) (words : List ℕ) (n from : ℕ) (room :
   abbrev lentPart : List ℕ
   lentPart = part words n from
 
-  call-refused : (p : Patch) (k w m : ℕ) → (w ≡ suc m) ⊎ ((w ≡ 0) × (m ≡ 0)) → resolve T F p m (cacheOf cache) ≡ rules.refused k → callIn T F p w (cacheOf cache) ≡ rules.refused k
+  call-refused : (p : Patch) (k w m : ℕ) → (w ≡ suc m) ⊎ ((w ≡ 0) × (m ≡ 0)) → by T F p m (cacheOf cache) ≡ rules.refused k → callIn by T F p w (cacheOf cache) ≡ rules.refused k
   call-refused p k w m (inl e) h = rw e h
   call-refused p k w m (inr e) h = rw (e .0, rw (e .1) at h)
 
-  turned-in : (k left : ℕ) → Turned t f s lentPart cache list cache′ k (patch T F (drop at s)) → restIn t f s at cache (suc left) (length words - n) ≡ endsWith (some k)
+  turned-in : (k left : ℕ) → Turned by t f s lentPart cache list cache′ k (patch T F (drop at s)) → restIn by t f s at cache (suc left) (length words - n) ≡ endsWith (some k)
   unfolding patchesIn
   turned-in k left (unread e) = rw e
   turned-in k left (uncalled p r e h) = rw (e, call-refused p k (length words - n) (length lentPart) (lent words n from room is) h)
 
-  pub next-refused : (k : ℕ) → StepAt t f s (patch T F (drop at s)) (Refused k) lentPart list cache cache′ → Next t f s at cache cache′ words (back words n from list) n (O.Refused k)
+  pub next-refused : (k : ℕ) → StepAt by t f s (patch T F (drop at s)) (Refused k) lentPart list cache cache′ → Next by t f s at cache cache′ words (back words n from list) n (O.Refused k)
   next-refused k h =
-      let w = turned t f s lentPart cache list cache′ (patch T F (drop at s)) k h in
+      let w = turned by t f s lentPart cache list cache′ (patch T F (drop at s)) k h in
       (λ left. turned-in k left (w .0), given-back words n from list (w .1))
 
-  module _ (count met next : ℕ) (g : Called t f s lentPart cache list cache′ count met next (patch T F (drop at s))) (kept : length list ≡ length lentPart) where
-    headless-in : (left : ℕ) → length words ≤ n → length lentPart ≡ 0 → restIn t f s at cache (suc left) (length words - n) ≡ endsWith (some 16)
+  module _ (count met next : ℕ) (g : Called by t f s lentPart cache list cache′ count met next (patch T F (drop at s))) (kept : length list ≡ length lentPart) where
+    headless-in : (left : ℕ) → length words ≤ n → length lentPart ≡ 0 → restIn by t f s at cache (suc left) (length words - n) ≡ endsWith (some 16)
     unfolding patchesIn
     headless-in left h z =
         let y : length words - n ≡ 0 = omega arith in
         rw (y, g .reads, rw z at (g .calls))
 
-    pub no-head : from ≡ n → Next t f s at cache cache′ words (back words n from list) n (O.Refused 16)
+    pub no-head : from ≡ n → Next by t f s at cache cache′ words (back words n from list) n (O.Refused 16)
     no-head h =
         let o = none-left words n from room is h in
         let z : length lentPart ≡ 0 = omega (arith, part-length words n from) in
         (λ left. headless-in left o z, given-back words n from list (both-empty list lentPart (kept ∙ z) z))
 
     goes-on : (left : ℕ) → from ≡ n + 1 → n < length words
-        → restIn t f s at cache (suc left) (length words - n)
-        ≡ before (record { edits = g .es; made = g .after .made; position = met }) (patchesIn T F left (cacheOf cache′) (length words - (from + count)) (drop next s))
+        → restIn by t f s at cache (suc left) (length words - n)
+        ≡ before (record { edits = g .es; made = g .after .made; position = met }) (patchesIn by T F left (cacheOf cache′) (length words - (from + count)) (drop next s))
     unfolding patchesIn
     goes-on left one there =
         let y : length words - n ≡ suc (length lentPart) = omega (arith, part-length words n from) in
@@ -156,7 +156,7 @@ module _ (t f s : List ℕ) (at : ℕ) (words : List ℕ) (n from : ℕ) (room :
         rw (y, g .reads, g .calls, x, g .cache-is, g .on)
 
     pub next-put : (from ≡ n → ⊥) → count ≤ 1024 → (made position w : ℕ) → made < 65536 → made ≡ cacheOf cache′ .made → position < 65536 → position ≡ met → w ≡ headWord count made position
-        → Next t f s at cache cache′ words (set (back words n from list) n w) n (O.At next (from + count))
+        → Next by t f s at cache cache′ words (set (back words n from list) n w) n (O.At next (from + count))
     next-put h few made position w small m low i e =
         let o = one-left words n from room is h in
         let d : Done = record { edits = g .es; made = g .after .made; position = met } in

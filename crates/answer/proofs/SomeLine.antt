@@ -12,7 +12,7 @@ use Rattle.rules.specs.Patch.{Answer, resolve}
 use Rattle.rules.specs.Patch as rules
 use Rattle.number.specs.Read.{Read, got, refused}
 use Rattle.job_patch.specs.Patches.{patch}
-use Rattle.job_rules.specs.Job.{Done, Answers, afterRead, afterCall, opening, patches, job}
+use Rattle.job_rules.specs.Job.{Done, Answers, afterRead, afterCall, opening, patchesBy, patches, jobBy, job}
 use Rattle.answer_text.specs.Lines.{refusalText}
 use Rattle.answer.specs.Words.{numberOf, doneText, OfTable, SomePrinted}
 use Rattle.answer.proofs.MostWords.{opens}
@@ -31,12 +31,12 @@ after-call (rules.refused k) next e = absurd (let z : _≡_ {A = ℕ} 0 1 = cc i
 after-call (rules.resolved es c n) next e = omega arith
 
 some-patch : (t : RegInfo) (f : Function) (n : ℕ) (c : Cache) (l : List ℕ) → 1 ≤ n → Some (patches t f n c l)
-unfolding patches
+unfolding patchesBy
 some-patch t f zero c l h = absurd (omega arith)
 some-patch t f (suc n) c l h = after-read (patch t f l) _ (λ p r e. after-call (resolve t f p 1024 c) _)
 
 job-some : (kept : ℕ) (l : List ℕ) → Some (job kept l)
-unfolding job
+unfolding jobBy
 job-some kept l = after-read (opening kept l) _ (λ h r e. some-patch (h .target) (h .function) (h .patches) emptyCache r (opens kept l h r e .some))
 
 done-line : (d : List Done) → 0 < length d → 0 < length (doneText 1 d)

@@ -15,7 +15,7 @@ use Rattle.rules.specs.Scratch.{Cache, emptyCache}
 use Rattle.rules.specs.Patch.{Patch, nothingSorted, Answer, refused, resolved, sorted, bound, freeDestination, lastOverlaps, run, resolve}
 use Rattle.rules.specs.Refusals.{ranOut, entriesConditions}
 use Rattle.job_patch.specs.Patches.{patch}
-use Rattle.job_rules.specs.Job.{Answers, afterRead, afterCall, leftOver, opening, job}
+use Rattle.job_rules.specs.Job.{Resolver, Answers, afterRead, afterCall, leftOver, opening, jobBy}
 
 -- no word is left for the head
 abbrev pub headless : Answer → Answer
@@ -27,11 +27,11 @@ abbrev pub wordsTaken : Answer → ℕ
 wordsTaken (refused n) = 0
 wordsTaken (resolved es c n) = 1 + length es
 
-module _ (t : RegInfo) (f : Function) where
+module _ (by : Resolver) (t : RegInfo) (f : Function) where
   -- a call with `left` words left, of which the head takes one
   abbrev pub callIn : Patch → ℕ → Cache → Answer
-  callIn p zero c = headless (resolve t f p 0 c)
-  callIn p (suc left) c = resolve t f p left c
+  callIn p zero c = headless (by t f p 0 c)
+  callIn p (suc left) c = by t f p left c
 
   -- "There is one call for each patch, and what earlier patches gave stands"
   unfoldable pub patchesIn : ℕ → Cache → (left : ℕ) → List ℕ → Answers
@@ -39,7 +39,8 @@ module _ (t : RegInfo) (f : Function) where
   patchesIn (suc n) c left l =
       afterRead (patch t f l) (λ p r. afterCall (callIn p left c) (λ c′. patchesIn n c′ (left - wordsTaken (callIn p left c)) r))
 
-  -- all conditions of such a call in their order: the entries', "then 13, 14, 16, 17"; 16: "lent list shorter than the bound of demand 3"
+module _ (t : RegInfo) (f : Function) where
+  -- all conditions of a call in their order: the entries', "then 13, 14, 16, 17"; 16: "lent list shorter than the bound of demand 3"
   unfoldable pub conditionsIn : Patch → (left : ℕ) → Cache → List Condition
   conditionsIn p left c =
       entriesConditions t f (p .entries) nothingSorted
@@ -51,17 +52,23 @@ module _ (t : RegInfo) (f : Function) where
 
   -- "Each is given when its condition holds and none earlier does, else not."
   pub record RefusalsIn (p : Patch) (left : ℕ) (c : Cache) : Type 0 where
-    pub given : (n : ℕ) → (callIn p left c ≡ refused n) ↔ Given (conditionsIn p left c) n
-    pub taken : ((es : List Edit) × (c′ : Cache) × (n : ℕ) × (callIn p left c ≡ resolved es c′ n)) ↔ NoneHolds (conditionsIn p left c)
+    pub given : (n : ℕ) → (callIn resolve t f p left c ≡ refused n) ↔ Given (conditionsIn p left c) n
+    pub taken : ((es : List Edit) × (c′ : Cache) × (n : ℕ) × (callIn resolve t f p left c ≡ resolved es c′ n)) ↔ NoneHolds (conditionsIn p left c)
 
 -- a whole job of a function with `kept` kept evictions, answered into `room` words
-unfoldable pub jobIn : (room kept : ℕ) → List ℕ → Answers
-jobIn room kept l = afterRead (opening kept l) (λ h r. patchesIn (h .target) (h .function) (h .patches) emptyCache room r)
+unfoldable pub jobInBy : Resolver → (room kept : ℕ) → List ℕ → Answers
+jobInBy by room kept l = afterRead (opening kept l) (λ h r. patchesIn by (h .target) (h .function) (h .patches) emptyCache room r)
+
+abbrev pub jobIn : (room kept : ℕ) → List ℕ → Answers
+jobIn room kept l = jobInBy resolve room kept l
 
 -- as many words are enough for every job: "a move has at least 4 bytes of the job and at most 8 edits, a rebuild 3 and 5, and there are 1,024
 -- patches" (c/parallel_moves.h), each with its head
 abbrev pub mostWords : ℕ
 mostWords = 2 * 65536 + 1024
 
+abbrev pub MostWordsBy : Resolver → Type 0
+MostWordsBy by = (room : ℕ) → mostWords ≤ room → (kept : ℕ) (l : List ℕ) → jobInBy by room kept l ≡ jobBy by kept l
+
 abbrev pub MostWords : Type 0
-MostWords = (room : ℕ) → mostWords ≤ room → (kept : ℕ) (l : List ℕ) → jobIn room kept l ≡ job kept l
+MostWords = MostWordsBy resolve

@@ -12,7 +12,7 @@ use Rattle.slots.specs.Stacks.{cacheOf}
 use Rattle.parallel_moves.specs.Given.{CacheOk}
 use Rattle.print.specs.Put.{Put}
 use Rattle.answer_text.specs.Heads.{patchWords}
-use Rattle.job_rules.specs.Job.{Done, Answers, endsWith, before, patches}
+use Rattle.job_rules.specs.Job.{Resolver, Done, Answers, endsWith, before, patches}
 use Rattle.answer.specs.Words.{wordsOf, Packed, AllPacked}
 use Rattle.answer.specs.Room.{patchesIn}
 use Rattle.answer.specs.declared.Onward.{Onward}
@@ -24,20 +24,20 @@ use Rattle.answer.specs.declared.Whole.the-variants.{Answered, Refused}
 abbrev pub behindHead : (n len : ℕ) → ℕ
 behindHead n len = pick (ltb n len) (n + 1) n
 
-module _ (t f s : List ℕ) (at : ℕ) (cache : List ℕ) where
-  -- what is answered from here on, if so many patches are left and the list lent to each call has room for it
-  abbrev pub rest : ℕ → Answers
-  rest left = patches (regInfoOf t) (functionOf f) left (cacheOf cache) (drop at s)
+-- what is answered from here on, if so many patches are left and the list lent to each call has room for it
+abbrev pub rest : (t f s : List ℕ) → (at : ℕ) → (cache : List ℕ) → ℕ → Answers
+rest t f s at cache left = patches (regInfoOf t) (functionOf f) left (cacheOf cache) (drop at s)
 
+module _ (by : Resolver) (t f s : List ℕ) (at : ℕ) (cache : List ℕ) where
   -- what is answered from here on, if so many patches and words are left
   abbrev pub restIn : (left words : ℕ) → Answers
-  restIn left words = patchesIn (regInfoOf t) (functionOf f) left (cacheOf cache) words (drop at s)
+  restIn left words = patchesIn by (regInfoOf t) (functionOf f) left (cacheOf cache) words (drop at s)
 
   -- the patch at an offset was answered and its words stand from n on; or it is refused, and the words are as they were
   abbrev pub Next : (cache′ words words′ : List ℕ) → ℕ → Onward → Type 0
   Next cache′ words words′ n (O.At next m) =
       (d : Done)
-      × ((left : ℕ) → restIn (suc left) (length words - n) ≡ before d (patchesIn (regInfoOf t) (functionOf f) left (cacheOf cache′) (length words - m) (drop next s)))
+      × ((left : ℕ) → restIn (suc left) (length words - n) ≡ before d (patchesIn by (regInfoOf t) (functionOf f) left (cacheOf cache′) (length words - m) (drop next s)))
       × Put words words′ n (patchWords (d .edits) (d .made) (d .position)) m × CacheOk f cache′ × (next ≤ length s) × Packed d
   Next cache′ words words′ n (O.Refused k) = ((left : ℕ) → restIn (suc left) (length words - n) ≡ endsWith (some k)) × (words′ ≡ words)
 

@@ -20,6 +20,7 @@ ghost use Rattle.entity.specs.Logic.{Anything};
 ghost use Rattle.reginfo.specs.Table.{regInfoOf};
 ghost use Rattle.function.specs.Known.{Checked};
 ghost use Rattle.function.specs.Table.{functionOf};
+ghost use Rattle.rules.specs.Patch.{resolve};
 ghost use Rattle.slots.specs.Stacks.{cacheOf};
 ghost use Rattle.parallel_moves.specs.Given.{CacheOk};
 ghost use Rattle.answer_text.specs.Heads.{headWord};
@@ -45,7 +46,7 @@ fn long(x: u32) -> usize
 }
 
 // The word before a patch's edits: how many they are, how many slots the function has made, and the greatest position that the patch met.
-fn head(count: usize, made: usize, position: usize) -> u64
+pub fn head(count: usize, made: usize, position: usize) -> u64
     requires { ⌜ (count ≤ 1024) × (made < 65536) × (position < 65536) ⌝ }
     ensures { λ r. ⌜ r ≡ headWord count made position ⌝ }
 {
@@ -53,7 +54,7 @@ fn head(count: usize, made: usize, position: usize) -> u64
 }
 
 // Where the words behind the head at n begin: where no word is left for it, at the end.
-fn behind(n: usize, len: usize) -> usize
+pub fn behind(n: usize, len: usize) -> usize
     requires { ⌜ n ≤ len ⌝ }
     ensures { λ r. ⌜ r ≡ behindHead n len ⌝ }
 {
@@ -84,7 +85,7 @@ fn answer_next(
     n: usize,
 ) -> Onward
     requires { ⌜ Checked (now t) (now f) × CacheOk (now f) (now cache) × (n ≤ length (now words)) ⌝ }
-    ensures { λ r. ⌜ Next (now (t .entry)) (now (f .entry)) (now (s .entry)) at (now (cache .entry)) (now (cache .exit)) (now (words .entry)) (now (words .exit)) n r ⌝ }
+    ensures { λ r. ⌜ Next resolve (now (t .entry)) (now (f .entry)) (now (s .entry)) at (now (cache .entry)) (now (cache .exit)) (now (words .entry)) (now (words .exit)) n r ⌝ }
     ensures { λ _. ⌜ Anything (now (free .exit)) × Anything (now (e .exit)) × Anything (now (w .exit)) × Anything (now (available .exit)) × Anything (now (sources .exit)) × Anything (now (edits .exit)) × Anything (now (slots .exit)) × Anything (now (d .exit)) × Anything (now (marks .exit)) × Anything (now (c .exit)) ⌝ }
 {
     let from = behind(n, words.len());
@@ -138,7 +139,7 @@ fn answer_patches(
     words: &mut [u64],
 ) -> Whole
     requires { ⌜ Checked (now t) (now f) × CacheOk (now f) (now cache) ⌝ }
-    ensures { λ r. ⌜ Wholly (now (words .entry)) (patchesIn (regInfoOf (now (t .entry))) (functionOf (now (f .entry))) count (cacheOf (now (cache .entry))) (length (now (words .entry))) (drop from (now (s .entry)))) r (now (words .exit)) ⌝ }
+    ensures { λ r. ⌜ Wholly (now (words .entry)) (patchesIn resolve (regInfoOf (now (t .entry))) (functionOf (now (f .entry))) count (cacheOf (now (cache .entry))) (length (now (words .entry))) (drop from (now (s .entry)))) r (now (words .exit)) ⌝ }
     ensures { λ _. ⌜ Anything (now (cache .exit)) × Anything (now (free .exit)) × Anything (now (e .exit)) × Anything (now (w .exit)) × Anything (now (available .exit)) × Anything (now (sources .exit)) × Anything (now (edits .exit)) × Anything (now (slots .exit)) × Anything (now (d .exit)) × Anything (now (marks .exit)) × Anything (now (c .exit)) ⌝ }
 {
     let mut at = from;

@@ -7,6 +7,7 @@ use mathlib.Core.Option.{Option, none, some}
 use native.Mathlib.Omega.{arith}
 use lib.ListN.{length, take, drop}
 use borrow.Author.Tests.{ltb-false}
+use Rattle.reginfo.specs.RegInfo.{RegInfo}
 use Rattle.reginfo.specs.Refused.{firstOf}
 use Rattle.reginfo.proofs.First.{first-none}
 use Rattle.function.specs.Function.{Function}
@@ -35,16 +36,16 @@ use Rattle.grouping.proofs.Givens.{given, is-given}
 use Rattle.grouping.proofs.Testing.{other-room}
 
 -- the room matters to 16 alone
-same-parts : (t : List ℕ) (f : Function) (l : List Patch) (a b : ℕ) (c : Cache) → Passing (T t) f a l → Passing (T t) f b l → resolveParts (T t) f l a c ≡ resolveParts (T t) f l b c
+pub same-parts : (t : RegInfo) (f : Function) (l : List Patch) (a b : ℕ) (c : Cache) → Passing t f a l → Passing t f b l → resolveParts t f l a c ≡ resolveParts t f l b c
 unfolding resolveParts
 same-parts t f [] a b c x y = refl
 same-parts t f (q ∷ l) a b c x y =
-    go (resolve (T t) f q a c) (resolve (T t) f q b c) (by-run (T t) f q a c (x .0) ∙ sym (by-run (T t) f q b c (y .0))) (λ d. same-parts t f l a b d (x .1) (y .1))
+    go (resolve t f q a c) (resolve t f q b c) (by-run t f q a c (x .0) ∙ sym (by-run t f q b c (y .0))) (λ d. same-parts t f l a b d (x .1) (y .1))
   where
-    go : (r s : Answer) → r ≡ s → ((d : Cache) → resolveParts (T t) f l a d ≡ resolveParts (T t) f l b d) → followedBy r (λ d. resolveParts (T t) f l a d) ≡ followedBy s (λ d. resolveParts (T t) f l b d)
+    go : (r s : Answer) → r ≡ s → ((d : Cache) → resolveParts t f l a d ≡ resolveParts t f l b d) → followedBy r (λ d. resolveParts t f l a d) ≡ followedBy s (λ d. resolveParts t f l b d)
     go r s e on = rw e (by s)
       where
-        by : (s : Answer) → followedBy s (λ d. resolveParts (T t) f l a d) ≡ followedBy s (λ d. resolveParts (T t) f l b d)
+        by : (s : Answer) → followedBy s (λ d. resolveParts t f l a d) ≡ followedBy s (λ d. resolveParts t f l b d)
         by (refused n) = refl
         by (resolved es d n) = rw (on d)
 
@@ -85,7 +86,7 @@ module _ (t f : List ℕ) (free : List Bool) (numbers : List ℕ) (g : Grant) (o
     unfolding resolveByGroups
     by-parts p num =
         rw (whole-none p num)
-        (same-parts t W (parts (T t) p) (length list) 1024 c₀ (parts-pass (T t) W (ok .target) p (length list) (whole-none p num)) (parts-pass (T t) W (ok .target) p 1024 (passed p num)))
+        (same-parts (T t) W (parts (T t) p) (length list) 1024 c₀ (parts-pass (T t) W (ok .target) p (length list) (whole-none p num)) (parts-pass (T t) W (ok .target) p 1024 (passed p num)))
 
     module _ (work joined work′ : List ℕ) (we : cacheOf work ≡ c₀) where
       pub part-out : (k : ℕ) → PartsGive (g .limit) t f free numbers (R.the-variants.Refused k) joined work work′ → GroupsGranted g t f free numbers (R.the-variants.Refused k) list list cache cache

@@ -9,7 +9,7 @@ use Rattle.function.specs.Known.{Checked}
 use Rattle.function.specs.Table.{functionOf}
 use Rattle.rules.specs.Edit.{Edit}
 use Rattle.rules.specs.Scratch.{Cache}
-use Rattle.rules.specs.Patch.{Patch, Answer, resolve}
+use Rattle.rules.specs.Patch.{Patch, Answer}
 use Rattle.rules.specs.Patch as rules
 use Rattle.edit.specs.Word.{wordOf, AllInRange}
 use Rattle.slots.specs.Stacks.{cacheOf}
@@ -22,7 +22,7 @@ use Rattle.parallel_moves.specs.Given.{CacheOk}
 use Rattle.job_patch.specs.Patches.{patch}
 use Rattle.job.specs.declared.Step.{Step}
 use Rattle.job.specs.declared.Step.the-variants.{Edits, Refused}
-use Rattle.job_rules.specs.Job.{Opened, Header}
+use Rattle.job_rules.specs.Job.{Opened, Header, Resolver}
 
 -- target and function read: the tables hold them, and the answer is the next offset; where one is refused, the tables hold anything
 abbrev pub BegunAt : (s : List ℕ) → Read Opened → Next → (t f : List ℕ) → Type 0
@@ -44,7 +44,7 @@ CallAt f (rules.resolved es c n) next r list list′ cache cache′ =
     (r ≡ Edits (length es) n next) × (list′ ≡ map wordOf es ++ drop (length es) list) × AllInRange es × (cacheOf cache′ ≡ c) × CacheOk f cache′
 
 -- a patch read and resolved
-abbrev pub StepAt : (t f s : List ℕ) → Read Patch → Step → (list list′ cache cache′ : List ℕ) → Type 0
-StepAt t f s (refused k) r list list′ cache cache′ = (r ≡ Refused k) × (list′ ≡ list) × (cache′ ≡ cache)
-StepAt t f s (got p rest) r list list′ cache cache′ =
-    (next : ℕ) × (rest ≡ drop next s) × (next ≤ length s) × CallAt f (resolve (regInfoOf t) (functionOf f) p (length list) (cacheOf cache)) next r list list′ cache cache′
+abbrev pub StepAt : Resolver → (t f s : List ℕ) → Read Patch → Step → (list list′ cache cache′ : List ℕ) → Type 0
+StepAt by t f s (refused k) r list list′ cache cache′ = (r ≡ Refused k) × (list′ ≡ list) × (cache′ ≡ cache)
+StepAt by t f s (got p rest) r list list′ cache cache′ =
+    (next : ℕ) × (rest ≡ drop next s) × (next ≤ length s) × CallAt f (by (regInfoOf t) (functionOf f) p (length list) (cacheOf cache)) next r list list′ cache cache′

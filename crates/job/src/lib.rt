@@ -26,7 +26,7 @@ ghost use Rattle.function.specs.Function.{isSetting};
 ghost use Rattle.function.specs.Known.{Checked};
 ghost use Rattle.function.specs.Table.{functionOf};
 ghost use Rattle.small_set.specs.Set.{setOf};
-ghost use Rattle.rules.specs.Patch.{Patch, resolveSorted};
+ghost use Rattle.rules.specs.Patch.{Patch, resolveSorted, resolve};
 ghost use Rattle.slots.specs.Stacks.{cacheOf};
 ghost use Rattle.entries.specs.Table.{sortedOf};
 ghost use Rattle.entries.specs.Known.{EntriesOk};
@@ -247,7 +247,7 @@ pub fn answer_patch(
     c: &mut Carried,
 ) -> Step
     requires { ⌜ Checked (now t) (now f) × CacheOk (now f) (now cache) ⌝ }
-    ensures { λ r. ⌜ StepAt (now (t .entry)) (now (f .entry)) (now (s .entry)) (patch (regInfoOf (now (t .entry))) (functionOf (now (f .entry))) (drop at (now (s .entry)))) r (now (list .entry)) (now (list .exit)) (now (cache .entry)) (now (cache .exit)) ⌝ }
+    ensures { λ r. ⌜ StepAt resolve (now (t .entry)) (now (f .entry)) (now (s .entry)) (patch (regInfoOf (now (t .entry))) (functionOf (now (f .entry))) (drop at (now (s .entry)))) r (now (list .entry)) (now (list .exit)) (now (cache .entry)) (now (cache .exit)) ⌝ }
     ensures { λ _. ⌜ Anything (now (free .exit)) × Anything (now (e .exit)) × Anything (now (w .exit)) × Anything (now (available .exit)) × Anything (now (sources .exit)) × Anything (now (edits .exit)) × Anything (now (slots .exit)) × Anything (now (d .exit)) × Anything (now (marks .exit)) × Anything (now (c .exit)) ⌝ }
 {
     match job_patch::read_patch(t, f, s, at, free, e, w) {

@@ -18,7 +18,7 @@ use Rattle.reading.specs.Reading.{between, times}
 use Rattle.job_target.specs.Target.{target}
 use Rattle.job_function.specs.Reads.{value, valued, function}
 use Rattle.job_patch.specs.Patches.{unlessGiven, patch}
-use Rattle.job_rules.specs.Job.{Header, Answers, afterRead, afterCall, afterTarget, header, patches, opening, job}
+use Rattle.job_rules.specs.Job.{Header, Answers, afterRead, afterCall, afterTarget, header, patchesBy, patches, opening, jobBy}
 use Rattle.job_rules.proofs.WasRead.{patch-called}
 use Rattle.job_numbers.specs.Numbers.{Job, readPatches, readJob, numberOf}
 use Rattle.job_numbers.specs.Claim.{ReadersAgree}
@@ -47,7 +47,7 @@ module _ (t : RegInfo) (f : Function) (k : ℕ) where
   called p x next on none (some m) = agrees-made (next (m .cache) .refusal) x (λ ps. p ∷ ps) (on (m .cache))
 
   patches-agree : (n : ℕ) (c : Cache) (l : List ℕ) → Agrees (patches t (withKept f k) n c l .refusal) (readPatches t f n l)
-  unfolding patches readPatches resolveSorted
+  unfolding patchesBy readPatches resolveSorted
   patches-agree zero c [] = inr refl
   patches-agree zero c (b ∷ l) = inr refl
   patches-agree (suc n) c l = rw (patch-same t f k l) (go (patch t f l) refl (λ c′ r. patches-agree n c′ r))
@@ -101,7 +101,7 @@ setting k (inl e) = rw e
 setting k (inr e) = rw e
 
 pub readers-agree : ReadersAgree
-unfolding job readJob opening header isSetting
+unfolding jobBy readJob opening header isSetting
 readers-agree k l s = rw (setting k s) (early (ltb 65536 (length l)))
   where
     ruled : (t : RegInfo) (r : List ℕ) (o : Option ℕ) → Both (unlessGiven o (afterTarget t k r)) (unlessGiven o (afterTarget t 1 r))

@@ -28,7 +28,7 @@ use Rattle.reading.specs.Reading.{tested, below, between, times, distinct}
 use Rattle.job_target.specs.Target.{bank, reg, class, classes, target}
 use Rattle.job_function.specs.Reads.{rebuilt, value, valued, function}
 use Rattle.job_patch.specs.Patches.{unlessGiven, rising, place, entry, entries, patch}
-use Rattle.job_rules.specs.Job.{Header, Answers, afterRead, afterCall, leftOver, afterTarget, header, opening, patches, job}
+use Rattle.job_rules.specs.Job.{Header, Answers, afterRead, afterCall, leftOver, afterTarget, header, opening, patchesBy, patches, jobBy, job}
 use Rattle.job_rules.specs.Conditions.{afterGot, unread, inNumber, inTested, inTimes, inDistinct, inBank, inReg, inClass, inClasses, inTarget, ofTarget, inRebuilt, inValue, inFunction, inRising, afterResolved, inPlace, inEntry, inEntries, inPatch, ofCall, inPatches, inOpening, jobConditions, Refusals, NoNumber}
 use Rattle.job_rules.specs.Priced.{unlessOutside, openingIf, openingPriced, jobPriced, inOpeningPriced, conditionsPriced, RefusalsPriced}
 use Rattle.job_rules.proofs.Exactly.{refusalOf, Exactly, nothing, after, made, unless, within, passing, given, either, number-exactly, tested-exactly, times-exactly, distinct-exactly, rising-exactly}
@@ -184,7 +184,7 @@ module _ (t : RegInfo) (f : Function) where
       go none (some k) = on (k .cache)
 
   patches-exactly : (n : ℕ) (c : Cache) (l : List ℕ) → firstOf (inPatches t f n c l) ≡ patches t f n c l .refusal
-  unfolding patches inPatches
+  unfolding patchesBy inPatches
   patches-exactly zero c l = left-exactly l
   patches-exactly (suc n) c l =
       answered (patch t f l) (inPatch t f l) _ _ (patch-exactly t f l)
@@ -227,7 +227,7 @@ priced-exactly p kept l =
     (within (inRange p) 19 (afterTarget t kept r) (behindRules t kept r) (behind-exactly t kept r)))))
 
 job-exactly : (kept : ℕ) (l : List ℕ) → firstOf (jobConditions kept l) ≡ job kept l .refusal
-unfolding job jobConditions
+unfolding jobBy jobConditions
 job-exactly kept l =
     answered (opening kept l) (inOpening kept l) _ _ (opening-exactly kept l)
     (λ h r e. patches-exactly (h .target) (h .function) (h .patches) emptyCache r)

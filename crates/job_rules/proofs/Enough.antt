@@ -102,13 +102,13 @@ module _ (t : RegInfo) (f : Function) where
   abbrev Never : Cache → Type 0
   Never c = (calls : List Call) → rules-enough.NeverOut t f calls c
 
-  ended : (n : ℕ) (c : Cache) (l : List ℕ) → Never c → Ends t f n c l (some 17) → ⊥
+  ended : (n : ℕ) (c : Cache) (l : List ℕ) → Never c → Ends resolve t f n c l (some 17) → ⊥
   ended n c l all (all-done z e k) = let z : _≡_ {A = ℕ} 0 1 = cc in omega arith
   ended n c l all (left-over z e k) = let q : _≡_ {A = ℕ} 17 8 = cc in omega arith
   ended n c l all (not-read m z e k) = let q : m ≡ 17 = cc in subst Other e (of-patch l) q
   ended n c l all (not-resolved m p r z e i k) = let q : m ≡ 17 = cc in all (record { patch = p; room = 1024 } ∷ []) .0 (i ∙ ap rules.refused q)
 
-  never : (ds : List Done) (n : ℕ) (c : Cache) (l : List ℕ) → Never c → OneByOne t f ds (some 17) n c l → ⊥
+  never : (ds : List Done) (n : ℕ) (c : Cache) (l : List ℕ) → Never c → OneByOne resolve t f ds (some 17) n c l → ⊥
   never [] n c l all h = ended n c l all h
   never (d ∷ ds) n c l all h = let x = h .1 in never ds (n - 1) (x .after) (x .rest) (λ calls. rw (x .calls) at (all (record { patch = x .p; room = 1024 } ∷ calls) .1)) (h .2)
 

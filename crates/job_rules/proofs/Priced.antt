@@ -20,14 +20,14 @@ use Rattle.rules.proofs.Accepted.{accepted}
 use Rattle.machine.proofs.Bound.{bound-ok}
 use Rattle.price.proofs.Laws.{edits-few}
 use Rattle.parallel_moves.proofs.First.{orThen, first-append, resolve-first}
-use Rattle.job_rules.specs.Job.{job}
+use Rattle.job_rules.specs.Job.{jobBy}
 use Rattle.job_rules.specs.Priced as priced
 use Rattle.job_rules.specs.Priced.{jobPriced, AsUnpriced}
 use Rattle.job_rules.proofs.Opening.{opening-unpriced}
 use Rattle.job_rules.proofs.Room.{Few, still-few, within, none-sorted}
 
 pub as-unpriced : AsUnpriced
-unfolding jobPriced job
+unfolding jobPriced jobBy
 as-unpriced p h kept l = (rw h (opening-unpriced kept l), rw (h, opening-unpriced kept l))
 
 -- neither of two

@@ -26,7 +26,7 @@ pub record Few (a : Sorted) : Type 0 where
   pub most : a .count ≤ 128
 
 -- one entry more
-abbrev More : Sorted → Sorted → Type 0
+abbrev pub More : Sorted → Sorted → Type 0
 More a b = (length (b .moves) + (length (b .rematsWithScratch) + length (b .remats)) ≤ length (a .moves) + (length (a .rematsWithScratch) + length (a .remats)) + 1) × (b .count ≡ suc (a .count))
 
 either : (a : Sorted) (b : Bool) (x y : Sorted) → More a x → More a y → More a (pick b x y)
@@ -46,7 +46,7 @@ module _ (t : RegInfo) (f : Function) where
   more-kept : (a : Sorted) (b : Bool) (s d : Place) (v : ℕ) → More a (addKept t f b s d v a)
   more-kept a b s d v = either a b _ _ (omega arith, refl) (omega (arith, longer (a .moves) (record { source = s; dest = d; value = v })), refl)
 
-  more : (a : Sorted) (e : Entry) → More a (add t f e a)
+  pub more : (a : Sorted) (e : Entry) → More a (add t f e a)
   unfolding add
   more a (move s d v) = either a (becomesRemat t f s d v) _ _ (more-rebuilt a (needsScratch t f d v) d v) (more-kept a (dropped t f a s d v) s d v)
   more a (remat d v) = more-rebuilt a (needsScratch t f d v) d v

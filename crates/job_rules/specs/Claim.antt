@@ -14,9 +14,9 @@ use Rattle.machine.specs.Claim.{Accepted}
 use Rattle.machine.specs.Enough.{numSizes}
 use Rattle.number.specs.Read.{Read, got, refused}
 use Rattle.job_patch.specs.Patches.{patch}
-use Rattle.job_rules.specs.Job.{Header, Done, Answers, opening, job}
+use Rattle.job_rules.specs.Job.{Resolver, Header, Done, Answers, opening, jobBy, job}
 
-module _ (t : RegInfo) (f : Function) where
+module _ (by : Resolver) (t : RegInfo) (f : Function) where
   -- the bytes l begin with a patch that is read, and d is what its call gives from the cache c: its edits, which are as demand 3 says, how
   -- many slots the function then has, and the position
   pub record DoneAt (c : Cache) (l : List ℕ) (d : Done) : Type 0 where
@@ -24,7 +24,7 @@ module _ (t : RegInfo) (f : Function) where
     pub rest : List ℕ
     pub after : Cache
     pub reads : patch t f l ≡ got p rest
-    pub calls : resolve t f p 1024 c ≡ rules.resolved (d .edits) after (d .position)
+    pub calls : by t f p 1024 c ≡ rules.resolved (d .edits) after (d .position)
     pub made : d .made ≡ after .made
     pub accepted : Accepted t f p (d .edits)
 
@@ -33,7 +33,7 @@ module _ (t : RegInfo) (f : Function) where
     all-done : n ≡ 0 → l ≡ [] → k ≡ none → Ends n c l k
     left-over : n ≡ 0 → 0 < length l → k ≡ some 8 → Ends n c l k
     not-read : (m : ℕ) → 0 < n → patch t f l ≡ refused m → k ≡ some m → Ends n c l k
-    not-resolved : (m : ℕ) (p : Patch) (rest : List ℕ) → 0 < n → patch t f l ≡ got p rest → resolve t f p 1024 c ≡ rules.refused m → k ≡ some m
+    not-resolved : (m : ℕ) (p : Patch) (rest : List ℕ) → 0 < n → patch t f l ≡ got p rest → by t f p 1024 c ≡ rules.refused m → k ≡ some m
         → Ends n c l k
 
   -- what is done and the refusal k, of n patches from the bytes l and the cache c on: "There is one call for each patch, and what earlier
@@ -43,17 +43,23 @@ module _ (t : RegInfo) (f : Function) where
   OneByOne (d ∷ ds) k n c l = (0 < n) × (x : DoneAt c l d) × OneByOne ds k (n - 1) (x .after) (x .rest)
 
 -- a job whose opening is refused has that number and nothing done
-abbrev pub Opened : Read Header → Answers → Type 0
-Opened (refused k) a = (a .done ≡ []) × (a .refusal ≡ some k)
-Opened (got h r) a = OneByOne (h .target) (h .function) (a .done) (a .refusal) (h .patches) emptyCache r
+abbrev pub Opened : Resolver → Read Header → Answers → Type 0
+Opened by (refused k) a = (a .done ≡ []) × (a .refusal ≡ some k)
+Opened by (got h r) a = OneByOne by (h .target) (h .function) (a .done) (a .refusal) (h .patches) emptyCache r
 
 -- whatever the setting and the bytes
+abbrev pub EveryJobBy : Resolver → Type 0
+EveryJobBy by = (kept : ℕ) (l : List ℕ) → Opened by (opening kept l) (jobBy by kept l)
+
 abbrev pub EveryJob : Type 0
-EveryJob = (kept : ℕ) (l : List ℕ) → Opened (opening kept l) (job kept l)
+EveryJob = EveryJobBy resolve
 
 -- a job that is not refused has as many patches done as it says
+abbrev pub AllDoneBy : Resolver → Type 0
+AllDoneBy by = (kept : ℕ) (l : List ℕ) (h : Header) (r : List ℕ) → opening kept l ≡ got h r → jobBy by kept l .refusal ≡ none → length (jobBy by kept l .done) ≡ h .patches
+
 abbrev pub AllDone : Type 0
-AllDone = (kept : ℕ) (l : List ℕ) (h : Header) (r : List ℕ) → opening kept l ≡ got h r → job kept l .refusal ≡ none → length (job kept l .done) ≡ h .patches
+AllDone = AllDoneBy resolve
 
 -- 02 j: so many slots a size and so many more as evictions are kept
 abbrev pub EnoughWith : ℕ → Type 0

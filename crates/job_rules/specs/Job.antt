@@ -77,13 +77,23 @@ abbrev pub leftOver : List ℕ → Answers
 leftOver [] = endsWith none
 leftOver (b ∷ l) = endsWith (some 8)
 
+-- what a call answers: of a target, a function, a patch, the length of the lent list and a cache
+abbrev pub Resolver : Type 0
+Resolver = RegInfo → Function → Patch → (room : ℕ) → Cache → Answer
+
 -- "There is one call for each patch, and what earlier patches gave stands": the list lent to a call has room for every patch
-unfoldable pub patches : RegInfo → Function → ℕ → Cache → List ℕ → Answers
-patches t f zero c l = leftOver l
-patches t f (suc n) c l = afterRead (patch t f l) (λ p r. afterCall (resolve t f p 1024 c) (λ c′. patches t f n c′ r))
+unfoldable pub patchesBy : Resolver → RegInfo → Function → ℕ → Cache → List ℕ → Answers
+patchesBy by t f zero c l = leftOver l
+patchesBy by t f (suc n) c l = afterRead (patch t f l) (λ p r. afterCall (by t f p 1024 c) (λ c′. patchesBy by t f n c′ r))
+
+abbrev pub patches : RegInfo → Function → ℕ → Cache → List ℕ → Answers
+patches t f n c l = patchesBy resolve t f n c l
 
 unfoldable pub opening : (kept : ℕ) → List ℕ → Read Header
 opening kept l = unlessEarly kept l (header kept l)
 
-unfoldable pub job : (kept : ℕ) → List ℕ → Answers
-job kept l = afterRead (opening kept l) (λ h r. patches (h .target) (h .function) (h .patches) emptyCache r)
+unfoldable pub jobBy : Resolver → (kept : ℕ) → List ℕ → Answers
+jobBy by kept l = afterRead (opening kept l) (λ h r. patchesBy by (h .target) (h .function) (h .patches) emptyCache r)
+
+abbrev pub job : (kept : ℕ) → List ℕ → Answers
+job kept l = jobBy resolve kept l

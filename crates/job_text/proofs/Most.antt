@@ -9,7 +9,7 @@ use Rattle.reginfo.specs.RegInfo.{RegInfo}
 use Rattle.function.specs.Function.{Function}
 use Rattle.rules.specs.Edit.{Edit}
 use Rattle.rules.specs.Scratch.{Cache, emptyCache}
-use Rattle.rules.specs.Patch.{sorted, bound}
+use Rattle.rules.specs.Patch.{sorted, bound, resolve}
 use Rattle.edit.specs.Word.{wordOf, AllInRange}
 use Rattle.number.specs.Read.{Read, got, refused}
 use Rattle.print.specs.Text.{decimal, newline, spaced, editsWord, madeWord, editLine, editLines, patchLine, patchText}
@@ -59,15 +59,15 @@ text-more k d ds = length-append (patchText k (d .edits) (d .made)) (doneText (k
 
 module _ (t : RegInfo) (f : Function) where
   -- a patch has at most twice as many edits as it has bytes
-  few-edits : (c : Cache) (l : List ℕ) (d : Done) (x : DoneAt t f c l d) → length (d .edits) + 2 * length (x .rest) ≤ 2 * length l
+  few-edits : (c : Cache) (l : List ℕ) (d : Done) (x : DoneAt resolve t f c l d) → length (d .edits) + 2 * length (x .rest) ≤ 2 * length l
   few-edits c l d x = omega (arith, x .accepted .few, leaves-got (λ p. bound (sorted t f p)) (2 * length l) (patch t f l) (x .p) (x .rest) (patch-leaves t f l) (x .reads))
 
-  few-words : (ds : List Done) (o : Option ℕ) (n : ℕ) (c : Cache) (l : List ℕ) → OneByOne t f ds o n c l → length (wordsOf ds) ≤ 2 * length l + n
+  few-words : (ds : List Done) (o : Option ℕ) (n : ℕ) (c : Cache) (l : List ℕ) → OneByOne resolve t f ds o n c l → length (wordsOf ds) ≤ 2 * length l + n
   unfolding wordsOf
   few-words [] o n c l h = omega arith
   few-words (d ∷ ds) o n c l h = let x = h .1 in omega (arith, h .0, words-more d ds, few-edits c l d x, few-words ds o (n - 1) (x .after) (x .rest) (h .2))
 
-  short-text : (ds : List Done) (o : Option ℕ) (n : ℕ) (c : Cache) (l : List ℕ) (k : ℕ) → k + n ≤ 1025 → AllPacked ds → OneByOne t f ds o n c l
+  short-text : (ds : List Done) (o : Option ℕ) (n : ℕ) (c : Cache) (l : List ℕ) (k : ℕ) → k + n ≤ 1025 → AllPacked ds → OneByOne resolve t f ds o n c l
       → length (doneText k ds) ≤ 19 * (2 * length l) + 36 * n
   unfolding doneText
   short-text [] o n c l k e p h = omega arith
@@ -84,14 +84,14 @@ module _ (kept : ℕ) (l : List ℕ) where
   abbrev done : List Done
   done = job kept l .done
 
-  all-words : (x : Read Header) → opening kept l ≡ x → Opened x (job kept l) → length (wordsOf done) ≤ 2 * 65536 + 1024
+  all-words : (x : Read Header) → opening kept l ≡ x → Opened resolve x (job kept l) → length (wordsOf done) ≤ 2 * 65536 + 1024
   unfolding wordsOf
   all-words (refused k) e h = rw (h .0) (omega arith)
   all-words (got x r) e h =
       let j = opens kept l x r e in
       omega (arith, j .few, j .short, j .fewer, few-words (x .target) (x .function) done (job kept l .refusal) (x .patches) emptyCache r h)
 
-  all-text : (x : Read Header) → opening kept l ≡ x → Opened x (job kept l) → AllPacked done → length (doneText 1 done) ≤ 19 * (2 * 65536) + 36 * 1024
+  all-text : (x : Read Header) → opening kept l ≡ x → Opened resolve x (job kept l) → AllPacked done → length (doneText 1 done) ≤ 19 * (2 * 65536) + 36 * 1024
   unfolding doneText
   all-text (refused k) e h p = rw (h .0) (omega arith)
   all-text (got x r) e h p =

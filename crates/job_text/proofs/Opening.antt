@@ -15,7 +15,7 @@ use Rattle.number.specs.declared.Number.the-variants as N
 use Rattle.parallel_moves.proofs.Resolving.{fresh}
 use Rattle.print.specs.Put.{Put}
 use Rattle.answer_text.specs.Lines.{refusalText}
-use Rattle.job_rules.specs.Job.{Header, Answers, endsWith, afterRead, opening, patches, job}
+use Rattle.job_rules.specs.Job.{Header, Answers, endsWith, afterRead, opening, patches, jobBy, job}
 use Rattle.job.specs.Steps.{HeaderAt}
 use Rattle.answer.specs.Words.{doneText, jobText}
 use Rattle.answer.proofs.MostWords as header
@@ -27,7 +27,7 @@ abbrev readAs : Read Header → Answers
 readAs x = afterRead x (λ h r. patches (h .target) (h .function) (h .patches) emptyCache r)
 
 opens : (kept : ℕ) (s : List ℕ) → job kept s ≡ readAs (opening kept s)
-unfolding job
+unfolding jobBy
 opens kept s = refl
 
 module _ (kept : ℕ) (s t f : List ℕ) where

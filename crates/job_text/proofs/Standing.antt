@@ -14,7 +14,7 @@ use Rattle.print.proofs.Putting.{nothing-put, same-length}
 use Rattle.print.proofs.Printing.{text-there}
 use Rattle.answer_text.specs.Lines.{refusalText}
 use Rattle.slots.specs.Stacks.{cacheOf}
-use Rattle.job_rules.specs.Job.{Done, Answers, before, endsWith, leftOver, patches, job}
+use Rattle.job_rules.specs.Job.{Done, Answers, before, endsWith, leftOver, patchesBy, job}
 use Rattle.answer.specs.Words.{numberOf, doneText, jobText}
 use Rattle.answer.specs.Whole.{rest}
 use Rattle.answer.proofs.Nexting.{Resolved}
@@ -71,7 +71,7 @@ module _ (t f s cache out : List ℕ) (p : Progress) (e : p .ended ≡ false) wh
   refused-here n h r = some-left h ∙ ap (textFrom (p .k)) (r (p .left - 1)) ∙ none-more (p .k) n
 
   pub ends-here : p .left ≡ 0 → toCome t f s cache p ≡ endText (drop (p .at) s)
-  unfolding patches
+  unfolding patchesBy
   ends-here h = going-on ∙ ap (λ (n : ℕ). textFrom (p .k) (rest t f s (p .at) cache n)) h ∙ over (p .k) (drop (p .at) s)
 
   -- nothing is to come once the rest is put

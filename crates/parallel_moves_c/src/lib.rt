@@ -16,7 +16,7 @@ ghost use Rattle.entity.specs.Logic.{Anything};
 ghost use lib.ListN.{length};
 ghost use Rattle.answer_text.specs.Lines.{answerText, Printed};
 ghost use Rattle.answer.specs.Room.{jobIn};
-ghost use Rattle.parallel_moves_c.specs.Answered.{AnsweredAs};
+ghost use Rattle.answer.specs.Answered.{AnsweredAs};
 
 // A whole job of a function with so many kept evictions: answers how many words the patches that were resolved have, and sets `refusal` to 01's
 // number or 0: 22, tested before the job, for a setting other than 1 or 2; 16 at a patch for which too few words are left.

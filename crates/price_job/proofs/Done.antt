@@ -13,6 +13,7 @@ use Rattle.entity.specs.Logic.{pick, and}
 use Rattle.reginfo.specs.RegInfo.{RegInfo}
 use Rattle.function.specs.Function.{Function}
 use Rattle.rules.specs.Scratch.{Cache, emptyCache}
+use Rattle.rules.specs.Patch.{resolve}
 use Rattle.edit.specs.Word.{wordOf}
 use Rattle.number.specs.Read.{Read, got, refused}
 use Rattle.answer_text.specs.Heads.{headWord, isHead, countIn}
@@ -33,7 +34,7 @@ AllFew [] = Unit {0}
 AllFew (l ∷ ls) = (length l ≤ 1024) × AllFew ls
 
 module _ (t : RegInfo) (f : Function) where
-  one-by-one : (ds : List Done) (k : Option ℕ) (n : ℕ) (c : Cache) (l : List ℕ) → OneByOne t f ds k n c l → AllFew (wordsDone ds) × (length ds ≤ n)
+  one-by-one : (ds : List Done) (k : Option ℕ) (n : ℕ) (c : Cache) (l : List ℕ) → OneByOne resolve t f ds k n c l → AllFew (wordsDone ds) × (length ds ≤ n)
   one-by-one [] k n c l h = (tt, omega arith)
   one-by-one (d ∷ ds) k n c l h =
       let x = h .1 in
@@ -44,7 +45,7 @@ module _ (t : RegInfo) (f : Function) where
 pub few-done : (kept : ℕ) (s : List ℕ) → AllFew (wordsDone (job kept s .done)) × (length (job kept s .done) ≤ 1024)
 few-done kept s = go (opening kept s) refl (every-job kept s)
   where
-    go : (x : Read Header) → opening kept s ≡ x → Opened x (job kept s) → AllFew (wordsDone (job kept s .done)) × (length (job kept s .done) ≤ 1024)
+    go : (x : Read Header) → opening kept s ≡ x → Opened resolve x (job kept s) → AllFew (wordsDone (job kept s .done)) × (length (job kept s .done) ≤ 1024)
     go (refused k) e h = rw (h .0) (tt, omega arith)
     go (got x r) e h =
         let w = one-by-one (x .target) (x .function) (job kept s .done) (job kept s .refusal) (x .patches) emptyCache r h in

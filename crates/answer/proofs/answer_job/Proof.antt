@@ -1,4 +1,5 @@
 use Rattle.parallel_moves.proofs.Resolving.{fresh}
+use Rattle.rules.specs.Patch.{resolve}
 use Rattle.answer.proofs.Opening.{turned-away, known, all-answered}
 use borrow.Author.Needs.{needs}
 use Rattle.answer.proofs.answer_job.Statement.{statement}
@@ -24,12 +25,12 @@ clear-requires c κs = search needs
 answer-patches-requires : tie.Need-answer-patches-requires
 answer-patches-requires c κs =
     let read = c .before .before .before .before .before .before .before .before .before .before .before .before .before .before .before .before .before .before .before .read-opening in
-    (known _ (c .before .before .before .before .before .before .before .before .before .before .before .before .before .before .before .before .before .before .before .before .before .before .before .before .args .s .now) (read .last .1 .1 .0) (read .last .1 .1 .1 .0) _ _ (rw (c .before .before .before .before .before .before .before .before .before .before .before .before .before .before .before .before .before .count .given .1) at (read .ensures)), fresh (read .last .1 .1 .1 .0) _ (c .before .before .before .before .before .before .before .before .before .before .before .before .before .before .clear .ensures))
+    (known resolve _ (c .before .before .before .before .before .before .before .before .before .before .before .before .before .before .before .before .before .before .before .before .before .before .before .before .args .s .now) (read .last .1 .1 .0) (read .last .1 .1 .1 .0) _ _ (rw (c .before .before .before .before .before .before .before .before .before .before .before .before .before .before .before .before .before .count .given .1) at (read .ensures)), fresh (read .last .1 .1 .1 .0) _ (c .before .before .before .before .before .before .before .before .before .before .before .before .before .before .clear .ensures))
 
 returns : tie.Need-returns
 returns c =
     let read = c .before .before .before .read-opening in
-    (turned-away _ (c .before .before .before .before .before .before .before .before .args .s .now) (read .last .1 .1 .0) (read .last .1 .1 .1 .0) (c .before .before .before .before .before .before .before .before .args .words .now) _ (rw (c .before .k .given .1) at (read .ensures)), (tt, tt, tt, tt, tt, tt, tt, tt, tt, tt, tt, tt, tt))
+    (turned-away resolve _ (c .before .before .before .before .before .before .before .before .args .s .now) (read .last .1 .1 .0) (read .last .1 .1 .1 .0) (c .before .before .before .before .before .before .before .before .args .words .now) _ (rw (c .before .k .given .1) at (read .ensures)), (tt, tt, tt, tt, tt, tt, tt, tt, tt, tt, tt, tt, tt))
 
 same-length : tie.Need-same-length
 same-length c = search needs
@@ -39,7 +40,7 @@ returns-2 c =
     let s = c .before .before .before .before .before .before .before .before .before .before .before .before .before .before .before .before .before .before .before .before .before .before .before .before .before .before .before in
     let read = c .before .before .before .before .before .before .before .before .before .before .before .before .before .before .before .before .before .before .before .before .before .before .read-opening in
     let p = c .before .before .answer-patches in
-    (all-answered _ (s .args .s .now) (read .last .1 .1 .0) (read .last .1 .1 .1 .0) _ _ (s .args .words .now) _ (p .last .1 .1 .1 .1 .1 .1 .1 .1 .1 .1 .1 .1 .1 .1 .1 .1 .0) (p .result) (rw (c .before .before .before .before .before .before .before .before .before .before .before .before .before .before .before .before .before .before .before .before .count .given .1) at (read .ensures)) (c .before .before .before .before .before .before .before .before .before .before .before .before .before .before .before .before .before .clear .ensures) (p .ensures .0), (tt, tt, tt, tt, tt, tt, tt, tt, tt, tt, tt, tt, tt))
+    (all-answered resolve _ (s .args .s .now) (read .last .1 .1 .0) (read .last .1 .1 .1 .0) _ _ (s .args .words .now) _ (p .last .1 .1 .1 .1 .1 .1 .1 .1 .1 .1 .1 .1 .1 .1 .1 .1 .0) (p .result) (rw (c .before .before .before .before .before .before .before .before .before .before .before .before .before .before .before .before .before .before .before .before .count .given .1) at (read .ensures)) (c .before .before .before .before .before .before .before .before .before .before .before .before .before .before .before .before .before .clear .ensures) (p .ensures .0), (tt, tt, tt, tt, tt, tt, tt, tt, tt, tt, tt, tt, tt))
 
 pub answer-job-spec : {M : Type 1} → statement M
 answer-job-spec =

@@ -4,8 +4,9 @@ use borrow.Author.Needs.{needs}
 use lib.ListN.{drop}
 use Rattle.reginfo.specs.Table.{regInfoOf}
 use Rattle.function.specs.Table.{functionOf}
+use Rattle.rules.specs.Patch.{resolve}
 use Rattle.job_patch.specs.Patches.{patch}
-use Rattle.answer.proofs.Called.{called, few}
+use Rattle.answer.proofs.Called.{resolve-bounded, called, few}
 use Rattle.answer.proofs.Placing.{from-within, one-left, edits-fit, back-length, next-refused, no-head, next-put}
 use Rattle.answer.proofs.answer_next.Statement.{statement}
 use Rattle.answer.proofs.answer_next.Tie as tie
@@ -55,8 +56,8 @@ returns c =
     let s = c .before .before .before .before .before .before .before .before .before .before .before .before .before .before .before .before .before .before .before .before .before .before in
     let b = c .before .before .before .before .before .before .before .before .before .before .before .before .before .before .before .before .before .before .before .behind in
     let p = c .before .before .before .before .before .before .answer-patch in
-    let g = called (s .args .t .now) (s .args .f .now) (s .args .s .now) _ (s .args .cache .now) (p .last .1 .1 .1 .1 .1 .0) (p .last .1 .1 .1 .1 .0) _ _ _ _ (rw (c .before .before .count .given .1) at (p .ensures .0)) in
-    (no-head (s .args .t .now) (s .args .f .now) (s .args .s .now) (s .args .at) (s .args .words .now) (s .args .n) (b .result) (s .pre .2) (b .ensures) (s .args .cache .now) (p .last .1 .1 .1 .1 .1 .0) (p .last .1 .1 .1 .1 .0) _ _ _ g (p .kept .1 .1 .1 .1 .1 .0) (c .if1 .taken), (tt, tt, tt, tt, tt, tt, tt, tt, tt, tt))
+    let g = called resolve (s .args .t .now) (s .args .f .now) (s .args .s .now) _ (s .args .cache .now) (p .last .1 .1 .1 .1 .1 .0) (p .last .1 .1 .1 .1 .0) _ _ _ _ (rw (c .before .before .count .given .1) at (p .ensures .0)) in
+    (no-head resolve (s .args .t .now) (s .args .f .now) (s .args .s .now) (s .args .at) (s .args .words .now) (s .args .n) (b .result) (s .pre .2) (b .ensures) (s .args .cache .now) (p .last .1 .1 .1 .1 .1 .0) (p .last .1 .1 .1 .1 .0) _ _ _ g (p .kept .1 .1 .1 .1 .1 .0) (c .if1 .taken), (tt, tt, tt, tt, tt, tt, tt, tt, tt, tt))
 
 made-requires : tie.Need-made-requires
 made-requires c κs = search needs
@@ -72,8 +73,8 @@ head-requires c κs =
     let s = c .before .before .before .before .before .before .before .before .before .before .before .before .before .before .before .before .before .before .before .before .before .before .before .before .before .before in
     let b = c .before .before .before .before .before .before .before .before .before .before .before .before .before .before .before .before .before .before .before .before .before .before .before .behind in
     let p = c .before .before .before .before .before .before .before .before .before .before .answer-patch in
-    let g = called (s .args .t .now) (s .args .f .now) (s .args .s .now) _ (s .args .cache .now) (p .last .1 .1 .1 .1 .1 .0) (p .last .1 .1 .1 .1 .0) _ _ _ _ (rw (c .before .before .before .before .before .before .count .given .1) at (p .ensures .0)) in
-    (few (s .args .t .now) (s .args .f .now) (s .args .s .now) _ (s .args .cache .now) (p .last .1 .1 .1 .1 .1 .0) (p .last .1 .1 .1 .1 .0) (s .args .at) _ _ _ (s .pre .0) g, c .before .wide .ensures .1, c .wide2 .ensures .1)
+    let g = called resolve (s .args .t .now) (s .args .f .now) (s .args .s .now) _ (s .args .cache .now) (p .last .1 .1 .1 .1 .1 .0) (p .last .1 .1 .1 .1 .0) _ _ _ _ (rw (c .before .before .before .before .before .before .count .given .1) at (p .ensures .0)) in
+    (few resolve (s .args .t .now) (s .args .f .now) (s .args .s .now) _ (s .args .cache .now) (p .last .1 .1 .1 .1 .1 .0) (p .last .1 .1 .1 .1 .0) resolve-bounded (s .args .at) _ _ _ (s .pre .0) g, c .before .wide .ensures .1, c .wide2 .ensures .1)
 
 mul-words : tie.Need-mul-words
 mul-words c =
@@ -97,7 +98,7 @@ add-t43 c =
     let b = c .before .before .before .before .before .before .before .before .before .before .before .before .before .before .before .before .before .before .before .before .before .before .before .before .behind in
     let p = c .before .before .before .before .before .before .before .before .before .before .before .answer-patch in
     let o = one-left (s .args .words .now) (s .args .n) (b .result) (s .pre .2) (b .ensures) (c .before .before .before .before .before .if1 .left) in
-    let g = called (s .args .t .now) (s .args .f .now) (s .args .s .now) _ (s .args .cache .now) (p .last .1 .1 .1 .1 .1 .0) (p .last .1 .1 .1 .1 .0) (patch (regInfoOf (s .args .t .now)) (functionOf (s .args .f .now)) (drop (s .args .at) (s .args .s .now))) _ _ _ (rw (c .before .before .before .before .before .before .before .count .given .1) at (p .ensures .0)) in
+    let g = called resolve (s .args .t .now) (s .args .f .now) (s .args .s .now) _ (s .args .cache .now) (p .last .1 .1 .1 .1 .1 .0) (p .last .1 .1 .1 .1 .0) (patch (regInfoOf (s .args .t .now)) (functionOf (s .args .f .now)) (drop (s .args .at) (s .args .s .now))) _ _ _ (rw (c .before .before .before .before .before .before .before .count .given .1) at (p .ensures .0)) in
     omega (arith, edits-fit (s .args .words .now) (s .args .n) (b .result) (o .0) (o .1) (g .es) 0 0 (p .last .1 .1 .1 .1 .1 .0) (g .listed) (p .kept .1 .1 .1 .1 .1 .0), g .counted, s .good .1 .1 .1 .1 .1 .1 .1 .1 .1 .1 .1 .1 .1 .1 .1 .0)
 
 same-length-2 : tie.Need-same-length-2
@@ -108,7 +109,7 @@ returns-2 c =
     let s = c .before .before .before .before .before .before .before .before .before .before .before .before .before .before .before .before .before .before .before .before .before in
     let b = c .before .before .before .before .before .before .before .before .before .before .before .before .before .before .before .before .before .before .behind in
     let p = c .before .before .before .before .before .answer-patch in
-    (next-refused (s .args .t .now) (s .args .f .now) (s .args .s .now) (s .args .at) (s .args .words .now) (s .args .n) (b .result) (s .pre .2) (b .ensures) (s .args .cache .now) (p .last .1 .1 .1 .1 .1 .0) (p .last .1 .1 .1 .1 .0) _ (rw (c .before .k .given .1) at (p .ensures .0)), (tt, tt, tt, tt, tt, tt, tt, tt, tt, tt))
+    (next-refused resolve (s .args .t .now) (s .args .f .now) (s .args .s .now) (s .args .at) (s .args .words .now) (s .args .n) (b .result) (s .pre .2) (b .ensures) (s .args .cache .now) (p .last .1 .1 .1 .1 .1 .0) (p .last .1 .1 .1 .1 .0) _ (rw (c .before .k .given .1) at (p .ensures .0)), (tt, tt, tt, tt, tt, tt, tt, tt, tt, tt))
 
 same-length-3 : tie.Need-same-length-3
 same-length-3 c = search needs
@@ -118,8 +119,8 @@ returns-3 c =
     let s = c .before .before .before .before .before .before .before .before .before .before .before .before .before .before .before .before .before .before .before .before .before .before .before .before .before .before .before in
     let b = c .before .before .before .before .before .before .before .before .before .before .before .before .before .before .before .before .before .before .before .before .before .before .before .before .behind in
     let p = c .before .before .before .before .before .before .before .before .before .before .before .answer-patch in
-    let g = called (s .args .t .now) (s .args .f .now) (s .args .s .now) _ (s .args .cache .now) (p .last .1 .1 .1 .1 .1 .0) (p .last .1 .1 .1 .1 .0) _ _ _ _ (rw (c .before .before .before .before .before .before .before .count .given .1) at (p .ensures .0)) in
-    (next-put (s .args .t .now) (s .args .f .now) (s .args .s .now) (s .args .at) (s .args .words .now) (s .args .n) (b .result) (s .pre .2) (b .ensures) (s .args .cache .now) (p .last .1 .1 .1 .1 .1 .0) (p .last .1 .1 .1 .1 .0) _ _ _ g (p .kept .1 .1 .1 .1 .1 .0) (c .before .before .before .before .before .if1 .left) (few (s .args .t .now) (s .args .f .now) (s .args .s .now) _ (s .args .cache .now) (p .last .1 .1 .1 .1 .1 .0) (p .last .1 .1 .1 .1 .0) (s .args .at) _ _ _ (s .pre .0) g) _ _ _ (c .before .before .wide .ensures .1) (c .before .before .wide .ensures .0 ∙ c .before .before .before .made .ensures) (c .before .wide2 .ensures .1) (c .before .wide2 .ensures .0) (c .head .ensures), (tt, tt, tt, tt, tt, tt, tt, tt, tt, tt))
+    let g = called resolve (s .args .t .now) (s .args .f .now) (s .args .s .now) _ (s .args .cache .now) (p .last .1 .1 .1 .1 .1 .0) (p .last .1 .1 .1 .1 .0) _ _ _ _ (rw (c .before .before .before .before .before .before .before .count .given .1) at (p .ensures .0)) in
+    (next-put resolve (s .args .t .now) (s .args .f .now) (s .args .s .now) (s .args .at) (s .args .words .now) (s .args .n) (b .result) (s .pre .2) (b .ensures) (s .args .cache .now) (p .last .1 .1 .1 .1 .1 .0) (p .last .1 .1 .1 .1 .0) _ _ _ g (p .kept .1 .1 .1 .1 .1 .0) (c .before .before .before .before .before .if1 .left) (few resolve (s .args .t .now) (s .args .f .now) (s .args .s .now) _ (s .args .cache .now) (p .last .1 .1 .1 .1 .1 .0) (p .last .1 .1 .1 .1 .0) resolve-bounded (s .args .at) _ _ _ (s .pre .0) g) _ _ _ (c .before .before .wide .ensures .1) (c .before .before .wide .ensures .0 ∙ c .before .before .before .made .ensures) (c .before .wide2 .ensures .1) (c .before .wide2 .ensures .0) (c .head .ensures), (tt, tt, tt, tt, tt, tt, tt, tt, tt, tt))
 
 pub answer-next-spec : {M : Type 1} → statement M
 answer-next-spec =

@@ -3,6 +3,7 @@ use lib.ListN.{drop}
 use Rattle.reginfo.specs.Table.{regInfoOf}
 use Rattle.function.specs.Table.{functionOf}
 use Rattle.job_patch.specs.Patches.{patch}
+use Rattle.rules.specs.Patch.{resolve}
 use Rattle.job.proofs.Stepping.{entries-there, step-refused, step-read}
 use borrow.Author.Needs.{needs}
 use Rattle.job.proofs.answer_patch.Statement.{statement}
@@ -32,7 +33,7 @@ returns : tie.Need-returns
 returns c =
     let a = c .before .before .before .before .before .before .before .before .before .args in
     let read = c .before .before .before .read-patch in
-    (step-refused (a .t .now) (a .f .now) (a .s .now) (patch (regInfoOf (a .t .now)) (functionOf (a .f .now)) (drop (a .at) (a .s .now))) (read .last .1 .1 .1 .1 .0) (read .last .1 .1 .1 .1 .1 .0) (read .last .1 .1 .1 .1 .1 .1 .0) _ (a .list .now) (a .cache .now) (rw (c .before .k .given .1) at (read .ensures)), search needs)
+    (step-refused (a .t .now) (a .f .now) (a .s .now) (patch (regInfoOf (a .t .now)) (functionOf (a .f .now)) (drop (a .at) (a .s .now))) (read .last .1 .1 .1 .1 .0) (read .last .1 .1 .1 .1 .1 .0) (read .last .1 .1 .1 .1 .1 .1 .0) resolve _ (a .list .now) (a .cache .now) (rw (c .before .k .given .1) at (read .ensures)), search needs)
 
 same-length : tie.Need-same-length
 same-length c = search needs

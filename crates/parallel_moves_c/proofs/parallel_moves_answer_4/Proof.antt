@@ -1,6 +1,6 @@
 use lib.ListN.{length}
 use Rattle.answer.specs.Room.{jobIn}
-use Rattle.parallel_moves_c.proofs.Answering.{answered, refused}
+use Rattle.answer.proofs.Answering.{answered, refused}
 use borrow.Author.Needs.{needs}
 use Rattle.parallel_moves_c.proofs.parallel_moves_answer_4.Statement.{statement}
 use Rattle.parallel_moves_c.proofs.parallel_moves_answer_4.Tie as tie

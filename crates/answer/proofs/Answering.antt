@@ -2,10 +2,10 @@
 use Prim.Native.Nat.{ℕ}
 use mathlib.Core.List.{List}
 use Rattle.job_rules.specs.Job.{Answers}
 use Rattle.answer.specs.declared.Whole.the-variants.{Answered, Refused}
 use Rattle.answer.specs.Whole.{Wholly}
 use Rattle.answer.proofs.Ending.{none-refused, one-refused}
-use Rattle.parallel_moves_c.specs.Answered.{AnsweredAs}
+use Rattle.answer.specs.Answered.{AnsweredAs}
 
 module _ (words : List ℕ) (a : Answers) (words′ : List ℕ) where
   pub answered : (n : ℕ) → Wholly words a (Answered n) words′ → AnsweredAs words a n 0 words′
