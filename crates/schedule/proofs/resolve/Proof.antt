@@ -1,0 +1,16 @@
+use native.Mathlib.Omega.{arith}
+use borrow.Author.Needs.{needs}
+use Rattle.schedule.proofs.resolve.Statement.{statement}
+use Rattle.schedule.proofs.resolve.Tie as tie
+
+told-requires : tie.Need-told-requires
+told-requires c κs = search needs
+
+resolve-in-requires : tie.Need-resolve-in-requires
+resolve-in-requires c κs = search needs
+
+returns : tie.Need-returns
+returns c = let told = c .before .before .before .before .before .before .before .before .before .before .before .before .before .told in let r = c .resolve-in in (rw (told .ensures) at (r .ensures .0), omega (arith, told .ensures, r .kept .1 .1 .1 .1 .1 .1 .1 .0))
+
+pub resolve-spec : {M : Type 1} → statement M
+resolve-spec = tie.close (tie.spec told-requires resolve-in-requires returns)

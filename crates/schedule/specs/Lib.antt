@@ -1,0 +1,3 @@
+pub mod Lists
+pub mod Answered
+pub mod Standing
