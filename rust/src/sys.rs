@@ -35,7 +35,7 @@ type RegInfo = [u16; 107_520];
 /// A function, as the library keeps it.
 type Function = [u16; 16_388];
 /// A function's emergency slots.
-type SlotCache = [u16; 65_600];
+type EmergencySpillSlotCache = [u16; 65_600];
 /// A set of register units.
 type RegUnitSet = [bool; 512];
 /// A patch under construction.
@@ -47,11 +47,11 @@ type EditBuffer = [u64; 1025];
 /// The emergency slots that a patch takes and puts back.
 type Slots = [u16; 32_835];
 /// The diversion of each value.
-type Diverted = [u16; 12_288];
+type Diversions = [u16; 12_288];
 /// What an M, an R, an S and an L costs.
 type Prices = [u32; 4];
 /// Which moves are visited, and which open.
-type Marks = [u8; 129];
+type States = [u8; 129];
 /// The values that moves still carry.
 type Carried = [u16; 2049];
 
@@ -59,7 +59,7 @@ type Carried = [u16; 2049];
 pub(crate) struct Tables {
     target: Box<RegInfo>,
     function: Box<Function>,
-    cache: Box<SlotCache>,
+    cache: Box<EmergencySpillSlotCache>,
     free: Box<RegUnitSet>,
     entries: Box<Entries>,
     writers: Box<SparseMap>,
@@ -67,8 +67,8 @@ pub(crate) struct Tables {
     sources: Box<RegUnitSet>,
     edits: Box<EditBuffer>,
     slots: Box<Slots>,
-    diverted: Box<Diverted>,
-    marks: Box<Marks>,
+    diverted: Box<Diversions>,
+    marks: Box<States>,
     carried: Box<Carried>,
     /// Made at the first call by groups.
     groups: Option<GroupTables>,

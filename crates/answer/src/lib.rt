@@ -7,12 +7,12 @@ use function::Function;
 use job::Step;
 use number::Number;
 use reginfo::RegInfo;
-use scratch::Diverted;
-use slots::SlotCache;
+use scratch::Diversions;
+use slots::EmergencySpillSlotCache;
 use slots::Slots;
 use small_set::RegUnitSet;
 use sparse::SparseMap;
-use visits::Marks;
+use visits::States;
 ghost use mathlib.Core.Path.{_≡_};
 ghost use Prim.Native.Nat.{_<_, _≤_};
 ghost use lib.ListN.{length, drop};
@@ -70,7 +70,7 @@ fn answer_next(
     f: &Function,
     s: &[u8],
     at: usize,
-    cache: &mut SlotCache,
+    cache: &mut EmergencySpillSlotCache,
     free: &mut RegUnitSet,
     e: &mut Entries,
     w: &mut SparseMap,
@@ -78,8 +78,8 @@ fn answer_next(
     sources: &mut RegUnitSet,
     edits: &mut Edits,
     slots: &mut Slots,
-    d: &mut Diverted,
-    marks: &mut Marks,
+    d: &mut Diversions,
+    marks: &mut States,
     c: &mut Carried,
     words: &mut [u64],
     n: usize,
@@ -125,7 +125,7 @@ fn answer_patches(
     s: &[u8],
     from: usize,
     count: u32,
-    cache: &mut SlotCache,
+    cache: &mut EmergencySpillSlotCache,
     free: &mut RegUnitSet,
     e: &mut Entries,
     w: &mut SparseMap,
@@ -133,8 +133,8 @@ fn answer_patches(
     sources: &mut RegUnitSet,
     edits: &mut Edits,
     slots: &mut Slots,
-    d: &mut Diverted,
-    marks: &mut Marks,
+    d: &mut Diversions,
+    marks: &mut States,
     c: &mut Carried,
     words: &mut [u64],
 ) -> Whole
@@ -188,7 +188,7 @@ pub fn answer_job(
     words: &mut [u64],
     t: &mut RegInfo,
     f: &mut Function,
-    cache: &mut SlotCache,
+    cache: &mut EmergencySpillSlotCache,
     free: &mut RegUnitSet,
     e: &mut Entries,
     w: &mut SparseMap,
@@ -196,8 +196,8 @@ pub fn answer_job(
     sources: &mut RegUnitSet,
     edits: &mut Edits,
     slots: &mut Slots,
-    d: &mut Diverted,
-    marks: &mut Marks,
+    d: &mut Diversions,
+    marks: &mut States,
     c: &mut Carried,
 ) -> Whole
     ensures { λ r. ⌜ Wholly (now (words .entry)) (jobIn (length (now (words .entry))) «kept_evictions» (now (s .entry))) r (now (words .exit)) ⌝ }

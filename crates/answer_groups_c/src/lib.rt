@@ -10,12 +10,12 @@ use groups::Labels;
 use groups::Owners;
 use patch_numbers::Numbers;
 use reginfo::RegInfo;
-use scratch::Diverted;
-use slots::SlotCache;
+use scratch::Diversions;
+use slots::EmergencySpillSlotCache;
 use slots::Slots;
 use small_set::RegUnitSet;
 use sparse::SparseMap;
-use visits::Marks;
+use visits::States;
 ghost use Rattle.entity.specs.Logic.{Anything};
 ghost use lib.ListN.{length};
 ghost use Rattle.answer.specs.Answered.{AnsweredAs};
@@ -31,7 +31,7 @@ pub extern "C" fn parallel_moves_answer_groups_4(
     refusal: &mut u8,
     target: &mut RegInfo,
     function: &mut Function,
-    cache: &mut SlotCache,
+    cache: &mut EmergencySpillSlotCache,
     free: &mut RegUnitSet,
     entries: &mut Entries,
     writers: &mut SparseMap,
@@ -39,14 +39,14 @@ pub extern "C" fn parallel_moves_answer_groups_4(
     sources: &mut RegUnitSet,
     edits: &mut Edits,
     slots: &mut Slots,
-    diverted: &mut Diverted,
-    marks: &mut Marks,
+    diverted: &mut Diversions,
+    marks: &mut States,
     carried: &mut Carried,
     owners: &mut Owners,
     labels: &mut Labels,
     next: &mut Labels,
     common: &mut RegUnitSet,
-    work: &mut SlotCache,
+    work: &mut EmergencySpillSlotCache,
     joined: &mut [u64; 1024],
     numbers: &mut Numbers,
 ) -> usize

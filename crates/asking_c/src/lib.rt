@@ -8,12 +8,12 @@ use parallel_moves::Asked;
 use parallel_moves::Preview;
 use parallel_moves::TakeAnswer;
 use reginfo::RegInfo;
-use scratch::Diverted;
-use slots::SlotCache;
+use scratch::Diversions;
+use slots::EmergencySpillSlotCache;
 use slots::Slots;
 use small_set::RegUnitSet;
 use sparse::SparseMap;
-use visits::Marks;
+use visits::States;
 ghost use Rattle.entity.specs.Logic.{Anything};
 ghost use mathlib.Core.Path.{_≡_};
 ghost use lib.ListN.{length};
@@ -35,7 +35,7 @@ pub extern "C" fn parallel_moves_ask_4(
     function: &Function,
     free: &[u32],
     numbers: &[u32],
-    cache: &SlotCache,
+    cache: &EmergencySpillSlotCache,
     list: &mut [u64],
     refusal: &mut u8,
     made: &mut u16,
@@ -47,8 +47,8 @@ pub extern "C" fn parallel_moves_ask_4(
     sources: &mut RegUnitSet,
     edits: &mut Edits,
     slots: &mut Slots,
-    diverted: &mut Diverted,
-    marks: &mut Marks,
+    diverted: &mut Diversions,
+    marks: &mut States,
     carried: &mut Carried,
 ) -> usize
     requires { ⌜ Checked (now target) (now function) × CacheOk (now function) (now cache) ⌝ }
@@ -94,7 +94,7 @@ pub extern "C" fn parallel_moves_take_4(
     made: u16,
     stamp: u64,
     slots: &Slots,
-    cache: &mut SlotCache,
+    cache: &mut EmergencySpillSlotCache,
 ) -> u8
     requires { ⌜ (stamp ≡ stampOf (now cache) → CanTake (now slots) (now cache)) ⌝ }
     ensures { λ r. ⌜ TakenAs made stamp (now (slots .entry)) (now (cache .entry)) r (now (cache .exit)) ⌝ }

@@ -11,12 +11,12 @@ use parallel_moves::Grant;
 use parallel_moves::Resolved;
 use reading::Next;
 use reginfo::RegInfo;
-use scratch::Diverted;
-use slots::SlotCache;
+use scratch::Diversions;
+use slots::EmergencySpillSlotCache;
 use slots::Slots;
 use small_set::RegUnitSet;
 use sparse::SparseMap;
-use visits::Marks;
+use visits::States;
 ghost use mathlib.Core.Path.{_≡_};
 ghost use lib.Dec.{ltb};
 ghost use lib.ListN.{length};
@@ -62,7 +62,7 @@ pub fn open(
     s: &[u8],
     t: &mut RegInfo,
     f: &mut Function,
-    cache: &mut SlotCache,
+    cache: &mut EmergencySpillSlotCache,
 ) -> Opened
     ensures { λ r. ⌜ OpenedAs (opened «kept_evictions» (now (s .entry))) r (now (t .exit)) (now (f .exit)) (now (cache .entry)) (now (cache .exit)) ⌝ }
 {
@@ -124,7 +124,7 @@ pub fn resolve(
     f: &Function,
     free: &[u32],
     numbers: &[u32],
-    cache: &mut SlotCache,
+    cache: &mut EmergencySpillSlotCache,
     list: &mut [u64],
     e: &mut Entries,
     w: &mut SparseMap,
@@ -132,8 +132,8 @@ pub fn resolve(
     sources: &mut RegUnitSet,
     edits: &mut Edits,
     slots: &mut Slots,
-    d: &mut Diverted,
-    marks: &mut Marks,
+    d: &mut Diversions,
+    marks: &mut States,
     c: &mut Carried,
 ) -> Resolved
     requires { ⌜ Checked (now t) (now f) × CacheOk (now f) (now cache) ⌝ }
@@ -170,7 +170,7 @@ pub fn resolve_granted(
     f: &Function,
     free: &[u32],
     numbers: &[u32],
-    cache: &mut SlotCache,
+    cache: &mut EmergencySpillSlotCache,
     list: &mut [u64],
     e: &mut Entries,
     w: &mut SparseMap,
@@ -178,8 +178,8 @@ pub fn resolve_granted(
     sources: &mut RegUnitSet,
     edits: &mut Edits,
     slots: &mut Slots,
-    d: &mut Diverted,
-    marks: &mut Marks,
+    d: &mut Diversions,
+    marks: &mut States,
     c: &mut Carried,
 ) -> Resolved
     requires { ⌜ Checked (now t) (now f) × GrantOk (now f) g (now cache) ⌝ }
@@ -217,7 +217,7 @@ pub fn ask_granted(
     f: &Function,
     free: &[u32],
     numbers: &[u32],
-    cache: &SlotCache,
+    cache: &EmergencySpillSlotCache,
     list: &mut [u64],
     e: &mut Entries,
     w: &mut SparseMap,
@@ -225,8 +225,8 @@ pub fn ask_granted(
     sources: &mut RegUnitSet,
     edits: &mut Edits,
     slots: &mut Slots,
-    d: &mut Diverted,
-    marks: &mut Marks,
+    d: &mut Diversions,
+    marks: &mut States,
     c: &mut Carried,
 ) -> Asked
     requires { ⌜ Checked (now t) (now f) × GrantOk (now f) g (now cache) ⌝ }
@@ -263,7 +263,7 @@ pub fn ask(
     f: &Function,
     free: &[u32],
     numbers: &[u32],
-    cache: &SlotCache,
+    cache: &EmergencySpillSlotCache,
     list: &mut [u64],
     e: &mut Entries,
     w: &mut SparseMap,
@@ -271,8 +271,8 @@ pub fn ask(
     sources: &mut RegUnitSet,
     edits: &mut Edits,
     slots: &mut Slots,
-    d: &mut Diverted,
-    marks: &mut Marks,
+    d: &mut Diversions,
+    marks: &mut States,
     c: &mut Carried,
 ) -> Asked
     requires { ⌜ Checked (now t) (now f) × CacheOk (now f) (now cache) ⌝ }

@@ -7,12 +7,12 @@ use entries::Entries;
 use function::Function;
 use parallel_moves::Resolved;
 use reginfo::RegInfo;
-use scratch::Diverted;
-use slots::SlotCache;
+use scratch::Diversions;
+use slots::EmergencySpillSlotCache;
 use slots::Slots;
 use small_set::RegUnitSet;
 use sparse::SparseMap;
-use visits::Marks;
+use visits::States;
 ghost use Rattle.entity.specs.Logic.{Anything};
 ghost use mathlib.Core.Path.{_≡_};
 ghost use lib.ListN.{length};
@@ -33,7 +33,7 @@ pub extern "C" fn parallel_moves_open_4(
     bytes: &[u8],
     target: &mut RegInfo,
     function: &mut Function,
-    cache: &mut SlotCache,
+    cache: &mut EmergencySpillSlotCache,
 ) -> u8
     ensures { λ r. ⌜ OpenedBy (opened «kept_evictions» (now (bytes .entry))) r (now (target .exit)) (now (function .exit)) (now (cache .entry)) (now (cache .exit)) ⌝ }
 {
@@ -77,7 +77,7 @@ pub extern "C" fn parallel_moves_resolve_4(
     function: &Function,
     free: &[u32],
     numbers: &[u32],
-    cache: &mut SlotCache,
+    cache: &mut EmergencySpillSlotCache,
     list: &mut [u64],
     refusal: &mut u8,
     position: &mut u16,
@@ -87,8 +87,8 @@ pub extern "C" fn parallel_moves_resolve_4(
     sources: &mut RegUnitSet,
     edits: &mut Edits,
     slots: &mut Slots,
-    diverted: &mut Diverted,
-    marks: &mut Marks,
+    diverted: &mut Diversions,
+    marks: &mut States,
     carried: &mut Carried,
 ) -> usize
     requires { ⌜ Checked (now target) (now function) × CacheOk (now function) (now cache) ⌝ }
@@ -126,7 +126,7 @@ pub extern "C" fn parallel_moves_resolve_4(
 
 // How many emergency slots the function has.
 #[no_mangle]
-pub extern "C" fn parallel_moves_made_4(cache: &SlotCache) -> u16
+pub extern "C" fn parallel_moves_made_4(cache: &EmergencySpillSlotCache) -> u16
     ensures { λ n. ⌜ n ≡ cacheOf (now (cache .entry)) .made ⌝ }
 {
     slots::made(cache)

@@ -5,13 +5,13 @@ use entity::Allocation;
 use entries::Entries;
 use function::Function;
 use reginfo::RegInfo;
-use scratch::Diverted;
+use scratch::Diversions;
 use scratch::ScratchAllocator;
-use slots::SlotCache;
+use slots::EmergencySpillSlotCache;
 use slots::Slots;
 use small_set::RegUnitSet;
 use sparse::SparseMap;
-use visits::Marks;
+use visits::States;
 ghost use mathlib.Core.Path.{_≡_};
 ghost use mathlib.Core.Bool.{true};
 ghost use mathlib.Core.List.{List};
@@ -32,7 +32,7 @@ ghost use Rattle.closing.specs.State.{work, MovesOk, Given, Emits};
 ghost use Rattle.closing.specs.Steps.{leadDiverted, Gone, Leads, Led, LetsGo, RowGone, Closes};
 
 // Notes the source units of the kept moves, once a patch.
-fn sources_noted(t: &RegInfo, e: &Entries, sources: &mut RegUnitSet, marks: &mut Marks)
+fn sources_noted(t: &RegInfo, e: &Entries, sources: &mut RegUnitSet, marks: &mut States)
     requires { ⌜ KeptOk (T (now t)) (movesOf (now e)) ⌝ }
     ensures { λ _. ⌜ (statesOf (now (marks .exit)) ≡ statesOf (now (marks .entry))) × (isNoted (now (marks .exit)) ≡ true) × ((f : List ℕ) → (isNoted (now (marks .entry)) ≡ true → setOf (now (sources .entry)) ≡ cycleMoveSources (T (now (t .entry))) (F f) (movesOf (now (e .entry)))) → setOf (now (sources .exit)) ≡ cycleMoveSources (T (now (t .entry))) (F f) (movesOf (now (e .entry)))) ⌝ }
 {
@@ -48,7 +48,7 @@ fn emit(
     k: ScratchAllocator,
     t: &RegInfo,
     f: &Function,
-    cache: &SlotCache,
+    cache: &EmergencySpillSlotCache,
     e: &Entries,
     available: &mut RegUnitSet,
     sources: &RegUnitSet,
@@ -83,15 +83,15 @@ fn emit_diverted(
     k: ScratchAllocator,
     t: &RegInfo,
     f: &Function,
-    cache: &SlotCache,
+    cache: &EmergencySpillSlotCache,
     e: &Entries,
     w: &SparseMap,
     available: &mut RegUnitSet,
     sources: &mut RegUnitSet,
     edits: &mut Edits,
     slots: &mut Slots,
-    d: &mut Diverted,
-    marks: &mut Marks,
+    d: &mut Diversions,
+    marks: &mut States,
     c: &mut Carried,
     m: usize,
 ) -> ScratchAllocator
@@ -125,15 +125,15 @@ fn lead(
     k: ScratchAllocator,
     t: &RegInfo,
     f: &Function,
-    cache: &SlotCache,
+    cache: &EmergencySpillSlotCache,
     e: &Entries,
     w: &SparseMap,
     available: &mut RegUnitSet,
     sources: &mut RegUnitSet,
     edits: &mut Edits,
     slots: &mut Slots,
-    d: &mut Diverted,
-    marks: &mut Marks,
+    d: &mut Diversions,
+    marks: &mut States,
     c: &mut Carried,
     m: usize,
 ) -> ScratchAllocator
@@ -167,12 +167,12 @@ fn undivert_row(
     k: ScratchAllocator,
     t: &RegInfo,
     f: &Function,
-    cache: &SlotCache,
+    cache: &EmergencySpillSlotCache,
     available: &mut RegUnitSet,
     sources: &RegUnitSet,
     edits: &mut Edits,
     slots: &mut Slots,
-    d: &mut Diverted,
+    d: &mut Diversions,
     c: &Carried,
     m: usize,
     i: usize,
@@ -192,12 +192,12 @@ fn undivert_all(
     k: ScratchAllocator,
     t: &RegInfo,
     f: &Function,
-    cache: &SlotCache,
+    cache: &EmergencySpillSlotCache,
     available: &mut RegUnitSet,
     sources: &RegUnitSet,
     edits: &mut Edits,
     slots: &mut Slots,
-    d: &mut Diverted,
+    d: &mut Diversions,
     c: &Carried,
     m: usize,
 ) -> ScratchAllocator
@@ -220,15 +220,15 @@ pub fn close(
     k: ScratchAllocator,
     t: &RegInfo,
     f: &Function,
-    cache: &SlotCache,
+    cache: &EmergencySpillSlotCache,
     e: &Entries,
     w: &SparseMap,
     available: &mut RegUnitSet,
     sources: &mut RegUnitSet,
     edits: &mut Edits,
     slots: &mut Slots,
-    d: &mut Diverted,
-    marks: &mut Marks,
+    d: &mut Diversions,
+    marks: &mut States,
     c: &mut Carried,
     m: usize,
 ) -> ScratchAllocator

@@ -12,7 +12,7 @@ use reading::Next;
 use reginfo::RegInfo;
 use schedule::Left;
 use schedule::Turn;
-use slots::SlotCache;
+use slots::EmergencySpillSlotCache;
 use slots::Slots;
 ghost use mathlib.Core.Path.{_≡_};
 ghost use Prim.Native.Nat.{_<_, _≤_};
@@ -93,7 +93,7 @@ fn open_part(
     at: usize,
     t: &mut RegInfo,
     f: &mut Function,
-    cache: &mut SlotCache,
+    cache: &mut EmergencySpillSlotCache,
 ) -> Next
     requires { ⌜ FrameOk (now frame) × (at ≤ length (now s)) ⌝ }
     ensures { λ r. ⌜ FormulaAt (now (frame .entry)) (now (frame .exit)) i (now (s .entry)) at (partOf (now (frame .entry)) i «kept_evictions» n (drop at (now (s .entry)))) r (now (t .exit)) (now (f .exit)) (now (cache .entry)) (now (cache .exit)) ⌝ }
@@ -116,7 +116,7 @@ fn open_formula(
     at: usize,
     t: &mut RegInfo,
     f: &mut Function,
-    cache: &mut SlotCache,
+    cache: &mut EmergencySpillSlotCache,
 ) -> Next
     requires { ⌜ FrameOk (now frame) ⌝ }
     ensures { λ r. ⌜ FormulaAt (now (frame .entry)) (now (frame .exit)) i (now (s .entry)) at (formulaOf (now (frame .entry)) i (drop at (now (s .entry)))) r (now (t .exit)) (now (f .exit)) (now (cache .entry)) (now (cache .exit)) ⌝ }
@@ -140,7 +140,7 @@ fn open_if_there(
     at: usize,
     t: &mut RegInfo,
     f: &mut Function,
-    cache: &mut SlotCache,
+    cache: &mut EmergencySpillSlotCache,
 ) -> Next
     requires { ⌜ FrameOk (now frame) ⌝ }
     ensures { λ r. ⌜ IfThere (ltb i (numberOf (now (frame .entry)))) (now (frame .entry)) (now (frame .exit)) i (now (s .entry)) at r (now (t .exit)) (now (f .exit)) (now (cache .entry)) (now (cache .exit)) ⌝ }
@@ -157,10 +157,10 @@ fn open_all(
     frame: &mut Frame,
     t1: &mut RegInfo,
     f1: &mut Function,
-    cache1: &mut SlotCache,
+    cache1: &mut EmergencySpillSlotCache,
     t2: &mut RegInfo,
     f2: &mut Function,
-    cache2: &mut SlotCache,
+    cache2: &mut EmergencySpillSlotCache,
 ) -> Next
     ensures { λ r. ⌜ AllAt (now (frame .exit)) (now (t1 .exit)) (now (f1 .exit)) (now (cache1 .exit)) (now (t2 .exit)) (now (f2 .exit)) (now (cache2 .exit)) (now (s .entry)) r ⌝ }
 {
@@ -194,7 +194,7 @@ fn call(
     i: usize,
     t: &RegInfo,
     f: &Function,
-    cache: &mut SlotCache,
+    cache: &mut EmergencySpillSlotCache,
     slots: &mut Slots,
     left: Left,
     s: &[u8],
@@ -232,11 +232,11 @@ fn next_call(
     frame: &mut Frame,
     t1: &RegInfo,
     f1: &Function,
-    cache1: &mut SlotCache,
+    cache1: &mut EmergencySpillSlotCache,
     slots1: &mut Slots,
     t2: &RegInfo,
     f2: &Function,
-    cache2: &mut SlotCache,
+    cache2: &mut EmergencySpillSlotCache,
     slots2: &mut Slots,
     s: &[u8],
 ) -> Progress
@@ -277,10 +277,10 @@ fn run(
     frame: &mut Frame,
     t1: &RegInfo,
     f1: &Function,
-    cache1: &mut SlotCache,
+    cache1: &mut EmergencySpillSlotCache,
     t2: &RegInfo,
     f2: &Function,
-    cache2: &mut SlotCache,
+    cache2: &mut EmergencySpillSlotCache,
     s: &[u8],
     from: usize,
 )

@@ -12,12 +12,12 @@ use function::Function;
 use parallel_moves::Resolved;
 use parallel_moves::TakeAnswer;
 use reginfo::RegInfo;
-use scratch::Diverted;
-use slots::SlotCache;
+use scratch::Diversions;
+use slots::EmergencySpillSlotCache;
 use slots::Slots;
 use small_set::RegUnitSet;
 use sparse::SparseMap;
-use visits::Marks;
+use visits::States;
 ghost use mathlib.Core.Path.{_≡_};
 ghost use Prim.Native.Nat.{_<_};
 ghost use lib.ListN.{length};
@@ -54,7 +54,7 @@ pub extern "C" fn parallel_moves_frame_formula_4(
     bytes: &[u8],
     target: &mut RegInfo,
     function: &mut Function,
-    cache: &mut SlotCache,
+    cache: &mut EmergencySpillSlotCache,
 ) -> u8
     requires { ⌜ FrameOk (now frame) ⌝ }
     ensures { λ r. ⌜ FormulaBy (now (frame .entry)) (now (frame .exit)) formula (openedIn (now (frame .entry)) formula «kept_evictions» (now (bytes .entry))) r (now (target .exit)) (now (function .exit)) (now (cache .entry)) (now (cache .exit)) ⌝ }
@@ -82,7 +82,7 @@ pub extern "C" fn parallel_moves_frame_resolve_4(
     function: &Function,
     free: &[u32],
     numbers: &[u32],
-    cache: &mut SlotCache,
+    cache: &mut EmergencySpillSlotCache,
     list: &mut [u64],
     refusal: &mut u8,
     position: &mut u16,
@@ -92,8 +92,8 @@ pub extern "C" fn parallel_moves_frame_resolve_4(
     sources: &mut RegUnitSet,
     edits: &mut Edits,
     slots: &mut Slots,
-    diverted: &mut Diverted,
-    marks: &mut Marks,
+    diverted: &mut Diversions,
+    marks: &mut States,
     carried: &mut Carried,
 ) -> usize
     requires { ⌜ Checked (now target) (now function) × FrameOk (now frame) × (formula < numberOf (now frame)) × InFrame (now frame) (now function) (now cache) ⌝ }
@@ -141,7 +141,7 @@ pub extern "C" fn parallel_moves_frame_ask_4(
     function: &Function,
     free: &[u32],
     numbers: &[u32],
-    cache: &SlotCache,
+    cache: &EmergencySpillSlotCache,
     list: &mut [u64],
     refusal: &mut u8,
     to: &mut u16,
@@ -155,8 +155,8 @@ pub extern "C" fn parallel_moves_frame_ask_4(
     sources: &mut RegUnitSet,
     edits: &mut Edits,
     slots: &mut Slots,
-    diverted: &mut Diverted,
-    marks: &mut Marks,
+    diverted: &mut Diversions,
+    marks: &mut States,
     carried: &mut Carried,
 ) -> usize
     requires { ⌜ Checked (now target) (now function) × FrameOk (now frame) × (formula < numberOf (now frame)) × InFrame (now frame) (now function) (now cache) ⌝ }
@@ -208,7 +208,7 @@ pub extern "C" fn parallel_moves_frame_take_4(
     stamp: u64,
     counter: u16,
     slots: &Slots,
-    cache: &mut SlotCache,
+    cache: &mut EmergencySpillSlotCache,
 ) -> u8
     requires { ⌜ FrameOk (now frame) × (formula < numberOf (now frame)) × (stamp ≡ stampOf (now cache) → counter ≡ counterOf (now frame) → CanTakeIn (now frame) formula (previewOf to 0 0 stamp counter) (now slots) (now cache)) ⌝ }
     ensures { λ r. ⌜ TakenBy (now (frame .entry)) (now (frame .exit)) formula to stamp counter (now (slots .entry)) (now (cache .entry)) r (now (cache .exit)) ⌝ }

@@ -13,12 +13,12 @@ use parallel_moves::Resolved;
 use parallel_moves::TakeAnswer;
 use reading::Next;
 use reginfo::RegInfo;
-use scratch::Diverted;
-use slots::SlotCache;
+use scratch::Diversions;
+use slots::EmergencySpillSlotCache;
 use slots::Slots;
 use small_set::RegUnitSet;
 use sparse::SparseMap;
-use visits::Marks;
+use visits::States;
 ghost use mathlib.Core.Path.{_≡_};
 ghost use Prim.Native.Nat.{_+_, _-_, _<_, _≤_};
 ghost use lib.ListN.{length};
@@ -86,7 +86,7 @@ pub fn open_in(
     s: &[u8],
     t: &mut RegInfo,
     f: &mut Function,
-    cache: &mut SlotCache,
+    cache: &mut EmergencySpillSlotCache,
 ) -> Opened
     requires { ⌜ FrameOk (now frame) ⌝ }
     ensures { λ r. ⌜ OpenedAs (now (frame .entry)) (now (frame .exit)) i (openedIn (now (frame .entry)) i «kept_evictions» (now (s .entry))) r (now (t .exit)) (now (f .exit)) (now (cache .entry)) (now (cache .exit)) ⌝ }
@@ -126,7 +126,7 @@ pub fn resolve_in(
     f: &Function,
     free: &[u32],
     numbers: &[u32],
-    cache: &mut SlotCache,
+    cache: &mut EmergencySpillSlotCache,
     list: &mut [u64],
     e: &mut Entries,
     w: &mut SparseMap,
@@ -134,8 +134,8 @@ pub fn resolve_in(
     sources: &mut RegUnitSet,
     edits: &mut Edits,
     slots: &mut Slots,
-    d: &mut Diverted,
-    marks: &mut Marks,
+    d: &mut Diversions,
+    marks: &mut States,
     c: &mut Carried,
 ) -> Resolved
     requires { ⌜ Checked (now t) (now f) × FrameOk (now frame) × (i < numberOf (now frame)) × InFrame (now frame) (now f) (now cache) ⌝ }
@@ -193,7 +193,7 @@ pub fn ask_in(
     f: &Function,
     free: &[u32],
     numbers: &[u32],
-    cache: &SlotCache,
+    cache: &EmergencySpillSlotCache,
     list: &mut [u64],
     e: &mut Entries,
     w: &mut SparseMap,
@@ -201,8 +201,8 @@ pub fn ask_in(
     sources: &mut RegUnitSet,
     edits: &mut Edits,
     slots: &mut Slots,
-    d: &mut Diverted,
-    marks: &mut Marks,
+    d: &mut Diversions,
+    marks: &mut States,
     c: &mut Carried,
 ) -> FrameAsked
     requires { ⌜ Checked (now t) (now f) × FrameOk (now frame) × (i < numberOf (now frame)) × InFrame (now frame) (now f) (now cache) ⌝ }
@@ -240,7 +240,7 @@ pub fn take_in(
     i: usize,
     a: FramePreview,
     slots: &Slots,
-    cache: &mut SlotCache,
+    cache: &mut EmergencySpillSlotCache,
 ) -> TakeAnswer
     requires { ⌜ FrameOk (now frame) × (i < numberOf (now frame)) × (a .stamp ≡ stampOf (now cache) → a .counter ≡ counterOf (now frame) → CanTakeIn (now frame) i a (now slots) (now cache)) ⌝ }
     ensures { λ r. ⌜ TakesIn (now (frame .entry)) (now (frame .exit)) i a (now (slots .entry)) (now (cache .entry)) r (now (cache .exit)) ⌝ }

@@ -8,12 +8,12 @@ use groups::Labels;
 use groups::Owners;
 use parallel_moves::Resolved;
 use reginfo::RegInfo;
-use scratch::Diverted;
-use slots::SlotCache;
+use scratch::Diversions;
+use slots::EmergencySpillSlotCache;
 use slots::Slots;
 use small_set::RegUnitSet;
 use sparse::SparseMap;
-use visits::Marks;
+use visits::States;
 ghost use lib.ListN.{length};
 ghost use Rattle.entity.specs.Logic.{Anything};
 ghost use Rattle.reginfo.specs.Table.{regInfoOf};
@@ -30,7 +30,7 @@ pub fn resolve_groups(
     f: &Function,
     free: &[u32],
     numbers: &[u32],
-    cache: &mut SlotCache,
+    cache: &mut EmergencySpillSlotCache,
     list: &mut [u64],
     units: &mut RegUnitSet,
     e: &mut Entries,
@@ -39,14 +39,14 @@ pub fn resolve_groups(
     sources: &mut RegUnitSet,
     edits: &mut Edits,
     slots: &mut Slots,
-    d: &mut Diverted,
-    marks: &mut Marks,
+    d: &mut Diversions,
+    marks: &mut States,
     c: &mut Carried,
     owners: &mut Owners,
     labels: &mut Labels,
     next: &mut Labels,
     common: &mut RegUnitSet,
-    work: &mut SlotCache,
+    work: &mut EmergencySpillSlotCache,
     joined: &mut [u64; 1024],
 ) -> Resolved
     requires { ⌜ Checked (now t) (now f) × CacheOk (now f) (now cache) ⌝ }

@@ -11,12 +11,12 @@ use groups::Owners;
 use parallel_moves::Grant;
 use parallel_moves::Resolved;
 use reginfo::RegInfo;
-use scratch::Diverted;
-use slots::SlotCache;
+use scratch::Diversions;
+use slots::EmergencySpillSlotCache;
 use slots::Slots;
 use small_set::RegUnitSet;
 use sparse::SparseMap;
-use visits::Marks;
+use visits::States;
 ghost use mathlib.Core.Path.{_≡_};
 ghost use mathlib.Core.Bool.{false};
 ghost use Prim.Native.Nat.{ℕ, _<_, _≤_};
@@ -50,7 +50,7 @@ fn told_words(t: [u64; 1024]) -> bool
 }
 
 // A stack of the cache as another has it.
-fn copy_stack(from: &SlotCache, to: &mut SlotCache, z: usize)
+fn copy_stack(from: &EmergencySpillSlotCache, to: &mut EmergencySpillSlotCache, z: usize)
     requires { ⌜ CacheFits (now from) × (z < 32) ⌝ }
     ensures { λ _. ⌜ StackCopied (now (from .entry)) (now (to .entry)) (now (to .exit)) z ⌝ }
 {
@@ -65,7 +65,7 @@ fn copy_stack(from: &SlotCache, to: &mut SlotCache, z: usize)
 }
 
 // All of them. Neither the slots made nor the stamp is copied.
-fn copy_stacks(from: &SlotCache, to: &mut SlotCache)
+fn copy_stacks(from: &EmergencySpillSlotCache, to: &mut EmergencySpillSlotCache)
     requires { ⌜ CacheFits (now from) ⌝ }
     ensures { λ _. ⌜ StacksCopied (now (from .entry)) (now (to .entry)) (now (to .exit)) ⌝ }
 {
@@ -171,7 +171,7 @@ fn resolve_part(
     common: &RegUnitSet,
     next: &Labels,
     first: usize,
-    work: &mut SlotCache,
+    work: &mut EmergencySpillSlotCache,
     list: &mut [u64],
     e: &mut Entries,
     w: &mut SparseMap,
@@ -179,8 +179,8 @@ fn resolve_part(
     sources: &mut RegUnitSet,
     edits: &mut Edits,
     slots: &mut Slots,
-    d: &mut Diverted,
-    marks: &mut Marks,
+    d: &mut Diversions,
+    marks: &mut States,
     c: &mut Carried,
 ) -> Resolved
     requires { ⌜ Checked (now t) (now f) × KnownEntries (regInfoOf (now t)) (now numbers) × GroupAt (regInfoOf (now t)) (now numbers) (now next) first × CommonAs (regInfoOf (now t)) (now numbers) (now free) (now common) × (given ≡ false → (u : ℕ) → setOf (now free) u ≡ false) × GrantOk (now f) (rest limit (now work)) (now work) ⌝ }
@@ -242,7 +242,7 @@ fn resolve_parts(
     common: &RegUnitSet,
     labels: &Labels,
     next: &Labels,
-    work: &mut SlotCache,
+    work: &mut EmergencySpillSlotCache,
     joined: &mut [u64],
     e: &mut Entries,
     w: &mut SparseMap,
@@ -250,8 +250,8 @@ fn resolve_parts(
     sources: &mut RegUnitSet,
     edits: &mut Edits,
     slots: &mut Slots,
-    d: &mut Diverted,
-    marks: &mut Marks,
+    d: &mut Diversions,
+    marks: &mut States,
     c: &mut Carried,
 ) -> Resolved
     requires { ⌜ Checked (now t) (now f) × KnownEntries (regInfoOf (now t)) (now numbers) × Laid (now t) (now numbers) (now free) (now labels) (now next) (now common) × (given ≡ false → (u : ℕ) → setOf (now free) u ≡ false) × GrantOk (now f) (rest limit (now work)) (now work) × Passed limit (now t) (now f) (now free) (now numbers) × (length (now joined) ≡ 1024) ⌝ }
@@ -301,7 +301,7 @@ fn resolve_parts(
 }
 
 // The working cache of a call: the cache's stacks, and so many slots made.
-fn begin(made: u16, cache: &SlotCache, work: &mut SlotCache)
+fn begin(made: u16, cache: &EmergencySpillSlotCache, work: &mut EmergencySpillSlotCache)
     requires { ⌜ CacheFits (now cache) ⌝ }
     ensures { λ _. ⌜ (cacheOf (now (work .exit)) ≡ withMade made (cacheOf (now (cache .entry)))) × CacheFits (now (work .exit)) ⌝ }
 {
@@ -323,7 +323,13 @@ fn write(words: &[u64], n: usize, list: &mut [u64])
 
 // "The groups' edits are joined in that order": the words go out, and the cache becomes what the groups left. Its stamp is its own, raised by one: a
 // call by groups is one patch, with no group too.
-fn hand_over(joined: &[u64], n: usize, work: &SlotCache, list: &mut [u64], cache: &mut SlotCache)
+fn hand_over(
+    joined: &[u64],
+    n: usize,
+    work: &EmergencySpillSlotCache,
+    list: &mut [u64],
+    cache: &mut EmergencySpillSlotCache,
+)
     requires { ⌜ (n ≤ length (now joined)) × (n ≤ length (now list)) × CacheFits (now work) ⌝ }
     ensures { λ _. ⌜ HandedOver (now (joined .entry)) n (now (work .entry)) (now (list .entry)) (now (cache .entry)) (now (list .exit)) (now (cache .exit)) ⌝ }
 {
@@ -339,7 +345,7 @@ pub fn resolve_groups_granted(
     t: &RegInfo,
     f: &Function,
     numbers: &[u32],
-    cache: &mut SlotCache,
+    cache: &mut EmergencySpillSlotCache,
     list: &mut [u64],
     given: bool,
     free: &RegUnitSet,
@@ -349,14 +355,14 @@ pub fn resolve_groups_granted(
     sources: &mut RegUnitSet,
     edits: &mut Edits,
     slots: &mut Slots,
-    d: &mut Diverted,
-    marks: &mut Marks,
+    d: &mut Diversions,
+    marks: &mut States,
     c: &mut Carried,
     owners: &mut Owners,
     labels: &mut Labels,
     next: &mut Labels,
     common: &mut RegUnitSet,
-    work: &mut SlotCache,
+    work: &mut EmergencySpillSlotCache,
     joined: &mut [u64; 1024],
 ) -> Resolved
     requires { ⌜ Checked (now t) (now f) × GrantOk (now f) g (now cache) × (given ≡ false → (u : ℕ) → setOf (now free) u ≡ false) ⌝ }
@@ -406,7 +412,7 @@ pub fn resolve_groups(
     t: &RegInfo,
     f: &Function,
     numbers: &[u32],
-    cache: &mut SlotCache,
+    cache: &mut EmergencySpillSlotCache,
     list: &mut [u64],
     given: bool,
     free: &RegUnitSet,
@@ -416,14 +422,14 @@ pub fn resolve_groups(
     sources: &mut RegUnitSet,
     edits: &mut Edits,
     slots: &mut Slots,
-    d: &mut Diverted,
-    marks: &mut Marks,
+    d: &mut Diversions,
+    marks: &mut States,
     c: &mut Carried,
     owners: &mut Owners,
     labels: &mut Labels,
     next: &mut Labels,
     common: &mut RegUnitSet,
-    work: &mut SlotCache,
+    work: &mut EmergencySpillSlotCache,
     joined: &mut [u64; 1024],
 ) -> Resolved
     requires { ⌜ Checked (now t) (now f) × CacheOk (now f) (now cache) × (given ≡ false → (u : ℕ) → setOf (now free) u ≡ false) ⌝ }

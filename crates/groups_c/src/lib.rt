@@ -8,12 +8,12 @@ use groups::Labels;
 use groups::Owners;
 use parallel_moves::Resolved;
 use reginfo::RegInfo;
-use scratch::Diverted;
-use slots::SlotCache;
+use scratch::Diversions;
+use slots::EmergencySpillSlotCache;
 use slots::Slots;
 use small_set::RegUnitSet;
 use sparse::SparseMap;
-use visits::Marks;
+use visits::States;
 ghost use lib.ListN.{length};
 ghost use Rattle.entity.specs.Logic.{Anything};
 ghost use Rattle.reginfo.specs.Table.{regInfoOf};
@@ -32,7 +32,7 @@ pub extern "C" fn parallel_moves_resolve_groups_4(
     function: &Function,
     free: &[u32],
     numbers: &[u32],
-    cache: &mut SlotCache,
+    cache: &mut EmergencySpillSlotCache,
     list: &mut [u64],
     refusal: &mut u8,
     position: &mut u16,
@@ -43,14 +43,14 @@ pub extern "C" fn parallel_moves_resolve_groups_4(
     sources: &mut RegUnitSet,
     edits: &mut Edits,
     slots: &mut Slots,
-    diverted: &mut Diverted,
-    marks: &mut Marks,
+    diverted: &mut Diversions,
+    marks: &mut States,
     carried: &mut Carried,
     owners: &mut Owners,
     labels: &mut Labels,
     next: &mut Labels,
     common: &mut RegUnitSet,
-    work: &mut SlotCache,
+    work: &mut EmergencySpillSlotCache,
     joined: &mut [u64; 1024],
 ) -> usize
     requires { ⌜ Checked (now target) (now function) × CacheOk (now function) (now cache) ⌝ }

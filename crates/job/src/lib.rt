@@ -8,13 +8,13 @@ use parallel_moves::Resolved;
 use price::Prices;
 use reading::Next;
 use reginfo::RegInfo;
-use scratch::Diverted;
-use slots::SlotCache;
+use scratch::Diversions;
+use slots::EmergencySpillSlotCache;
 use slots::Slots;
 use small_set::RegUnitSet;
 use sparse::SparseMap;
 use target_check::TargetCheck;
-use visits::Marks;
+use visits::States;
 ghost use mathlib.Core.Path.{_≡_};
 ghost use mathlib.Core.Bool.{true};
 ghost use Prim.Native.Nat.{ℕ, _≤_};
@@ -191,14 +191,14 @@ fn resolve_before(
     free: &RegUnitSet,
     e: &Entries,
     w: &SparseMap,
-    cache: &mut SlotCache,
+    cache: &mut EmergencySpillSlotCache,
     list: &mut [u64],
     available: &mut RegUnitSet,
     sources: &mut RegUnitSet,
     edits: &mut Edits,
     slots: &mut Slots,
-    d: &mut Diverted,
-    marks: &mut Marks,
+    d: &mut Diversions,
+    marks: &mut States,
     c: &mut Carried,
     next: usize,
 ) -> Step
@@ -233,7 +233,7 @@ pub fn answer_patch(
     f: &Function,
     s: &[u8],
     at: usize,
-    cache: &mut SlotCache,
+    cache: &mut EmergencySpillSlotCache,
     list: &mut [u64],
     free: &mut RegUnitSet,
     e: &mut Entries,
@@ -242,8 +242,8 @@ pub fn answer_patch(
     sources: &mut RegUnitSet,
     edits: &mut Edits,
     slots: &mut Slots,
-    d: &mut Diverted,
-    marks: &mut Marks,
+    d: &mut Diversions,
+    marks: &mut States,
     c: &mut Carried,
 ) -> Step
     requires { ⌜ Checked (now t) (now f) × CacheOk (now f) (now cache) ⌝ }

@@ -8,12 +8,12 @@ use function::Function;
 use job::Step;
 use number::Number;
 use reginfo::RegInfo;
-use scratch::Diverted;
-use slots::SlotCache;
+use scratch::Diversions;
+use slots::EmergencySpillSlotCache;
 use slots::Slots;
 use small_set::RegUnitSet;
 use sparse::SparseMap;
-use visits::Marks;
+use visits::States;
 ghost use mathlib.Core.Path.{_≡_};
 ghost use mathlib.Core.Bool.{false};
 ghost use Prim.Native.Nat.{_+_, _<_, _≤_};
@@ -125,7 +125,7 @@ pub fn next(
     f: &Function,
     s: &[u8],
     p: Progress,
-    cache: &mut SlotCache,
+    cache: &mut EmergencySpillSlotCache,
     list: &mut [u64; 1024],
     free: &mut RegUnitSet,
     e: &mut Entries,
@@ -134,8 +134,8 @@ pub fn next(
     sources: &mut RegUnitSet,
     edits: &mut Edits,
     slots: &mut Slots,
-    d: &mut Diverted,
-    marks: &mut Marks,
+    d: &mut Diversions,
+    marks: &mut States,
     c: &mut Carried,
     out: &mut [u8],
 ) -> Progress
@@ -192,7 +192,7 @@ pub fn start(
     s: &[u8],
     t: &mut RegInfo,
     f: &mut Function,
-    cache: &mut SlotCache,
+    cache: &mut EmergencySpillSlotCache,
     out: &mut [u8],
 ) -> Progress
     requires { ⌜ 20480 ≤ length (now out) ⌝ }

@@ -6,13 +6,13 @@ use function::Function;
 use number::Number;
 use price::Prices;
 use reginfo::RegInfo;
-use scratch::Diverted;
-use slots::SlotCache;
+use scratch::Diversions;
+use slots::EmergencySpillSlotCache;
 use slots::Slots;
 use small_set::RegUnitSet;
 use sparse::SparseMap;
 use trying::Tally;
-use visits::Marks;
+use visits::States;
 ghost use mathlib.Core.Path.{_≡_};
 ghost use mathlib.Core.Bool.{true};
 ghost use Prim.Native.Nat.{_≤_};
@@ -32,15 +32,15 @@ pub fn try_both(
     patches: usize,
     one: &mut Tally,
     two: &mut Tally,
-    cache: &mut SlotCache,
+    cache: &mut EmergencySpillSlotCache,
     e: &mut Entries,
     w: &mut SparseMap,
     available: &mut RegUnitSet,
     sources: &mut RegUnitSet,
     edits: &mut Edits,
     slots: &mut Slots,
-    d: &mut Diverted,
-    marks: &mut Marks,
+    d: &mut Diversions,
+    marks: &mut States,
     c: &mut Carried,
 )
     requires { ⌜ Checked (now t) (now f) × (inRange p ≡ true) × (patches ≤ 1024) ⌝ }
@@ -104,15 +104,15 @@ pub fn try_job(
     two: &mut Tally,
     t: &mut RegInfo,
     f: &mut Function,
-    cache: &mut SlotCache,
+    cache: &mut EmergencySpillSlotCache,
     e: &mut Entries,
     w: &mut SparseMap,
     available: &mut RegUnitSet,
     sources: &mut RegUnitSet,
     edits: &mut Edits,
     slots: &mut Slots,
-    d: &mut Diverted,
-    marks: &mut Marks,
+    d: &mut Diversions,
+    marks: &mut States,
     c: &mut Carried,
 ) -> u8
     ensures { λ r. ⌜ TriedBy (asked p patches (now (s .entry))) p seed patches r (now (one .entry)) (now (two .entry)) (now (one .exit)) (now (two .exit)) ⌝ }

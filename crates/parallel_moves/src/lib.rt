@@ -6,13 +6,13 @@ use entries::Added;
 use entries::Entries;
 use function::Function;
 use reginfo::RegInfo;
-use scratch::Diverted;
+use scratch::Diversions;
 use scratch::ScratchAllocator;
-use slots::SlotCache;
+use slots::EmergencySpillSlotCache;
 use slots::Slots;
 use small_set::RegUnitSet;
 use sparse::SparseMap;
-use visits::Marks;
+use visits::States;
 ghost use mathlib.Core.Path.{_≡_};
 ghost use Prim.Native.Nat.{_+_, _≤_};
 ghost use lib.ListN.{length, getD};
@@ -63,7 +63,7 @@ pub enum TakeAnswer {
 }
 
 // What a function alone is granted.
-pub fn own_grant(f: &Function, cache: &SlotCache) -> Grant
+pub fn own_grant(f: &Function, cache: &EmergencySpillSlotCache) -> Grant
     requires { ⌜ functionOf (now f) .limit ≤ 2048 ⌝ }
     ensures { λ g. ⌜ g ≡ own (now (f .entry)) (now (cache .entry)) ⌝ }
 {
@@ -78,15 +78,15 @@ fn run(
     g: Grant,
     t: &RegInfo,
     f: &Function,
-    cache: &SlotCache,
+    cache: &EmergencySpillSlotCache,
     e: &Entries,
     w: &SparseMap,
     available: &mut RegUnitSet,
     sources: &mut RegUnitSet,
     edits: &mut Edits,
     slots: &mut Slots,
-    d: &mut Diverted,
-    marks: &mut Marks,
+    d: &mut Diversions,
+    marks: &mut States,
     c: &mut Carried,
 ) -> ScratchAllocator
     requires { ⌜ Checked (now t) (now f) × EntriesOk (now t) (now f) (now e) (now w) × GrantOk (now f) g (now cache) ⌝ }
@@ -141,15 +141,15 @@ fn run_given(
     given: bool,
     t: &RegInfo,
     f: &Function,
-    cache: &SlotCache,
+    cache: &EmergencySpillSlotCache,
     e: &Entries,
     w: &SparseMap,
     available: &mut RegUnitSet,
     sources: &mut RegUnitSet,
     edits: &mut Edits,
     slots: &mut Slots,
-    d: &mut Diverted,
-    marks: &mut Marks,
+    d: &mut Diversions,
+    marks: &mut States,
     c: &mut Carried,
 ) -> ScratchAllocator
     requires { ⌜ Checked (now t) (now f) × EntriesOk (now t) (now f) (now e) (now w) × GrantOk (now f) g (now cache) ⌝ }
@@ -183,15 +183,15 @@ pub fn resolve_granted(
     f: &Function,
     e: &Entries,
     w: &SparseMap,
-    cache: &mut SlotCache,
+    cache: &mut EmergencySpillSlotCache,
     list: &mut [u64],
     given: bool,
     available: &mut RegUnitSet,
     sources: &mut RegUnitSet,
     edits: &mut Edits,
     slots: &mut Slots,
-    d: &mut Diverted,
-    marks: &mut Marks,
+    d: &mut Diversions,
+    marks: &mut States,
     c: &mut Carried,
 ) -> Resolved
     requires { ⌜ Checked (now t) (now f) × EntriesOk (now t) (now f) (now e) (now w) × GrantOk (now f) g (now cache) ⌝ }
@@ -231,15 +231,15 @@ pub fn resolve_available(
     f: &Function,
     e: &Entries,
     w: &SparseMap,
-    cache: &mut SlotCache,
+    cache: &mut EmergencySpillSlotCache,
     list: &mut [u64],
     given: bool,
     available: &mut RegUnitSet,
     sources: &mut RegUnitSet,
     edits: &mut Edits,
     slots: &mut Slots,
-    d: &mut Diverted,
-    marks: &mut Marks,
+    d: &mut Diversions,
+    marks: &mut States,
     c: &mut Carried,
 ) -> Resolved
     requires { ⌜ Checked (now t) (now f) × EntriesOk (now t) (now f) (now e) (now w) × CacheOk (now f) (now cache) ⌝ }
@@ -273,14 +273,14 @@ pub fn resolve(
     e: &Entries,
     w: &SparseMap,
     free: &RegUnitSet,
-    cache: &mut SlotCache,
+    cache: &mut EmergencySpillSlotCache,
     list: &mut [u64],
     available: &mut RegUnitSet,
     sources: &mut RegUnitSet,
     edits: &mut Edits,
     slots: &mut Slots,
-    d: &mut Diverted,
-    marks: &mut Marks,
+    d: &mut Diversions,
+    marks: &mut States,
     c: &mut Carried,
 ) -> Resolved
     requires { ⌜ Checked (now t) (now f) × EntriesOk (now t) (now f) (now e) (now w) × CacheOk (now f) (now cache) ⌝ }
@@ -310,7 +310,7 @@ pub fn resolve(
 fn hand_over(
     k: ScratchAllocator,
     limit: u16,
-    cache: &mut SlotCache,
+    cache: &mut EmergencySpillSlotCache,
     list: &mut [u64],
     edits: &Edits,
     slots: &Slots,
@@ -335,15 +335,15 @@ pub fn ask_granted(
     f: &Function,
     e: &Entries,
     w: &SparseMap,
-    cache: &SlotCache,
+    cache: &EmergencySpillSlotCache,
     list: &mut [u64],
     given: bool,
     available: &mut RegUnitSet,
     sources: &mut RegUnitSet,
     edits: &mut Edits,
     slots: &mut Slots,
-    d: &mut Diverted,
-    marks: &mut Marks,
+    d: &mut Diversions,
+    marks: &mut States,
     c: &mut Carried,
 ) -> Asked
     requires { ⌜ Checked (now t) (now f) × EntriesOk (now t) (now f) (now e) (now w) × GrantOk (now f) g (now cache) ⌝ }
@@ -389,7 +389,7 @@ pub fn ask_granted(
 fn show(
     k: ScratchAllocator,
     limit: u16,
-    cache: &SlotCache,
+    cache: &EmergencySpillSlotCache,
     list: &mut [u64],
     edits: &Edits,
     slots: &Slots,
@@ -416,7 +416,7 @@ fn show(
 
 // Takes what was asked for: the cache becomes what resolving would have made it. First 20, where the cache's stamp is not that of the asking.
 // Asked is that the table of slots is as the asking left it and the cache as its last call.
-pub fn take(a: Preview, slots: &Slots, cache: &mut SlotCache) -> TakeAnswer
+pub fn take(a: Preview, slots: &Slots, cache: &mut EmergencySpillSlotCache) -> TakeAnswer
     requires { ⌜ (a .stamp ≡ stampOf (now cache) → CanTake (now slots) (now cache)) ⌝ }
     ensures { λ r. ⌜ Takes a (now (slots .entry)) (now (cache .entry)) r (now (cache .exit)) ⌝ }
 {
@@ -487,7 +487,7 @@ pub fn resolve_patch_granted(
     t: &RegInfo,
     f: &Function,
     numbers: &[u32],
-    cache: &mut SlotCache,
+    cache: &mut EmergencySpillSlotCache,
     list: &mut [u64],
     given: bool,
     e: &mut Entries,
@@ -496,8 +496,8 @@ pub fn resolve_patch_granted(
     sources: &mut RegUnitSet,
     edits: &mut Edits,
     slots: &mut Slots,
-    d: &mut Diverted,
-    marks: &mut Marks,
+    d: &mut Diversions,
+    marks: &mut States,
     c: &mut Carried,
 ) -> Resolved
     requires { ⌜ Checked (now t) (now f) × GrantOk (now f) g (now cache) ⌝ }
@@ -532,7 +532,7 @@ pub fn resolve_patch(
     t: &RegInfo,
     f: &Function,
     numbers: &[u32],
-    cache: &mut SlotCache,
+    cache: &mut EmergencySpillSlotCache,
     list: &mut [u64],
     given: bool,
     e: &mut Entries,
@@ -541,8 +541,8 @@ pub fn resolve_patch(
     sources: &mut RegUnitSet,
     edits: &mut Edits,
     slots: &mut Slots,
-    d: &mut Diverted,
-    marks: &mut Marks,
+    d: &mut Diversions,
+    marks: &mut States,
     c: &mut Carried,
 ) -> Resolved
     requires { ⌜ Checked (now t) (now f) × CacheOk (now f) (now cache) ⌝ }
@@ -576,7 +576,7 @@ pub fn ask_patch_granted(
     t: &RegInfo,
     f: &Function,
     numbers: &[u32],
-    cache: &SlotCache,
+    cache: &EmergencySpillSlotCache,
     list: &mut [u64],
     given: bool,
     e: &mut Entries,
@@ -585,8 +585,8 @@ pub fn ask_patch_granted(
     sources: &mut RegUnitSet,
     edits: &mut Edits,
     slots: &mut Slots,
-    d: &mut Diverted,
-    marks: &mut Marks,
+    d: &mut Diversions,
+    marks: &mut States,
     c: &mut Carried,
 ) -> Asked
     requires { ⌜ Checked (now t) (now f) × GrantOk (now f) g (now cache) ⌝ }

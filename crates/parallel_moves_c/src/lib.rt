@@ -6,12 +6,12 @@ use edit::Edits;
 use entries::Entries;
 use function::Function;
 use reginfo::RegInfo;
-use scratch::Diverted;
-use slots::SlotCache;
+use scratch::Diversions;
+use slots::EmergencySpillSlotCache;
 use slots::Slots;
 use small_set::RegUnitSet;
 use sparse::SparseMap;
-use visits::Marks;
+use visits::States;
 ghost use Rattle.entity.specs.Logic.{Anything};
 ghost use lib.ListN.{length};
 ghost use Rattle.answer_text.specs.Lines.{answerText, Printed};
@@ -28,7 +28,7 @@ pub extern "C" fn parallel_moves_answer_4(
     refusal: &mut u8,
     target: &mut RegInfo,
     function: &mut Function,
-    cache: &mut SlotCache,
+    cache: &mut EmergencySpillSlotCache,
     free: &mut RegUnitSet,
     entries: &mut Entries,
     writers: &mut SparseMap,
@@ -36,8 +36,8 @@ pub extern "C" fn parallel_moves_answer_4(
     sources: &mut RegUnitSet,
     edits: &mut Edits,
     slots: &mut Slots,
-    diverted: &mut Diverted,
-    marks: &mut Marks,
+    diverted: &mut Diversions,
+    marks: &mut States,
     carried: &mut Carried,
 ) -> usize
     ensures { λ r. ⌜ AnsweredAs (now (words .entry)) (jobIn (length (now (words .entry))) «kept_evictions» (now (bytes .entry))) r (now (refusal .exit)) (now (words .exit)) ⌝ }

@@ -9,12 +9,12 @@ use function::Function;
 use number::Number;
 use price::Prices;
 use reginfo::RegInfo;
-use scratch::Diverted;
-use slots::SlotCache;
+use scratch::Diversions;
+use slots::EmergencySpillSlotCache;
 use slots::Slots;
 use small_set::RegUnitSet;
 use sparse::SparseMap;
-use visits::Marks;
+use visits::States;
 ghost use mathlib.Core.Path.{_≡_};
 ghost use mathlib.Core.Bool.{true};
 ghost use Prim.Native.Nat.{_≤_};
@@ -87,7 +87,7 @@ fn put_priced(
     words: &mut [u64],
     t: &mut RegInfo,
     f: &mut Function,
-    cache: &mut SlotCache,
+    cache: &mut EmergencySpillSlotCache,
     free: &mut RegUnitSet,
     e: &mut Entries,
     w: &mut SparseMap,
@@ -95,8 +95,8 @@ fn put_priced(
     sources: &mut RegUnitSet,
     edits: &mut Edits,
     slots: &mut Slots,
-    d: &mut Diverted,
-    marks: &mut Marks,
+    d: &mut Diversions,
+    marks: &mut States,
     c: &mut Carried,
 ) -> usize
     requires { ⌜ (inRange p ≡ true) × (length (now words) ≡ 132096) × (length (now out) ≡ 131072) ⌝ }
@@ -136,7 +136,7 @@ fn put_job(
     words: &mut [u64],
     t: &mut RegInfo,
     f: &mut Function,
-    cache: &mut SlotCache,
+    cache: &mut EmergencySpillSlotCache,
     free: &mut RegUnitSet,
     e: &mut Entries,
     w: &mut SparseMap,
@@ -144,8 +144,8 @@ fn put_job(
     sources: &mut RegUnitSet,
     edits: &mut Edits,
     slots: &mut Slots,
-    d: &mut Diverted,
-    marks: &mut Marks,
+    d: &mut Diversions,
+    marks: &mut States,
     c: &mut Carried,
 ) -> usize
     requires { ⌜ (length (now words) ≡ 132096) × (length (now out) ≡ 131072) ⌝ }

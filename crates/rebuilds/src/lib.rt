@@ -9,7 +9,7 @@ use function::Function;
 use function::Remat;
 use reginfo::RegInfo;
 use scratch::ScratchAllocator;
-use slots::SlotCache;
+use slots::EmergencySpillSlotCache;
 use slots::Slots;
 use small_set::RegUnitSet;
 ghost use mathlib.Core.Path.{_≡_};
@@ -88,7 +88,7 @@ fn through_scratch(
     k: ScratchAllocator,
     t: &RegInfo,
     f: &Function,
-    cache: &SlotCache,
+    cache: &EmergencySpillSlotCache,
     available: &mut RegUnitSet,
     sources: &RegUnitSet,
     edits: &mut Edits,
@@ -112,7 +112,7 @@ fn remat_with_scratch(
     k: ScratchAllocator,
     t: &RegInfo,
     f: &Function,
-    cache: &SlotCache,
+    cache: &EmergencySpillSlotCache,
     available: &mut RegUnitSet,
     sources: &RegUnitSet,
     edits: &mut Edits,
@@ -150,7 +150,7 @@ pub fn remats_with_scratch(
     k: ScratchAllocator,
     t: &RegInfo,
     f: &Function,
-    cache: &SlotCache,
+    cache: &EmergencySpillSlotCache,
     e: &Entries,
     available: &mut RegUnitSet,
     sources: &RegUnitSet,

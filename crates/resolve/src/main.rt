@@ -7,12 +7,12 @@ use entries::Entries;
 use function::Function;
 use job_text::Progress;
 use reginfo::RegInfo;
-use scratch::Diverted;
-use slots::SlotCache;
+use scratch::Diversions;
+use slots::EmergencySpillSlotCache;
 use slots::Slots;
 use small_set::RegUnitSet;
 use sparse::SparseMap;
-use visits::Marks;
+use visits::States;
 ghost use mathlib.Core.Path.{_≡_};
 ghost use Prim.Native.Nat.{ℕ};
 ghost use lib.ListN.{length};
@@ -189,7 +189,7 @@ fn write_text(
     f: &Function,
     s: &[u8],
     from: Progress,
-    cache: &mut SlotCache,
+    cache: &mut EmergencySpillSlotCache,
     list: &mut [u64; 1024],
     free: &mut RegUnitSet,
     e: &mut Entries,
@@ -198,8 +198,8 @@ fn write_text(
     sources: &mut RegUnitSet,
     edits: &mut Edits,
     slots: &mut Slots,
-    d: &mut Diverted,
-    marks: &mut Marks,
+    d: &mut Diversions,
+    marks: &mut States,
     c: &mut Carried,
     out: &mut [u8],
 ) -> Written
@@ -248,7 +248,7 @@ fn answer(
     s: &[u8],
     t: &mut RegInfo,
     f: &mut Function,
-    cache: &mut SlotCache,
+    cache: &mut EmergencySpillSlotCache,
     list: &mut [u64; 1024],
     free: &mut RegUnitSet,
     e: &mut Entries,
@@ -257,8 +257,8 @@ fn answer(
     sources: &mut RegUnitSet,
     edits: &mut Edits,
     slots: &mut Slots,
-    d: &mut Diverted,
-    marks: &mut Marks,
+    d: &mut Diversions,
+    marks: &mut States,
     c: &mut Carried,
     out: &mut [u8],
 ) -> Written

@@ -9,7 +9,7 @@ use parallel_moves::Resolved;
 use parallel_moves::TakeAnswer;
 use reading::Next;
 use reginfo::RegInfo;
-use slots::SlotCache;
+use slots::EmergencySpillSlotCache;
 use slots::Slots;
 ghost use mathlib.Core.Path.{_≡_};
 ghost use mathlib.Core.List.{List};
@@ -153,7 +153,7 @@ fn resolve(
     f: &Function,
     free: &[u32],
     numbers: &[u32],
-    cache: &mut SlotCache,
+    cache: &mut EmergencySpillSlotCache,
     list: &mut [u64; 1024],
 ) -> Resolved
     requires { ⌜ Checked (now t) (now f) × FrameOk (now frame) × (i < numberOf (now frame)) × InFrame (now frame) (now f) (now cache) ⌝ }
@@ -198,7 +198,7 @@ fn ask(
     f: &Function,
     free: &[u32],
     numbers: &[u32],
-    cache: &SlotCache,
+    cache: &EmergencySpillSlotCache,
     list: &mut [u64; 1024],
     slots: &mut Slots,
 ) -> FrameAsked
@@ -243,7 +243,7 @@ fn put_resolved(
     f: &Function,
     free: &[u32],
     numbers: &[u32],
-    cache: &mut SlotCache,
+    cache: &mut EmergencySpillSlotCache,
     out: &mut [u8],
 ) -> usize
     requires { ⌜ Checked (now t) (now f) × FrameOk (now frame) × (i < numberOf (now frame)) × InFrame (now frame) (now f) (now cache) × (20480 ≤ length (now out)) ⌝ }
@@ -264,7 +264,7 @@ fn put_asked(
     f: &Function,
     free: &[u32],
     numbers: &[u32],
-    cache: &SlotCache,
+    cache: &EmergencySpillSlotCache,
     slots: &mut Slots,
     out: &mut [u8],
 ) -> Said
@@ -290,7 +290,7 @@ fn put_taken(
     i: usize,
     left: Left,
     slots: &Slots,
-    cache: &mut SlotCache,
+    cache: &mut EmergencySpillSlotCache,
     out: &mut [u8],
 ) -> usize
     requires { ⌜ FrameOk (now frame) × (i < numberOf (now frame)) × CanTakeIf (now frame) i left (now slots) (now cache) × (20480 ≤ length (now out)) ⌝ }
@@ -324,7 +324,7 @@ fn answer_patch(
     i: usize,
     t: &RegInfo,
     f: &Function,
-    cache: &mut SlotCache,
+    cache: &mut EmergencySpillSlotCache,
     slots: &mut Slots,
     left: Left,
     s: &[u8],
@@ -364,7 +364,7 @@ pub fn answer_call(
     i: usize,
     t: &RegInfo,
     f: &Function,
-    cache: &mut SlotCache,
+    cache: &mut EmergencySpillSlotCache,
     slots: &mut Slots,
     left: Left,
     s: &[u8],

@@ -13,8 +13,8 @@ use entity::wide;
 use function::Function;
 use reginfo::RegInfo;
 use search::Search;
+use slots::EmergencySpillSlotCache;
 use slots::Popped;
-use slots::SlotCache;
 use slots::Slots;
 use small_set::RegUnitSet;
 ghost use mathlib.Core.Path.{_≡_};
@@ -116,7 +116,7 @@ fn overlaps_end(t: &RegInfo, to: Allocation, from: Allocation, r: PhysReg) -> bo
 }
 
 // The diversion of each value (specs/Diversions.antt).
-pub type Diverted = [u16; 12288];
+pub type Diversions = [u16; 12288];
 
 // It does nothing: a call tells the length of the table that is passed.
 fn told(d: [u16; 12288]) -> bool
@@ -126,7 +126,7 @@ fn told(d: [u16; 12288]) -> bool
 }
 
 // The diversion of a value: how many moves need it, its scratch and its first source.
-pub fn ref_count(d: &Diverted, v: Value) -> usize
+pub fn ref_count(d: &Diversions, v: Value) -> usize
     requires { ⌜ v .0 < 4096 ⌝ }
     ensures { λ n. ⌜ n ≡ countAt (now (d .entry)) (v .0) ⌝ }
 {
@@ -134,7 +134,7 @@ pub fn ref_count(d: &Diverted, v: Value) -> usize
     wide(d[i])
 }
 
-pub fn scratch_of(d: &Diverted, v: Value) -> Allocation
+pub fn scratch_of(d: &Diversions, v: Value) -> Allocation
     requires { ⌜ v .0 < 4096 ⌝ }
     ensures { λ p. ⌜ p .0 ≡ scratchAt (now (d .entry)) (v .0) ⌝ }
 {
@@ -142,7 +142,7 @@ pub fn scratch_of(d: &Diverted, v: Value) -> Allocation
     Allocation(d[8192 + i])
 }
 
-pub fn first_of(d: &Diverted, v: Value) -> Allocation
+pub fn first_of(d: &Diversions, v: Value) -> Allocation
     requires { ⌜ v .0 < 4096 ⌝ }
     ensures { λ p. ⌜ p .0 ≡ allocAt (now (d .entry)) (v .0) ⌝ }
 {
@@ -150,7 +150,7 @@ pub fn first_of(d: &Diverted, v: Value) -> Allocation
     Allocation(d[4096 + i])
 }
 
-pub fn set_count(d: &mut Diverted, v: Value, n: usize)
+pub fn set_count(d: &mut Diversions, v: Value, n: usize)
     requires { ⌜ (v .0 < 4096) × (n < 65536) ⌝ }
     ensures { λ _. ⌜ Noted (v .0) n (allocAt (now (d .entry)) (v .0)) (scratchAt (now (d .entry)) (v .0)) (now (d .entry)) (now (d .exit)) ⌝ }
 {
@@ -159,7 +159,7 @@ pub fn set_count(d: &mut Diverted, v: Value, n: usize)
     d[i] = narrow(n);
 }
 
-fn note(d: &mut Diverted, v: Value, n: u16, source: Allocation, scratch: Allocation)
+fn note(d: &mut Diversions, v: Value, n: u16, source: Allocation, scratch: Allocation)
     requires { ⌜ v .0 < 4096 ⌝ }
     ensures { λ _. ⌜ Noted (v .0) n (source .0) (scratch .0) (now (d .entry)) (now (d .exit)) ⌝ }
 {
@@ -257,7 +257,7 @@ impl ScratchAllocator {
         mut self,
         t: &RegInfo,
         f: &Function,
-        cache: &SlotCache,
+        cache: &EmergencySpillSlotCache,
         slots: &mut Slots,
         z: usize,
     ) -> Taken
@@ -283,7 +283,7 @@ impl ScratchAllocator {
         mut self,
         t: &RegInfo,
         f: &Function,
-        cache: &SlotCache,
+        cache: &EmergencySpillSlotCache,
         edits: &mut Edits,
         slots: &mut Slots,
         e: Held,
@@ -292,7 +292,7 @@ impl ScratchAllocator {
         ensures { λ r. ⌜ ((available : List Bool) → Back (now (t .entry)) (now (f .entry)) (now (cache .entry)) e self (tables (now (edits .entry)) available (now (slots .entry))) r (tables (now (edits .exit)) available (now (slots .exit)))) ⌝ }
     {
         edit::push_spill(edits, e.slot, e.reg);
-        slots::put_back(slots, reginfo::spillslot_size(t, e.bank), e.slot);
+        slots::release(slots, reginfo::spillslot_size(t, e.bank), e.slot);
         self
     }
 
@@ -301,7 +301,7 @@ impl ScratchAllocator {
         mut self,
         t: &RegInfo,
         f: &Function,
-        cache: &SlotCache,
+        cache: &EmergencySpillSlotCache,
         edits: &mut Edits,
         slots: &mut Slots,
         newer: Held,
@@ -319,7 +319,7 @@ impl ScratchAllocator {
         mut self,
         t: &RegInfo,
         f: &Function,
-        cache: &SlotCache,
+        cache: &EmergencySpillSlotCache,
         edits: &mut Edits,
         slots: &mut Slots,
     ) -> Self
@@ -343,7 +343,7 @@ impl ScratchAllocator {
         mut self,
         t: &RegInfo,
         f: &Function,
-        cache: &SlotCache,
+        cache: &EmergencySpillSlotCache,
         edits: &mut Edits,
         slots: &mut Slots,
         p: Allocation,
@@ -372,7 +372,7 @@ impl ScratchAllocator {
         mut self,
         t: &RegInfo,
         f: &Function,
-        cache: &SlotCache,
+        cache: &EmergencySpillSlotCache,
         edits: &mut Edits,
         slots: &mut Slots,
         p: Allocation,
@@ -407,7 +407,7 @@ impl ScratchAllocator {
         mut self,
         t: &RegInfo,
         f: &Function,
-        cache: &SlotCache,
+        cache: &EmergencySpillSlotCache,
         edits: &mut Edits,
         slots: &mut Slots,
         to: Allocation,
@@ -437,7 +437,7 @@ impl ScratchAllocator {
         mut self,
         t: &RegInfo,
         f: &Function,
-        cache: &SlotCache,
+        cache: &EmergencySpillSlotCache,
         edits: &mut Edits,
         slots: &mut Slots,
     ) -> Self
@@ -462,7 +462,7 @@ impl ScratchAllocator {
         mut self,
         t: &RegInfo,
         f: &Function,
-        cache: &SlotCache,
+        cache: &EmergencySpillSlotCache,
         edits: &mut Edits,
         slots: &mut Slots,
         b: RegBank,
@@ -486,7 +486,7 @@ impl ScratchAllocator {
         mut self,
         t: &RegInfo,
         f: &Function,
-        cache: &SlotCache,
+        cache: &EmergencySpillSlotCache,
         slots: &mut Slots,
         b: RegBank,
         n: u16,
@@ -522,7 +522,7 @@ impl ScratchAllocator {
         mut self,
         t: &RegInfo,
         f: &Function,
-        cache: &SlotCache,
+        cache: &EmergencySpillSlotCache,
         edits: &mut Edits,
         slots: &mut Slots,
         b: RegBank,
@@ -555,7 +555,7 @@ impl ScratchAllocator {
         mut self,
         t: &RegInfo,
         f: &Function,
-        cache: &SlotCache,
+        cache: &EmergencySpillSlotCache,
         edits: &mut Edits,
         slots: &mut Slots,
         b: RegBank,
@@ -574,7 +574,7 @@ impl ScratchAllocator {
         mut self,
         t: &RegInfo,
         f: &Function,
-        cache: &SlotCache,
+        cache: &EmergencySpillSlotCache,
         edits: &mut Edits,
         slots: &mut Slots,
         b: RegBank,
@@ -600,7 +600,7 @@ impl ScratchAllocator {
         mut self,
         t: &RegInfo,
         f: &Function,
-        cache: &SlotCache,
+        cache: &EmergencySpillSlotCache,
         edits: &mut Edits,
         slots: &mut Slots,
         b: RegBank,
@@ -627,7 +627,7 @@ impl ScratchAllocator {
         mut self,
         t: &RegInfo,
         f: &Function,
-        cache: &SlotCache,
+        cache: &EmergencySpillSlotCache,
         edits: &mut Edits,
         slots: &mut Slots,
         b: RegBank,
@@ -661,7 +661,7 @@ impl ScratchAllocator {
         mut self,
         t: &RegInfo,
         f: &Function,
-        cache: &SlotCache,
+        cache: &EmergencySpillSlotCache,
         edits: &mut Edits,
         slots: &mut Slots,
         b: RegBank,
@@ -684,7 +684,7 @@ impl ScratchAllocator {
         mut self,
         t: &RegInfo,
         f: &Function,
-        cache: &SlotCache,
+        cache: &EmergencySpillSlotCache,
         available: &RegUnitSet,
         sources: &RegUnitSet,
         cycle: bool,
@@ -713,7 +713,7 @@ impl ScratchAllocator {
         mut self,
         t: &RegInfo,
         f: &Function,
-        cache: &SlotCache,
+        cache: &EmergencySpillSlotCache,
         available: &RegUnitSet,
         sources: &RegUnitSet,
         edits: &mut Edits,
@@ -751,7 +751,7 @@ impl ScratchAllocator {
         mut self,
         t: &RegInfo,
         f: &Function,
-        cache: &SlotCache,
+        cache: &EmergencySpillSlotCache,
         available: &RegUnitSet,
         sources: &RegUnitSet,
         edits: &mut Edits,
@@ -803,7 +803,7 @@ impl ScratchAllocator {
         mut self,
         t: &RegInfo,
         f: &Function,
-        cache: &SlotCache,
+        cache: &EmergencySpillSlotCache,
         available: &mut RegUnitSet,
         sources: &RegUnitSet,
         edits: &mut Edits,
@@ -853,7 +853,7 @@ impl ScratchAllocator {
         let AllocationKind::SpillSlot(s) = p.kind() else {
             return self;
         };
-        slots::put_back(slots, reginfo::spillslot_size(t, b), s);
+        slots::release(slots, reginfo::spillslot_size(t, b), s);
         self
     }
 
@@ -862,12 +862,12 @@ impl ScratchAllocator {
         mut self,
         t: &RegInfo,
         f: &Function,
-        cache: &SlotCache,
+        cache: &EmergencySpillSlotCache,
         available: &mut RegUnitSet,
         sources: &RegUnitSet,
         edits: &mut Edits,
         slots: &mut Slots,
-        d: &mut Diverted,
+        d: &mut Diversions,
         added: u16,
         v: Value,
         source: Allocation,
@@ -893,12 +893,12 @@ impl ScratchAllocator {
         mut self,
         t: &RegInfo,
         f: &Function,
-        cache: &SlotCache,
+        cache: &EmergencySpillSlotCache,
         available: &mut RegUnitSet,
         sources: &RegUnitSet,
         edits: &mut Edits,
         slots: &mut Slots,
-        d: &mut Diverted,
+        d: &mut Diversions,
         added: u16,
         v: Value,
         source: Allocation,
@@ -936,12 +936,12 @@ impl ScratchAllocator {
         mut self,
         t: &RegInfo,
         f: &Function,
-        cache: &SlotCache,
+        cache: &EmergencySpillSlotCache,
         available: &mut RegUnitSet,
         sources: &RegUnitSet,
         edits: &mut Edits,
         slots: &mut Slots,
-        d: &Diverted,
+        d: &Diversions,
         v: Value,
     ) -> Self
         requires { ⌜ Checked (now t) (now f) × (v .0 < numValues (functionOf (now f))) × PlaceFits (now t) (scratchAt (now d) (v .0)) × PlaceFits (now t) (allocAt (now d) (v .0)) × Fits 0 1 4 (now t) self (now edits) (now slots) (now cache) ⌝ }
@@ -959,12 +959,12 @@ impl ScratchAllocator {
         mut self,
         t: &RegInfo,
         f: &Function,
-        cache: &SlotCache,
+        cache: &EmergencySpillSlotCache,
         available: &mut RegUnitSet,
         sources: &RegUnitSet,
         edits: &mut Edits,
         slots: &mut Slots,
-        d: &mut Diverted,
+        d: &mut Diversions,
         v: Value,
     ) -> Self
         requires { ⌜ Checked (now t) (now f) × (v .0 < numValues (functionOf (now f))) × (0 < countAt (now d) (v .0)) × (countAt (now d) (v .0) < 65536) × PlaceFits (now t) (scratchAt (now d) (v .0)) × PlaceFits (now t) (allocAt (now d) (v .0)) × Fits 0 1 4 (now t) self (now edits) (now slots) (now cache) ⌝ }

@@ -9,9 +9,9 @@ use entity::Value;
 use function::Function;
 use function::FunctionCheck;
 use reginfo::RegInfo;
-use scratch::Diverted;
+use scratch::Diversions;
 use scratch::ScratchAllocator;
-use slots::SlotCache;
+use slots::EmergencySpillSlotCache;
 use slots::Slots;
 use small_set::RegUnitSet;
 use target_check::TargetCheck;
@@ -40,7 +40,7 @@ fn start(
     available: &mut RegUnitSet,
     edits: &mut Edits,
     slots: &mut Slots,
-    cache: &mut SlotCache,
+    cache: &mut EmergencySpillSlotCache,
 ) -> ScratchAllocator
     ensures { λ k. ⌜ Started k (now (available .exit)) (now (edits .exit)) (now (slots .exit)) (now (cache .exit)) ⌝ }
 {
@@ -56,7 +56,7 @@ fn slot_to_slot(
     k: ScratchAllocator,
     t: &RegInfo,
     f: &Function,
-    cache: &SlotCache,
+    cache: &EmergencySpillSlotCache,
     available: &mut RegUnitSet,
     sources: &RegUnitSet,
     edits: &mut Edits,
@@ -90,12 +90,12 @@ fn slots_swapped(
     k: ScratchAllocator,
     t: &RegInfo,
     f: &Function,
-    cache: &SlotCache,
+    cache: &EmergencySpillSlotCache,
     available: &mut RegUnitSet,
     sources: &RegUnitSet,
     edits: &mut Edits,
     slots: &mut Slots,
-    d: &mut Diverted,
+    d: &mut Diversions,
     p: Allocation,
     q: Allocation,
     v: Value,
@@ -121,7 +121,7 @@ fn rebuild(
     k: ScratchAllocator,
     t: &RegInfo,
     f: &Function,
-    cache: &SlotCache,
+    cache: &EmergencySpillSlotCache,
     available: &mut RegUnitSet,
     sources: &RegUnitSet,
     edits: &mut Edits,

@@ -12,7 +12,7 @@ ghost use Rattle.entity.specs.Logic.{pick};
 ghost use Rattle.slots.specs.Stacks.{depthOf, cacheOf, stampOf, leftOf, ownOf, metOf, stacksOf, CacheFits, SlotsFit, Untouched};
 ghost use Rattle.slots.specs.Steps.{Cleared, Raised, Begun, Touched, Taken, PutBack, Meets, Settled, Committed};
 
-pub type SlotCache = [u16; 65600];
+pub type EmergencySpillSlotCache = [u16; 65600];
 
 pub type Slots = [u16; 32835];
 
@@ -36,7 +36,7 @@ fn told_slots(t: [u16; 32835]) -> bool
 }
 
 // A new function starts with no slots.
-pub fn clear(cache: &mut SlotCache)
+pub fn clear(cache: &mut EmergencySpillSlotCache)
     ensures { λ _. ⌜ Cleared (now (cache .exit)) ⌝ }
 {
     told_cache(*cache);
@@ -48,14 +48,14 @@ pub fn clear(cache: &mut SlotCache)
 }
 
 // How many slots the function has.
-pub fn made(cache: &SlotCache) -> u16
+pub fn made(cache: &EmergencySpillSlotCache) -> u16
     ensures { λ n. ⌜ n ≡ cacheOf (now (cache .entry)) .made ⌝ }
 {
     cache[32]
 }
 
 // How many patches were settled on the cache, modulo 2^64.
-pub fn stamp(cache: &SlotCache) -> u64
+pub fn stamp(cache: &EmergencySpillSlotCache) -> u64
     ensures { λ n. ⌜ (n ≡ stampOf (now (cache .entry))) × (n < 18446744073709551616) ⌝ }
 {
     let low = wide(cache[33]) + wide(cache[34]) * 65536;
@@ -64,7 +64,7 @@ pub fn stamp(cache: &SlotCache) -> u64
 }
 
 // Raises the stamp's cells behind the lowest, which has come to its end.
-fn carry(cache: &mut SlotCache)
+fn carry(cache: &mut EmergencySpillSlotCache)
     requires { ⌜ getD (now cache) 33 0 ≡ 65535 ⌝ }
     ensures { λ _. ⌜ Raised (now (cache .entry)) (now (cache .exit)) (getD (now (cache .entry)) 32 0) ⌝ }
 {
@@ -92,7 +92,7 @@ fn carry(cache: &mut SlotCache)
 }
 
 // A patch is settled that leaves the stacks as they are: so many slots are made, and the stamp is raised by one.
-pub fn raise(cache: &mut SlotCache, made: u16)
+pub fn raise(cache: &mut EmergencySpillSlotCache, made: u16)
     ensures { λ _. ⌜ Raised (now (cache .entry)) (now (cache .exit)) made ⌝ }
 {
     told_cache(*cache);
@@ -107,7 +107,7 @@ pub fn raise(cache: &mut SlotCache, made: u16)
 }
 
 // The depths of the cache's stacks. A local array overlaps no table, so that they can be copied many at a time.
-fn depths_of(cache: &SlotCache) -> [u16; 32]
+fn depths_of(cache: &EmergencySpillSlotCache) -> [u16; 32]
     ensures { λ d. ⌜ (length d ≡ 32) × ((z : ℕ) → z < 32 → getD d z 0 ≡ depthOf (now (cache .entry)) z) ⌝ }
 {
     let mut d = [0u16; 32];
@@ -120,7 +120,7 @@ fn depths_of(cache: &SlotCache) -> [u16; 32]
 }
 
 // A patch starts with the cache's stacks, of which it has changed nothing.
-pub fn begin(slots: &mut Slots, cache: &SlotCache)
+pub fn begin(slots: &mut Slots, cache: &EmergencySpillSlotCache)
     requires { ⌜ CacheFits (now cache) ⌝ }
     ensures { λ _. ⌜ Begun (now (cache .entry)) (now (slots .exit)) ⌝ }
 {
@@ -169,7 +169,7 @@ fn touch(slots: &mut Slots, z: usize)
 }
 
 // Takes the slot last put back: by this patch, else what is left of the cache's.
-pub fn acquire(slots: &mut Slots, cache: &SlotCache, z: usize) -> Popped
+pub fn acquire(slots: &mut Slots, cache: &EmergencySpillSlotCache, z: usize) -> Popped
     requires { ⌜ (z < 32) × SlotsFit 1024 (now slots) ⌝ }
     ensures { λ r. ⌜ Taken (now (slots .entry)) (now (cache .entry)) (now (slots .exit)) z r ⌝ }
 {
@@ -191,7 +191,7 @@ pub fn acquire(slots: &mut Slots, cache: &SlotCache, z: usize) -> Popped
 }
 
 // Puts a slot back on a stack.
-pub fn put_back(slots: &mut Slots, z: usize, s: SpillSlot)
+pub fn release(slots: &mut Slots, z: usize, s: SpillSlot)
     requires { ⌜ (z < 32) × SlotsFit 1024 (now slots) × (ownOf (now slots) z < 1024) ⌝ }
     ensures { λ _. ⌜ PutBack (now (slots .entry)) (now (slots .exit)) z (s .0) ⌝ }
 {
@@ -218,7 +218,7 @@ pub fn met(slots: &Slots) -> u16
 }
 
 // What was put back on a stack goes onto what is left of the cache's.
-fn settle(slots: &Slots, cache: &mut SlotCache, z: usize)
+fn settle(slots: &Slots, cache: &mut EmergencySpillSlotCache, z: usize)
     requires { ⌜ (z < 32) × (ownOf (now slots) z ≤ 1024) × (ownOf (now slots) z + leftOf (now slots) z ≤ 2048) ⌝ }
     ensures { λ _. ⌜ Settled (now (slots .entry)) (now (cache .entry)) (now (cache .exit)) z ⌝ }
 {
@@ -234,7 +234,7 @@ fn settle(slots: &Slots, cache: &mut SlotCache, z: usize)
 }
 
 // The cache becomes what the patch left, and its stamp is raised. Only the stacks that the patch has changed are settled.
-pub fn commit(slots: &Slots, cache: &mut SlotCache, made: u16)
+pub fn commit(slots: &Slots, cache: &mut EmergencySpillSlotCache, made: u16)
     requires { ⌜ SlotsFit 1024 (now slots) × ((z : ℕ) → z < 32 → length (stacksOf (now slots) (now cache) z) ≤ 2048) × Untouched (now cache) (now slots) ⌝ }
     ensures { λ _. ⌜ Committed (now (slots .entry)) (now (cache .entry)) (now (cache .exit)) made ⌝ }
 {

@@ -6,12 +6,12 @@ use function::Function;
 use parallel_moves::Resolved;
 use price::Prices;
 use reginfo::RegInfo;
-use scratch::Diverted;
-use slots::SlotCache;
+use scratch::Diversions;
+use slots::EmergencySpillSlotCache;
 use slots::Slots;
 use small_set::RegUnitSet;
 use sparse::SparseMap;
-use visits::Marks;
+use visits::States;
 ghost use mathlib.Core.Path.{_≡_};
 ghost use mathlib.Core.Bool.{true};
 ghost use Prim.Native.Nat.{_+_, _*_, _%_, _^_, _<_, _≤_};
@@ -160,7 +160,7 @@ fn try_once(
     f: &Function,
     p: Prices,
     seed: u32,
-    cache: &mut SlotCache,
+    cache: &mut EmergencySpillSlotCache,
     tally: &mut Tally,
     numbers: &mut [u32],
     list: &mut [u64],
@@ -170,8 +170,8 @@ fn try_once(
     sources: &mut RegUnitSet,
     edits: &mut Edits,
     slots: &mut Slots,
-    d: &mut Diverted,
-    marks: &mut Marks,
+    d: &mut Diversions,
+    marks: &mut States,
     c: &mut Carried,
 ) -> Tried
     requires { ⌜ Ready (now t) (now f) p (now cache) (now numbers) (now list) × Room 1 (now tally) ⌝ }
@@ -206,7 +206,7 @@ fn try_patch(
     f: &Function,
     p: Prices,
     seed: u32,
-    cache: &mut SlotCache,
+    cache: &mut EmergencySpillSlotCache,
     tally: &mut Tally,
     numbers: &mut [u32],
     list: &mut [u64],
@@ -216,8 +216,8 @@ fn try_patch(
     sources: &mut RegUnitSet,
     edits: &mut Edits,
     slots: &mut Slots,
-    d: &mut Diverted,
-    marks: &mut Marks,
+    d: &mut Diversions,
+    marks: &mut States,
     c: &mut Carried,
 ) -> u32
     requires { ⌜ Ready (now t) (now f) p (now cache) (now numbers) (now list) × Room 9 (now tally) ⌝ }
@@ -265,7 +265,7 @@ fn try_patches(
     p: Prices,
     seed: u32,
     count: usize,
-    cache: &mut SlotCache,
+    cache: &mut EmergencySpillSlotCache,
     tally: &mut Tally,
     numbers: &mut [u32],
     list: &mut [u64],
@@ -275,8 +275,8 @@ fn try_patches(
     sources: &mut RegUnitSet,
     edits: &mut Edits,
     slots: &mut Slots,
-    d: &mut Diverted,
-    marks: &mut Marks,
+    d: &mut Diversions,
+    marks: &mut States,
     c: &mut Carried,
 )
     requires { ⌜ Ready (now t) (now f) p (now cache) (now numbers) (now list) × Room (count * 9) (now tally) ⌝ }
@@ -347,7 +347,7 @@ pub fn try_setting(
     p: Prices,
     seed: u32,
     count: usize,
-    cache: &mut SlotCache,
+    cache: &mut EmergencySpillSlotCache,
     tally: &mut Tally,
     numbers: &mut [u32],
     list: &mut [u64],
@@ -357,8 +357,8 @@ pub fn try_setting(
     sources: &mut RegUnitSet,
     edits: &mut Edits,
     slots: &mut Slots,
-    d: &mut Diverted,
-    marks: &mut Marks,
+    d: &mut Diversions,
+    marks: &mut States,
     c: &mut Carried,
 )
     requires { ⌜ Checked (now t) (now f) × (isSetting kept ≡ true) × (inRange p ≡ true) × (count ≤ 1024) × (length (now numbers) ≡ 64) × (length (now list) ≡ 1024) ⌝ }

@@ -5,13 +5,13 @@ use entries::Entries;
 use function::Function;
 use price::Prices;
 use reginfo::RegInfo;
-use scratch::Diverted;
-use slots::SlotCache;
+use scratch::Diversions;
+use slots::EmergencySpillSlotCache;
 use slots::Slots;
 use small_set::RegUnitSet;
 use sparse::SparseMap;
 use trying::Tally;
-use visits::Marks;
+use visits::States;
 ghost use mathlib.Core.Path.{_≡_};
 ghost use Rattle.entity.specs.Logic.{Anything};
 ghost use Rattle.job_tries.specs.Tries.{asked, TriedBy};
@@ -43,15 +43,15 @@ pub extern "C" fn parallel_moves_try_4(
     two: &mut Tally,
     target: &mut RegInfo,
     function: &mut Function,
-    cache: &mut SlotCache,
+    cache: &mut EmergencySpillSlotCache,
     entries: &mut Entries,
     writers: &mut SparseMap,
     available: &mut RegUnitSet,
     sources: &mut RegUnitSet,
     edits: &mut Edits,
     slots: &mut Slots,
-    diverted: &mut Diverted,
-    marks: &mut Marks,
+    diverted: &mut Diversions,
+    marks: &mut States,
     carried: &mut Carried,
 ) -> u8
     ensures { λ r. ⌜ TriedBy (asked (pricesIn (now (prices .entry))) patches (now (job .entry))) (pricesIn (now (prices .entry))) seed patches r (now (one .entry)) (now (two .entry)) (now (one .exit)) (now (two .exit)) ⌝ }

@@ -4,13 +4,13 @@ use edit::Edits;
 use entries::Entries;
 use function::Function;
 use reginfo::RegInfo;
-use scratch::Diverted;
+use scratch::Diversions;
 use scratch::ScratchAllocator;
-use slots::SlotCache;
+use slots::EmergencySpillSlotCache;
 use slots::Slots;
 use small_set::RegUnitSet;
 use sparse::SparseMap;
-use visits::Marks;
+use visits::States;
 use visits::Writer;
 ghost use mathlib.Core.Path.{_≡_};
 ghost use mathlib.Core.Bool.{true};
@@ -31,15 +31,15 @@ fn visit(
     k: ScratchAllocator,
     t: &RegInfo,
     f: &Function,
-    cache: &SlotCache,
+    cache: &EmergencySpillSlotCache,
     e: &Entries,
     w: &SparseMap,
     available: &mut RegUnitSet,
     sources: &mut RegUnitSet,
     edits: &mut Edits,
     slots: &mut Slots,
-    d: &mut Diverted,
-    marks: &mut Marks,
+    d: &mut Diversions,
+    marks: &mut States,
     c: &mut Carried,
     m: usize,
 ) -> ScratchAllocator
@@ -86,15 +86,15 @@ fn walk(
     k: ScratchAllocator,
     t: &RegInfo,
     f: &Function,
-    cache: &SlotCache,
+    cache: &EmergencySpillSlotCache,
     e: &Entries,
     w: &SparseMap,
     available: &mut RegUnitSet,
     sources: &mut RegUnitSet,
     edits: &mut Edits,
     slots: &mut Slots,
-    d: &mut Diverted,
-    marks: &mut Marks,
+    d: &mut Diversions,
+    marks: &mut States,
     c: &mut Carried,
     m: usize,
 ) -> ScratchAllocator
@@ -138,15 +138,15 @@ fn visit_unless_memory(
     k: ScratchAllocator,
     t: &RegInfo,
     f: &Function,
-    cache: &SlotCache,
+    cache: &EmergencySpillSlotCache,
     e: &Entries,
     w: &SparseMap,
     available: &mut RegUnitSet,
     sources: &mut RegUnitSet,
     edits: &mut Edits,
     slots: &mut Slots,
-    d: &mut Diverted,
-    marks: &mut Marks,
+    d: &mut Diversions,
+    marks: &mut States,
     c: &mut Carried,
     m: usize,
 ) -> ScratchAllocator
@@ -178,15 +178,15 @@ fn first_pass(
     k: ScratchAllocator,
     t: &RegInfo,
     f: &Function,
-    cache: &SlotCache,
+    cache: &EmergencySpillSlotCache,
     e: &Entries,
     w: &SparseMap,
     available: &mut RegUnitSet,
     sources: &mut RegUnitSet,
     edits: &mut Edits,
     slots: &mut Slots,
-    d: &mut Diverted,
-    marks: &mut Marks,
+    d: &mut Diversions,
+    marks: &mut States,
     c: &mut Carried,
 ) -> ScratchAllocator
     requires { ⌜ Given (now t) (now f) (now e) (now w) × ((p : ParallelMoves) × Visits (now t) (now f) (now cache) (now e) p k (work (now edits) (now available) (now slots) (now sources) (now d) (now marks) (now c))) ⌝ }
@@ -225,15 +225,15 @@ fn second_pass(
     k: ScratchAllocator,
     t: &RegInfo,
     f: &Function,
-    cache: &SlotCache,
+    cache: &EmergencySpillSlotCache,
     e: &Entries,
     w: &SparseMap,
     available: &mut RegUnitSet,
     sources: &mut RegUnitSet,
     edits: &mut Edits,
     slots: &mut Slots,
-    d: &mut Diverted,
-    marks: &mut Marks,
+    d: &mut Diversions,
+    marks: &mut States,
     c: &mut Carried,
 ) -> ScratchAllocator
     requires { ⌜ Given (now t) (now f) (now e) (now w) × ((p : ParallelMoves) × Visits (now t) (now f) (now cache) (now e) p k (work (now edits) (now available) (now slots) (now sources) (now d) (now marks) (now c))) ⌝ }
@@ -273,15 +273,15 @@ pub fn moves(
     k: ScratchAllocator,
     t: &RegInfo,
     f: &Function,
-    cache: &SlotCache,
+    cache: &EmergencySpillSlotCache,
     e: &Entries,
     w: &SparseMap,
     available: &mut RegUnitSet,
     sources: &mut RegUnitSet,
     edits: &mut Edits,
     slots: &mut Slots,
-    d: &mut Diverted,
-    marks: &mut Marks,
+    d: &mut Diversions,
+    marks: &mut States,
     c: &mut Carried,
 ) -> ScratchAllocator
     requires { ⌜ Given (now t) (now f) (now e) (now w) × Fits 0 2 (8 * length (movesOf (now e))) (now t) k (now edits) (now slots) (now cache) ⌝ }

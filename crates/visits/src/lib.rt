@@ -27,10 +27,10 @@ ghost use Rattle.visits.specs.Marks.{movesOf, rematsOf, rematsWithScratc
 ghost use Rattle.visits.specs.Writers.{writerIs, keptWriter, isOpen, KeptOk, Ready};
 ghost use Rattle.visits.specs.Carry.{carryFor, CarriedAs};
 
-pub type Marks = [u8; 129];
+pub type States = [u8; 129];
 
 // Of value v, the count of open moves that carry it at v, the first source at 4096 + v, the scratch at 8192 + v.
-pub type Diverted = [u16; 12288];
+pub type Diversions = [u16; 12288];
 
 // The kept move that writes a unit.
 pub enum Writer {
@@ -132,14 +132,14 @@ pub fn has_memory(t: &RegInfo, e: &Entries, m: usize) -> bool
 }
 
 // Whether a move is not visited yet, or open.
-pub fn is_new(marks: &Marks, m: usize) -> bool
+pub fn is_new(marks: &States, m: usize) -> bool
     requires { ⌜ m < 128 ⌝ }
     ensures { λ b. ⌜ b ≡ isNew (statesOf (now (marks .entry)) m) ⌝ }
 {
     marks[m] == 0
 }
 
-pub fn is_pending(marks: &Marks, m: usize) -> bool
+pub fn is_pending(marks: &States, m: usize) -> bool
     requires { ⌜ m < 128 ⌝ }
     ensures { λ b. ⌜ b ≡ isPending (statesOf (now (marks .entry)) m) ⌝ }
 {
@@ -147,7 +147,7 @@ pub fn is_pending(marks: &Marks, m: usize) -> bool
 }
 
 // Opens a move, closes one.
-pub fn set_pending(marks: &mut Marks, m: usize)
+pub fn set_pending(marks: &mut States, m: usize)
     requires { ⌜ m < 128 ⌝ }
     ensures { λ _. ⌜ (statesOf (now (marks .exit)) ≡ updated m Pending (statesOf (now (marks .entry)))) × (isNoted (now (marks .exit)) ≡ isNoted (now (marks .entry))) ⌝ }
 {
@@ -155,7 +155,7 @@ pub fn set_pending(marks: &mut Marks, m: usize)
     marks[m] = 1;
 }
 
-pub fn set_done(marks: &mut Marks, m: usize)
+pub fn set_done(marks: &mut States, m: usize)
     requires { ⌜ m < 128 ⌝ }
     ensures { λ _. ⌜ (statesOf (now (marks .exit)) ≡ updated m Done (statesOf (now (marks .entry)))) × (isNoted (now (marks .exit)) ≡ isNoted (now (marks .entry))) ⌝ }
 {
@@ -164,13 +164,13 @@ pub fn set_done(marks: &mut Marks, m: usize)
 }
 
 // Whether the sources of the kept moves are noted.
-pub fn is_noted(marks: &Marks) -> bool
+pub fn is_noted(marks: &States) -> bool
     ensures { λ b. ⌜ b ≡ isNoted (now (marks .entry)) ⌝ }
 {
     marks[128] == 1
 }
 
-pub fn set_noted(marks: &mut Marks)
+pub fn set_noted(marks: &mut States)
     ensures { λ _. ⌜ (statesOf (now (marks .exit)) ≡ statesOf (now (marks .entry))) × (isNoted (now (marks .exit)) ≡ true) ⌝ }
 {
     told_marks(*marks);
@@ -193,7 +193,7 @@ pub fn writer_of(w: &SparseMap, u: AllocationUnit) -> Writer
 }
 
 // Whether the writer of a unit is open.
-fn is_open(w: &SparseMap, marks: &Marks, u: AllocationUnit) -> bool
+fn is_open(w: &SparseMap, marks: &States, u: AllocationUnit) -> bool
     requires { ⌜ Linked (now w) × (u .0 < 4608) ⌝ }
     ensures { λ b. ⌜ b ≡ isOpen (statesOf (now (marks .entry))) (keptWriter (now (w .entry)) (u .0)) ⌝ }
 {
@@ -204,7 +204,7 @@ fn is_open(w: &SparseMap, marks: &Marks, u: AllocationUnit) -> bool
 }
 
 // Whether a writer of a move's source is open.
-pub fn has_open_writer(t: &RegInfo, e: &Entries, w: &SparseMap, marks: &Marks, m: usize) -> bool
+pub fn has_open_writer(t: &RegInfo, e: &Entries, w: &SparseMap, marks: &States, m: usize) -> bool
     requires { ⌜ Ready (regInfoOf (now t)) (now e) (now w) × (m < length (movesOf (now e))) ⌝ }
     ensures { λ b. ⌜ ((f : Function) → b ≡ any (λ x. isPending (statesOf (now (marks .entry)) x)) (writers (regInfoOf (now (t .entry))) f (movesOf (now (e .entry))) m)) ⌝ }
 {
@@ -221,7 +221,7 @@ pub fn has_open_writer(t: &RegInfo, e: &Entries, w: &SparseMap, marks: &Marks, m
 }
 
 // The writer of a unit, if it is open and does not carry the value yet, carries it. Gives how many more do.
-fn carry_one(w: &SparseMap, marks: &Marks, c: &mut Carried, u: AllocationUnit, v: Value) -> u16
+fn carry_one(w: &SparseMap, marks: &States, c: &mut Carried, u: AllocationUnit, v: Value) -> u16
     requires { ⌜ Linked (now w) × (u .0 < 4608) × (countOf (now c) < 1024) ⌝ }
     ensures { λ n. ⌜ CarriedAs (statesOf (now (marks .entry))) (v .0) (now (c .entry)) (now (c .exit)) n 1 (carryFor (v .0) (statesOf (now (marks .entry))) (keptWriter (now (w .entry)) (u .0))) ⌝ }
 {
@@ -243,7 +243,7 @@ pub fn carry(
     t: &RegInfo,
     e: &Entries,
     w: &SparseMap,
-    marks: &Marks,
+    marks: &States,
     c: &mut Carried,
     m: usize,
 ) -> u16
@@ -277,7 +277,7 @@ pub fn note_sources(t: &RegInfo, e: &Entries, sources: &mut RegUnitSet)
 }
 
 // No move is visited, no source noted, and no value of a kept move carried, whatever the tables held. The other cells of d stay as they are.
-pub fn start(e: &Entries, d: &mut Diverted, marks: &mut Marks)
+pub fn start(e: &Entries, d: &mut Diversions, marks: &mut States)
     requires { ⌜ Small (movesOf (now e)) ⌝ }
     ensures { λ _. ⌜ (statesOf (now (marks .exit)) ≡ allNew) × (isNoted (now (marks .exit)) ≡ false) × ((i : ℕ) → i < length (movesOf (now (e .entry))) → getD (now (d .exit)) (getD (movesOf (now (e .entry))) i noMove .value) 0 ≡ 0) × (now (marks .exit) ≡ replicate 129 0) × (now (d .exit) ≡ uncounted (movesOf (now (e .entry))) (now (d .entry))) ⌝ }
 {

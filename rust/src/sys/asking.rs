@@ -1,8 +1,8 @@
 //! Patches asked for, and taken later: `asking_c`.
 
 use super::{
-    Carried, Diverted, EditBuffer, Entries, Function, Marks, Opened, RegInfo, RegUnitSet,
-    SlotCache, Slots, SparseMap, table,
+    Carried, Diversions, EditBuffer, Entries, Function, States, Opened, RegInfo, RegUnitSet,
+    EmergencySpillSlotCache, Slots, SparseMap, table,
 };
 use crate::entity::RegUnit;
 
@@ -15,7 +15,7 @@ unsafe extern "C" {
         free_units_length: usize,
         numbers: *const u32,
         numbers_length: usize,
-        cache: &SlotCache,
+        cache: &EmergencySpillSlotCache,
         list: *mut u64,
         list_length: usize,
         refusal: &mut u8,
@@ -28,13 +28,13 @@ unsafe extern "C" {
         sources: &mut RegUnitSet,
         edits: &mut EditBuffer,
         slots: &mut Slots,
-        diverted: &mut Diverted,
-        marks: &mut Marks,
+        diverted: &mut Diversions,
+        marks: &mut States,
         carried: &mut Carried,
     ) -> usize;
 
     #[link_name = "parallel_moves_take_4"]
-    fn parallel_moves_take(made: u16, stamp: u64, slots: &Slots, cache: &mut SlotCache) -> u8;
+    fn parallel_moves_take(made: u16, stamp: u64, slots: &Slots, cache: &mut EmergencySpillSlotCache) -> u8;
 }
 
 /// What an asking left to take: of which opened function, the table of slots of

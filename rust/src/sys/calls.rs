@@ -3,8 +3,8 @@
 use std::sync::atomic::Ordering;
 
 use super::{
-    Carried, Diverted, EditBuffer, Entries, Function, Marks, NEXT, Opened, RegInfo, RegUnitSet,
-    SlotCache, Slots, SparseMap, Tables, table,
+    Carried, Diversions, EditBuffer, Entries, Function, States, NEXT, Opened, RegInfo, RegUnitSet,
+    EmergencySpillSlotCache, Slots, SparseMap, Tables, table,
 };
 use crate::entity::RegUnit;
 
@@ -16,7 +16,7 @@ unsafe extern "C" {
         bytes_length: usize,
         target: &mut RegInfo,
         function: &mut Function,
-        cache: &mut SlotCache,
+        cache: &mut EmergencySpillSlotCache,
     ) -> u8;
 
     #[link_name = "parallel_moves_enough_slots_4"]
@@ -37,7 +37,7 @@ unsafe extern "C" {
         free_units_length: usize,
         numbers: *const u32,
         numbers_length: usize,
-        cache: &mut SlotCache,
+        cache: &mut EmergencySpillSlotCache,
         list: *mut u64,
         list_length: usize,
         refusal: &mut u8,
@@ -48,13 +48,13 @@ unsafe extern "C" {
         sources: &mut RegUnitSet,
         edits: &mut EditBuffer,
         slots: &mut Slots,
-        diverted: &mut Diverted,
-        marks: &mut Marks,
+        diverted: &mut Diversions,
+        marks: &mut States,
         carried: &mut Carried,
     ) -> usize;
 
     #[link_name = "parallel_moves_made_4"]
-    safe fn parallel_moves_made(cache: &SlotCache) -> u16;
+    safe fn parallel_moves_made(cache: &EmergencySpillSlotCache) -> u16;
 }
 
 impl Tables {

@@ -3,7 +3,7 @@
 use std::sync::atomic::Ordering;
 
 use super::{
-    Carried, Diverted, EditBuffer, Entries, Function, Marks, NEXT, RegInfo, RegUnitSet, SlotCache,
+    Carried, Diversions, EditBuffer, Entries, Function, States, NEXT, RegInfo, RegUnitSet, EmergencySpillSlotCache,
     Slots, SparseMap, Tables, table,
 };
 use crate::entity::RegUnit;
@@ -29,7 +29,7 @@ unsafe extern "C" {
         bytes_length: usize,
         target: &mut RegInfo,
         function: &mut Function,
-        cache: &mut SlotCache,
+        cache: &mut EmergencySpillSlotCache,
     ) -> u8;
 
     #[link_name = "parallel_moves_frame_resolve_4"]
@@ -42,7 +42,7 @@ unsafe extern "C" {
         free_units_length: usize,
         numbers: *const u32,
         numbers_length: usize,
-        cache: &mut SlotCache,
+        cache: &mut EmergencySpillSlotCache,
         list: *mut u64,
         list_length: usize,
         refusal: &mut u8,
@@ -53,8 +53,8 @@ unsafe extern "C" {
         sources: &mut RegUnitSet,
         edits: &mut EditBuffer,
         slots: &mut Slots,
-        diverted: &mut Diverted,
-        marks: &mut Marks,
+        diverted: &mut Diversions,
+        marks: &mut States,
         carried: &mut Carried,
     ) -> usize;
 
@@ -68,7 +68,7 @@ unsafe extern "C" {
         free_units_length: usize,
         numbers: *const u32,
         numbers_length: usize,
-        cache: &SlotCache,
+        cache: &EmergencySpillSlotCache,
         list: *mut u64,
         list_length: usize,
         refusal: &mut u8,
@@ -83,8 +83,8 @@ unsafe extern "C" {
         sources: &mut RegUnitSet,
         edits: &mut EditBuffer,
         slots: &mut Slots,
-        diverted: &mut Diverted,
-        marks: &mut Marks,
+        diverted: &mut Diversions,
+        marks: &mut States,
         carried: &mut Carried,
     ) -> usize;
 
@@ -96,7 +96,7 @@ unsafe extern "C" {
         stamp: u64,
         counter: u16,
         slots: &Slots,
-        cache: &mut SlotCache,
+        cache: &mut EmergencySpillSlotCache,
     ) -> u8;
 
     #[link_name = "parallel_moves_frame_made_4"]

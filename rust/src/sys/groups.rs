@@ -1,8 +1,8 @@
 //! Patches by groups: `groups_c`.
 
 use super::{
-    Carried, Diverted, EditBuffer, Entries, Function, Marks, Opened, RegInfo, RegUnitSet,
-    SlotCache, Slots, SparseMap, table,
+    Carried, Diversions, EditBuffer, Entries, Function, States, Opened, RegInfo, RegUnitSet,
+    EmergencySpillSlotCache, Slots, SparseMap, table,
 };
 use crate::entity::RegUnit;
 
@@ -22,7 +22,7 @@ unsafe extern "C" {
         free_units_length: usize,
         numbers: *const u32,
         numbers_length: usize,
-        cache: &mut SlotCache,
+        cache: &mut EmergencySpillSlotCache,
         list: *mut u64,
         list_length: usize,
         refusal: &mut u8,
@@ -34,14 +34,14 @@ unsafe extern "C" {
         sources: &mut RegUnitSet,
         edits: &mut EditBuffer,
         slots: &mut Slots,
-        diverted: &mut Diverted,
-        marks: &mut Marks,
+        diverted: &mut Diversions,
+        marks: &mut States,
         carried: &mut Carried,
         owners: &mut Owners,
         labels: &mut Labels,
         next: &mut Labels,
         common: &mut RegUnitSet,
-        work: &mut SlotCache,
+        work: &mut EmergencySpillSlotCache,
         joined: &mut Joined,
     ) -> usize;
 }
@@ -52,7 +52,7 @@ pub(super) struct GroupTables {
     labels: Box<Labels>,
     next: Box<Labels>,
     common: Box<RegUnitSet>,
-    work: Box<SlotCache>,
+    work: Box<EmergencySpillSlotCache>,
     joined: Box<Joined>,
 }
 

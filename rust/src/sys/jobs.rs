@@ -1,7 +1,7 @@
 //! Whole jobs, and the text of an answer: `parallel_moves_c`.
 
 use super::{
-    Carried, Diverted, EditBuffer, Entries, Function, Marks, RegInfo, RegUnitSet, SlotCache, Slots,
+    Carried, Diversions, EditBuffer, Entries, Function, States, RegInfo, RegUnitSet, EmergencySpillSlotCache, Slots,
     SparseMap, Tables,
 };
 
@@ -16,7 +16,7 @@ unsafe extern "C" {
         refusal: &mut u8,
         target: &mut RegInfo,
         function: &mut Function,
-        cache: &mut SlotCache,
+        cache: &mut EmergencySpillSlotCache,
         free: &mut RegUnitSet,
         entries: &mut Entries,
         writers: &mut SparseMap,
@@ -24,8 +24,8 @@ unsafe extern "C" {
         sources: &mut RegUnitSet,
         edits: &mut EditBuffer,
         slots: &mut Slots,
-        diverted: &mut Diverted,
-        marks: &mut Marks,
+        diverted: &mut Diversions,
+        marks: &mut States,
         carried: &mut Carried,
     ) -> usize;
 

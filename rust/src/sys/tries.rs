@@ -1,8 +1,8 @@
 //! Settings tried on drawn patches: `trying_c`.
 
 use super::{
-    Carried, Diverted, EditBuffer, Entries, Function, Marks, Prices, RegInfo, RegUnitSet,
-    SlotCache, Slots, SparseMap, Tables,
+    Carried, Diversions, EditBuffer, Entries, Function, States, Prices, RegInfo, RegUnitSet,
+    EmergencySpillSlotCache, Slots, SparseMap, Tables,
 };
 
 /// Accepted patches, M, R, S, L, evictions and price; then the refusals by number.
@@ -20,15 +20,15 @@ unsafe extern "C" {
         two: &mut Tally,
         target: &mut RegInfo,
         function: &mut Function,
-        cache: &mut SlotCache,
+        cache: &mut EmergencySpillSlotCache,
         entries: &mut Entries,
         writers: &mut SparseMap,
         available: &mut RegUnitSet,
         sources: &mut RegUnitSet,
         edits: &mut EditBuffer,
         slots: &mut Slots,
-        diverted: &mut Diverted,
-        marks: &mut Marks,
+        diverted: &mut Diversions,
+        marks: &mut States,
         carried: &mut Carried,
     ) -> u8;
 }

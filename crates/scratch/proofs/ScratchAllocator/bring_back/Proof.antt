@@ -10,7 +10,7 @@ use Rattle.scratch.proofs.ScratchAllocator.bring_back.Reads as reads
 use Rattle.scratch.proofs.ScratchAllocator.bring_back.Lts as lts
 use Rattle.edit.proofs.push_spill.Reads as push-spill-reads
 use Rattle.reginfo.proofs.spillslot_size.Reads as spillslot-size-reads
-use Rattle.slots.proofs.put_back.Reads as put-back-reads
+use Rattle.slots.proofs.release.Reads as release-reads
 
 push-spill-requires : tie.Need-push-spill-requires
 push-spill-requires c κs =
@@ -20,14 +20,14 @@ push-spill-requires c κs =
 spillslot-size-requires : tie.Need-spillslot-size-requires
 spillslot-size-requires c κs = let pre = c .before .before .before .pre in known-bank _ (pre .0 .target) _ (pre .1 .2)
 
-put-back-requires : tie.Need-put-back-requires
-put-back-requires c κs =
+release-requires : tie.Need-release-requires
+release-requires c κs =
     let pre = c .before .before .before .before .pre in
     let z : c .spillslot-size .result < 32 = omega (arith, c .spillslot-size .ensures, size-fits _ (pre .0 .target) _ (pre .1 .2)) in
     (z, fits-more _ 1024 _ (omega (arith, pre .2 .own, pre .2 .few)) (pre .2 .put), omega (arith, pre .2 .put .own _ z, pre .2 .own, pre .2 .few))
 
 returns : tie.Need-returns
-returns c = back-made _ _ _ _ _ _ _ _ _ (c .before .before .before .before .before .pre .1) (c .before .before .before .push-spill .ensures) (rw (c .before .spillslot-size .ensures) at (c .put-back .ensures))
+returns c = back-made _ _ _ _ _ _ _ _ _ (c .before .before .before .before .before .pre .1) (c .before .before .before .push-spill .ensures) (rw (c .before .spillslot-size .ensures) at (c .release .ensures))
 
 pub bring-back-spec : {M : Type 1} → statement M
 bring-back-spec =
@@ -35,5 +35,5 @@ bring-back-spec =
     (tie.spec
     push-spill-requires
     spillslot-size-requires
-    put-back-requires
+    release-requires
     returns)

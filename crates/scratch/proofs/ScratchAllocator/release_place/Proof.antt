@@ -23,8 +23,8 @@ returns c = λ cache edits available. released-reg _ _ _ _ _ _ _ _ _ _ _ (c .bef
 spillslot-size-requires : tie.Need-spillslot-size-requires
 spillslot-size-requires c κs = let pre = c .before .before .before .before .before .pre in known-bank _ (pre .0 .target) _ (pre .1)
 
-put-back-requires : tie.Need-put-back-requires
-put-back-requires c κs =
+release-requires : tie.Need-release-requires
+release-requires c κs =
     let pre = c .before .before .before .before .before .before .pre in
     let z : c .spillslot-size .result < 32 = omega (arith, c .spillslot-size .ensures, size-fits _ (pre .0 .target) _ (pre .1)) in
     (z, fits-more _ 1024 _ (omega arith) (pre .3), omega (arith, pre .3 .own _ z))
@@ -32,7 +32,7 @@ put-back-requires c κs =
 returns-2 : tie.Need-returns-2
 returns-2 c =
     let pre = c .before .before .before .before .before .before .before .pre in
-    λ cache edits available. released-slot _ _ _ _ _ _ _ _ _ _ _ _ _ (pre .2 .small) (c .before .before .before .before .before .before .kind .ensures) (c .before .before .before .before .s .given .1) (c .before .spillslot-size .ensures) (c .put-back .ensures)
+    λ cache edits available. released-slot _ _ _ _ _ _ _ _ _ _ _ _ _ (pre .2 .small) (c .before .before .before .before .before .before .kind .ensures) (c .before .before .before .before .s .given .1) (c .before .spillslot-size .ensures) (c .release .ensures)
 
 pub release-place-spec : {M : Type 1} → statement M
 release-place-spec =
@@ -43,5 +43,5 @@ release-place-spec =
     enum-told
     returns
     spillslot-size-requires
-    put-back-requires
+    release-requires
     returns-2)

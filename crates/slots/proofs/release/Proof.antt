@@ -1,9 +1,9 @@
--- `put_back` meets its contract.
+-- `release` meets its contract.
 use native.Mathlib.Omega.{arith}
 use borrow.Author.Needs.{needs}
 use Rattle.slots.proofs.Laws.{put}
-use Rattle.slots.proofs.put_back.Statement.{statement}
-use Rattle.slots.proofs.put_back.Tie as tie
+use Rattle.slots.proofs.release.Statement.{statement}
+use Rattle.slots.proofs.release.Tie as tie
 
 told-slots-requires : tie.Need-told-slots-requires
 told-slots-requires c κs = search needs
@@ -59,8 +59,8 @@ returns c =
     let w = c .before .before .before .wide in
     put (s .args .slots .now) (c .before .before .before .before .before .told-slots .ensures) (s .args .z) (s .pre .0) (s .pre .1) (w .result) (s .args .s .0) (w .ensures .0) (omega arith) _ (rw (c .before .before .narrow .ensures) at (c .touch .ensures))
 
-pub put-back-spec : {M : Type 1} → statement M
-put-back-spec =
+pub release-spec : {M : Type 1} → statement M
+release-spec =
     tie.close
     (tie.spec
     told-slots-requires
