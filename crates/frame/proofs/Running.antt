@@ -23,11 +23,10 @@ use Rattle.schedule.specs.declared.Left.{Left}
 use Rattle.schedule.specs.declared.Left.the-variants.{Nothing}
 use Rattle.schedule.specs.Standing.{Stands, FrameOn}
 use Rattle.schedule.proofs.Standing.{stays-on, noted-on, other-stands}
-use Rattle.frame.specs.declared.Progress.{Progress}
 use Rattle.frame.specs.declared.Record.{Record}
 use Rattle.frame.specs.declared.Record.the-variants.{Is}
 use Rattle.frame.specs.Opening.{SharesAt, formulaOf, FormulaAt, IfThere}
-use Rattle.frame.specs.Running.{StandsIf, BothOpen, AllAt, Goes, Within}
+use Rattle.frame.specs.Running.{StandsIf, BothOpen, AllAt, Both, Goes, Within}
 
 -- ---- opened
 pub record FrameOpen (s frame : List ℕ) (at : ℕ) : Type 0 where
@@ -109,67 +108,48 @@ both-open frame frame₁ frame₂ s at next t₁ f₁ cache₁ cache₁′ t₂ 
 pub goes-first : (frame t₁ f₁ cache₁ slots₁ t₂ f₂ cache₂ slots₂ s : List ℕ) (at : ℕ) → BothOpen frame t₁ f₁ cache₁ t₂ f₂ cache₂ s at
     → Goes frame t₁ f₁ cache₁ slots₁ t₂ f₂ cache₂ slots₂ s (record { at = at; calls = 0; one = Nothing; two = Nothing })
 goes-first frame t₁ f₁ cache₁ slots₁ t₂ f₂ cache₂ slots₂ s at b =
-    record { ok = b .ok; few = b .few; one = b .one slots₁; two = b .two slots₂; counted = omega arith; within = b .within }
+    record { ok = b .ok; few = b .few; own = b .one slots₁; other = b .two slots₂; counted = omega arith; within = b .within }
 
--- what a call of formula i leaves
-pub record CallLeaves (frame frame′ : List ℕ) (i : ℕ) (t f cache slots : List ℕ) (left : Left) (s : List ℕ) (at at′ : ℕ) : Type 0 where
-  pub ok : FrameOk frame′
-  pub on : FrameOn frame frame′
-  pub stands : Stands frame′ i t f cache slots left at′
-  pub ahead : at ≤ at′
-  pub within : at′ ≤ length s
+module _ (frame s : List ℕ) (at calls : ℕ) (i : ℕ) (t f cache slots : List ℕ) (left : Left) (j : ℕ) (t′ f′ cache′ slots′ : List ℕ) (left′ : Left)
+    (g : Both frame s at calls i t f cache slots left j t′ f′ cache′ slots′ left′) where
+  -- either of the two can make the next call
+  pub exchanged : Both frame s at calls j t′ f′ cache′ slots′ left′ i t f cache slots left
+  exchanged = record { ok = g .ok; few = g .few; own = g .other; other = g .own; counted = g .counted; within = g .within }
 
-module _ (frame frame′ t₁ f₁ cache₁ slots₁ t₂ f₂ cache₂ slots₂ s : List ℕ) (p : Progress) (g : Goes frame t₁ f₁ cache₁ slots₁ t₂ f₂ cache₂ slots₂ s p) (next : ℕ) (over : p .at < next) where
-  -- before a call the formula stands at the offset past its number
-  pub first-stands : 0 < numberOf frame → Stands frame 0 t₁ f₁ cache₁ slots₁ (p .one) next
-  first-stands there = other-if frame frame 0 t₁ f₁ cache₁ slots₁ (p .one) (p .at) next (stays-on frame) (omega arith) (g .one) there
+  -- it stands at the offset past its number
+  pub own-stands : (next : ℕ) → at < next → i < numberOf frame → Stands frame i t f cache slots left next
+  own-stands next over there = other-if frame frame i t f cache slots left at next (stays-on frame) (omega arith) (g .own) there
 
-  pub second-stands : 1 < numberOf frame → Stands frame 1 t₂ f₂ cache₂ slots₂ (p .two) next
-  second-stands there = other-if frame frame 1 t₂ f₂ cache₂ slots₂ (p .two) (p .at) next (stays-on frame) (omega arith) (g .two) there
+  -- after its call both stand
+  pub called : (next : ℕ) → at < next → (frame″ cache″ slots″ : List ℕ) (left″ : Left) (at″ : ℕ)
+      → FrameOk frame″ × FrameOn frame frame″ × Stands frame″ i t f cache″ slots″ left″ at″ × (next ≤ at″) × (at″ ≤ length s)
+      → Both frame″ s at″ (calls + 1) i t f cache″ slots″ left″ j t′ f′ cache′ slots′ left′ × (at < at″)
+  called next over frame″ cache″ slots″ left″ at″ c =
+      let ahead : at < at″ = omega (arith, over, c .3) in (
+        record {
+          ok = c .0;
+          few = omega (arith, g .few, c .1 .number);
+          own = λ _. c .2;
+          other = other-if frame frame″ j t′ f′ cache′ slots′ left′ at at″ (c .1) (omega (arith, ahead)) (g .other);
+          counted = omega (arith, g .counted, ahead);
+          within = c .4;
+        },
+        ahead,
+      )
 
-  module _ (at′ calls : ℕ) (counted : calls ≡ p .calls + 1) where
-    pub first-called : (cache′ slots′ : List ℕ) (left′ : Left) → CallLeaves frame frame′ 0 t₁ f₁ cache′ slots′ left′ s next at′
-        → Goes frame′ t₁ f₁ cache′ slots′ t₂ f₂ cache₂ slots₂ s (record { at = at′; calls = calls; one = left′; two = p .two }) × (p .at < at′)
-    first-called cache′ slots′ left′ c = (
-      record {
-        ok = c .ok;
-        few = omega (arith, g .few, c .on .number);
-        one = λ _. c .stands;
-        two = other-if frame frame′ 1 t₂ f₂ cache₂ slots₂ (p .two) (p .at) at′ (c .on) (omega (arith, over, c .ahead)) (g .two);
-        counted = omega (arith, counted, g .counted, over, c .ahead);
-        within = c .within;
-      },
-      omega (arith, over, c .ahead),
-    )
-
-    pub second-called : (cache′ slots′ : List ℕ) (left′ : Left) → CallLeaves frame frame′ 1 t₂ f₂ cache′ slots′ left′ s next at′
-        → Goes frame′ t₁ f₁ cache₁ slots₁ t₂ f₂ cache′ slots′ s (record { at = at′; calls = calls; one = p .one; two = left′ }) × (p .at < at′)
-    second-called cache′ slots′ left′ c = (
-      record {
-        ok = c .ok;
-        few = omega (arith, g .few, c .on .number);
-        one = other-if frame frame′ 0 t₁ f₁ cache₁ slots₁ (p .one) (p .at) at′ (c .on) (omega (arith, over, c .ahead)) (g .one);
-        two = λ _. c .stands;
-        counted = omega (arith, counted, g .counted, over, c .ahead);
-        within = c .within;
-      },
-      omega (arith, over, c .ahead),
-    )
-
--- what is no call ends the schedule
-pub goes-ended : (frame t₁ f₁ cache₁ slots₁ t₂ f₂ cache₂ slots₂ s : List ℕ) (p q : Progress) → Goes frame t₁ f₁ cache₁ slots₁ t₂ f₂ cache₂ slots₂ s p → p .at < length s
-    → (q .at ≡ length s) × (q .calls ≡ p .calls) × (q .one ≡ p .one) × (q .two ≡ p .two) → Goes frame t₁ f₁ cache₁ slots₁ t₂ f₂ cache₂ slots₂ s q × (p .at < q .at)
-goes-ended frame t₁ f₁ cache₁ slots₁ t₂ f₂ cache₂ slots₂ s p q g l e = (
-  record {
-    ok = g .ok;
-    few = g .few;
-    one = rw (e .2) (other-if frame frame 0 t₁ f₁ cache₁ slots₁ (p .one) (p .at) (q .at) (stays-on frame) (omega (arith, e .0)) (g .one));
-    two = rw (e .3) (other-if frame frame 1 t₂ f₂ cache₂ slots₂ (p .two) (p .at) (q .at) (stays-on frame) (omega (arith, e .0)) (g .two));
-    counted = omega (arith, e .0, e .1, g .counted);
-    within = omega (arith, e .0);
-  },
-  omega (arith, e .0),
-)
+  -- what is no call ends the schedule
+  pub ended : (at″ : ℕ) → at < length s → at″ ≡ length s → Both frame s at″ calls i t f cache slots left j t′ f′ cache′ slots′ left′ × (at < at″)
+  ended at″ l e = (
+    record {
+      ok = g .ok;
+      few = g .few;
+      own = other-if frame frame i t f cache slots left at at″ (stays-on frame) (omega (arith, e)) (g .own);
+      other = other-if frame frame j t′ f′ cache′ slots′ left′ at at″ (stays-on frame) (omega (arith, e)) (g .other);
+      counted = omega (arith, e, g .counted);
+      within = omega (arith, e);
+    },
+    omega (arith, e),
+  )
 
 pub read-within : (buf : List ℕ) (r : Record) (n : ℕ) → Within buf r → r ≡ Is n → n ≤ length buf
 read-within buf r n h e = let a : Within buf (Is n) = rw e at h in a

@@ -29,14 +29,18 @@ abbrev pub AllAt : (frame t₁ f₁ cache₁ t₂ f₂ cache₂ s : List ℕ) �
 AllAt frame t₁ f₁ cache₁ t₂ f₂ cache₂ s (X.At at) = BothOpen frame t₁ f₁ cache₁ t₂ f₂ cache₂ s at
 AllAt frame t₁ f₁ cache₁ t₂ f₂ cache₂ s (X.Refused k) = Unit {0}
 
--- between two calls
-pub record Goes (frame t₁ f₁ cache₁ slots₁ t₂ f₂ cache₂ slots₂ s : List ℕ) (p : Progress) : Type 0 where
+-- between two calls, of a formula and the other
+pub record Both (frame s : List ℕ) (at calls : ℕ) (i : ℕ) (t f cache slots : List ℕ) (left : Left) (j : ℕ) (t′ f′ cache′ slots′ : List ℕ) (left′ : Left) : Type 0 where
   pub ok : FrameOk frame
   pub few : numberOf frame ≤ 2
-  pub one : StandsIf frame 0 t₁ f₁ cache₁ slots₁ (p .one) (p .at)
-  pub two : StandsIf frame 1 t₂ f₂ cache₂ slots₂ (p .two) (p .at)
-  pub counted : p .calls ≤ p .at
-  pub within : p .at ≤ length s
+  pub own : StandsIf frame i t f cache slots left at
+  pub other : StandsIf frame j t′ f′ cache′ slots′ left′ at
+  pub counted : calls ≤ at
+  pub within : at ≤ length s
+
+abbrev pub Goes : (frame t₁ f₁ cache₁ slots₁ t₂ f₂ cache₂ slots₂ s : List ℕ) → Progress → Type 0
+Goes frame t₁ f₁ cache₁ slots₁ t₂ f₂ cache₂ slots₂ s p =
+    Both frame s (p .at) (p .calls) 0 t₁ f₁ cache₁ slots₁ (p .one) 1 t₂ f₂ cache₂ slots₂ (p .two)
 
 -- a schedule that was read lies within the lent bytes
 abbrev pub Within : (buf : List ℕ) → Record → Type 0

@@ -1,3 +1,4 @@
+-- What was opened is what the calls begin with.
 use borrow.Author.Needs.{needs}
 use Rattle.frame.proofs.answer.Statement.{statement}
 use Rattle.frame.proofs.answer.Tie as tie

@@ -1,3 +1,4 @@
+-- The schedule lies within the bytes that were lent for it.
 use Prim.Native.Nat.{ℕ}
 use lib.ListN.{length-replicate}
 use lib.Seq.{length-take-le}
@@ -39,10 +40,14 @@ say-requires : tie.Need-say-requires
 say-requires c κs = search needs
 
 array-share-prefix-buf : tie.Need-array-share-prefix-buf
-array-share-prefix-buf c = let r = c .before .before .before .before .before .before .read-schedule in omega (arith, read-within (r .last .0) (r .result) _ (r .ensures) (c .before .before .before .n .given .1), r .kept .0, length-replicate {A = ℕ} 4000 0)
+array-share-prefix-buf c =
+    let r = c .before .before .before .before .before .before .read-schedule in
+    omega (arith, read-within (r .last .0) (r .result) _ (r .ensures) (c .before .before .before .n .given .1), r .kept .0, length-replicate {A = ℕ} 4000 0)
 
 slice-aggregate-answer : tie.Need-slice-aggregate-answer
-slice-aggregate-answer c = let r = c .before .before .before .before .before .before .before .read-schedule in sym (length-take-le _ (r .last .0) (read-within (r .last .0) (r .result) _ (r .ensures) (c .before .before .before .before .n .given .1)))
+slice-aggregate-answer c =
+    let r = c .before .before .before .before .before .before .before .read-schedule in
+    sym (length-take-le _ (r .last .0) (read-within (r .last .0) (r .result) _ (r .ensures) (c .before .before .before .before .n .given .1)))
 
 answer-requires : tie.Need-answer-requires
 answer-requires c κs = search needs

@@ -1,3 +1,4 @@
+-- The text lies within the bytes that were lent for it.
 use lib.Seq.{length-take-le}
 use mathlib.Core.Path.{sym}
 use native.Mathlib.Omega.{arith}
@@ -21,7 +22,9 @@ array-share-prefix-out : tie.Need-array-share-prefix-out
 array-share-prefix-out c = search needs
 
 slice-aggregate-write-all : tie.Need-slice-aggregate-write-all
-slice-aggregate-write-all c = let k = c .before .before .answer-call in sym (length-take-le (k .result .len) (k .last .1 .1 .1 .1 .1 .1 .1 .1 .1 .0) (omega (arith, k .ensures .1 .5, k .kept .1 .1 .1 .1 .1 .1 .1 .1 .1 .0)))
+slice-aggregate-write-all c =
+    let k = c .before .before .answer-call in
+    sym (length-take-le (k .result .len) (k .last .1 .1 .1 .1 .1 .1 .1 .1 .1 .0) (omega (arith, k .ensures .1 .5, k .kept .1 .1 .1 .1 .1 .1 .1 .1 .1 .0)))
 
 write-all-requires : tie.Need-write-all-requires
 write-all-requires c κs = search needs

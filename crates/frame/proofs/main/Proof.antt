@@ -1,3 +1,4 @@
+-- At most 100,000 schedules.
 use borrow.Author.Needs.{needs}
 use Prim.Native.Nat.{_-_}
 use native.Mathlib.Omega.{arith}

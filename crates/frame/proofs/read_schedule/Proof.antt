@@ -1,3 +1,4 @@
+-- No more is read than was lent.
 use lib.Seq.{length-take-le}
 use mathlib.Core.Path.{sym}
 use borrow.Author.Needs.{needs}

@@ -1,3 +1,4 @@
+-- Between the calls both formulas stand.
 use borrow.Author.Needs.{needs}
 use lib.ListN.{length}
 use Prim.Native.Nat.{_-_}
@@ -15,7 +16,9 @@ abbrev μ-loop : tie.MeasureT-loop
 μ-loop frame₀ t1 f1 cache1₀ t2 f2 cache2₀ s from slots1₀ slots2₀ p₀ frame cache1 cache2 slots1 slots2 p = length s - p .at
 
 loop-holds : tie.Need-loop-holds Inv-loop μ-loop
-loop-holds c = let a = c .before .args in goes-first (a .frame .now) (a .t1 .now) (a .f1 .now) (a .cache1 .now) _ (a .t2 .now) (a .f2 .now) (a .cache2 .now) _ (a .s .now) (a .from) (c .before .pre)
+loop-holds c =
+    let a = c .before .args in
+    goes-first (a .frame .now) (a .t1 .now) (a .f1 .now) (a .cache1 .now) _ (a .t2 .now) (a .f2 .now) (a .cache2 .now) _ (a .s .now) (a .from) (c .before .pre)
 
 next-call-requires : tie.Need-next-call-requires Inv-loop μ-loop
 next-call-requires c κs = (c .before .before .before .before .before .before .before .loop .inv, c .before .before .before .before .before .if1 .taken)

@@ -1,3 +1,4 @@
+-- The text is that of the rules' answer, and what is left is what the asking handed back.
 use Rattle.frame_calls.specs.Answers.{answerOf}
 use Rattle.schedule.proofs.Answering.{asking-refused, asking-ready, few-shown}
 use borrow.Author.Needs.{needs}

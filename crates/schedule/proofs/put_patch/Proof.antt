@@ -1,3 +1,4 @@
+-- The text of 1,024 edits has room.
 use mathlib.Core.Path.{_≡_}
 use lib.ListN.{length, take}
 use lib.Seq.{length-take-le}

@@ -1,3 +1,4 @@
+-- The line of a refusal has room.
 use Rattle.print.proofs.Lengths.{refused-short}
 use native.Mathlib.Omega.{arith}
 use borrow.Author.Needs.{needs}

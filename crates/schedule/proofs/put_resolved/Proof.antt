@@ -1,3 +1,4 @@
+-- The text is that of the rules' answer, with the formula's own count of slots.
 use Rattle.frame_calls.specs.Answers.{answerOf}
 use Rattle.schedule.proofs.Answering.{refused-text, edits-text, few-edits}
 use borrow.Author.Needs.{needs}

@@ -1,3 +1,4 @@
+-- The numbers read so far stand at the front of the lent ones.
 use Prim.Native.Nat.{_-_}
 use borrow.Author.Needs.{needs}
 use native.Mathlib.Omega.{arith}
@@ -24,7 +25,10 @@ enum-known-k : tie.Need-enum-known-k Inv-loop μ-loop
 enum-known-k c = search needs
 
 returns : tie.Need-returns Inv-loop μ-loop
-returns c = let a = c .before .before .before .before .before .before .before .before .before .args in let l = c .before .before .before .before .before .loop in listing-refused (a .s .now) (a .from) (a .n) (l .numbers) (l .at) (l .i) (l .inv) (c .before .before .before .before .loop-test .taken) (c .before .before .before .read .result) (c .before .before .before .read .ensures) _ (c .before .k .given .1)
+returns c =
+    let a = c .before .before .before .before .before .before .before .before .before .args in
+    let l = c .before .before .before .before .before .loop in
+    listing-refused (a .s .now) (a .from) (a .n) (l .numbers) (l .at) (l .i) (l .inv) (c .before .before .before .before .loop-test .taken) (c .before .before .before .read .result) (c .before .before .before .read .ensures) _ (c .before .k .given .1)
 
 enum-known-x : tie.Need-enum-known-x Inv-loop μ-loop
 enum-known-x c = search needs
@@ -42,10 +46,16 @@ loop-less : tie.Need-loop-less Inv-loop μ-loop
 loop-less c = omega (arith, c .before .before .before .before .loop-test .taken)
 
 loop-again : tie.Need-loop-again Inv-loop μ-loop
-loop-again c = let a = c .before .before .before .before .before .before .before .before .before .args in let l = c .before .before .before .before .before .loop in listing-step (a .s .now) (a .from) (a .n) (l .numbers) (l .at) (l .i) (l .inv) (c .before .before .before .before .loop-test .taken) (c .before .before .before .read .result) (c .before .before .before .read .ensures) (c .before .before .before .before .before .before .before .before .before .pre) _ _ (c .before .x .given .1)
+loop-again c =
+    let a = c .before .before .before .before .before .before .before .before .before .args in
+    let l = c .before .before .before .before .before .loop in
+    listing-step (a .s .now) (a .from) (a .n) (l .numbers) (l .at) (l .i) (l .inv) (c .before .before .before .before .loop-test .taken) (c .before .before .before .read .result) (c .before .before .before .read .ensures) (c .before .before .before .before .before .before .before .before .before .pre) _ _ (c .before .x .given .1)
 
 returns-2 : tie.Need-returns-2 Inv-loop μ-loop
-returns-2 c = let a = c .before .before .before .before .before .args in let l = c .before .loop in listing-end (a .s .now) (a .from) (a .n) (l .numbers) (l .at) (l .i) (l .inv) (c .loop-test .left)
+returns-2 c =
+    let a = c .before .before .before .before .before .args in
+    let l = c .before .loop in
+    listing-end (a .s .now) (a .from) (a .n) (l .numbers) (l .at) (l .i) (l .inv) (c .loop-test .left)
 
 pub read-numbers-spec : {M : Type 1} → statement M
 read-numbers-spec =

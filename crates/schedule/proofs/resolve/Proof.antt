@@ -1,3 +1,4 @@
+-- The list has 1,024 words, and the working tables hold anything.
 use native.Mathlib.Omega.{arith}
 use borrow.Author.Needs.{needs}
 use Rattle.schedule.proofs.resolve.Statement.{statement}
@@ -10,7 +11,10 @@ resolve-in-requires : tie.Need-resolve-in-requires
 resolve-in-requires c κs = search needs
 
 returns : tie.Need-returns
-returns c = let told = c .before .before .before .before .before .before .before .before .before .before .before .before .before .told in let r = c .resolve-in in (rw (told .ensures) at (r .ensures .0), omega (arith, told .ensures, r .kept .1 .1 .1 .1 .1 .1 .1 .0))
+returns c =
+    let told = c .before .before .before .before .before .before .before .before .before .before .before .before .before .told in
+    let r = c .resolve-in in
+    (rw (told .ensures) at (r .ensures .0), omega (arith, told .ensures, r .kept .1 .1 .1 .1 .1 .1 .1 .0))
 
 pub resolve-spec : {M : Type 1} → statement M
 resolve-spec = tie.close (tie.spec told-requires resolve-in-requires returns)
