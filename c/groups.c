@@ -1,6 +1,7 @@
 /* Resolves patches by groups, and their groups one after the other with another
  * function's memory: the edits, slots and positions must be the same. A group that is out
- * of slots leaves list and cache as they were. Prints how many patches there were. It is
+ * of slots leaves list and cache as they were. Then the same patches as one job, by
+ * groups: the words must be those of the calls. Prints how many patches there were. It is
  * C and C++. */
 #include <stdio.h>
 #include <stdlib.h>
@@ -14,6 +15,10 @@ static struct parallel_moves_memory whole, parts;
 static struct parallel_moves_groups groups;
 static uint16_t cache[PARALLEL_MOVES_CACHE];
 static unsigned patches;
+/* The job of the patches so far, and its words as the calls give them. */
+static uint8_t job[MOST * MOST];
+static uint64_t expected[MOST * MOST];
+static size_t job_length, expected_length;
 
 /* Four registers, six slots, four values; two emergency slots may be made. */
 static const uint8_t bytes[] = {
@@ -31,9 +36,24 @@ static void fail(const char *what)
     exit(EXIT_FAILURE);
 }
 
+/* All of these numbers are below 128: a byte each. A rebuild has no fourth. */
+static void add_to_job(const struct patch *patch)
+{
+    job[job_length++] = PARALLEL_MOVES_AS(uint8_t, patch->units);
+    for (size_t i = 0; i < patch->units; i++) {
+        job[job_length++] = PARALLEL_MOVES_AS(uint8_t, patch->free_units[i]);
+    }
+    job[job_length++] = PARALLEL_MOVES_AS(uint8_t, patch->length / 4);
+    for (size_t i = 0; i < patch->length; i++) {
+        if (i % 4 != 3 || patch->numbers[i - 3] == 0) {
+            job[job_length++] = PARALLEL_MOVES_AS(uint8_t, patch->numbers[i]);
+        }
+    }
+}
+
 static void check(const struct patch *patch, const struct patch *each, size_t count)
 {
-    uint64_t list[MOST], joined[MOST];
+    uint64_t list[MOST], joined[MOST], head;
     uint8_t refusal;
     size_t edits = 0, got;
     for (size_t i = 0; i < count; i++) {
@@ -53,7 +73,35 @@ static void check(const struct patch *patch, const struct patch *each, size_t co
     if (parallel_moves_slots_made(whole.cache) != parallel_moves_slots_made(parts.cache)) {
         fail("slots");
     }
+    add_to_job(patch);
+    head = whole.position;
+    head = (head * 65536 + parallel_moves_slots_made(whole.cache)) * 65536 + got;
+    expected[expected_length++] = head * 8;
+    memcpy(expected + expected_length, list, got * sizeof *list);
+    expected_length += got;
     patches++;
+}
+
+/* The job of all of them; then with words for the bound of the first, a head and 8 for
+ * each of its moves: it stands, and the second gets 16. */
+static void check_job(void)
+{
+    static uint64_t words[MOST * MOST];
+    uint8_t refusal = 1;
+    size_t first = 1 + expected[0] / 8 % 65536;
+    size_t count = parallel_moves_answer_groups_in(
+        &parts, &groups, 1, job, job_length, words, MOST * MOST, &refusal);
+    if (refusal != 0 || count != expected_length
+        || memcmp(words, expected, count * sizeof *words) != 0) {
+        fail("a job");
+    }
+    words[first] = 7;
+    count = parallel_moves_answer_groups_in(
+        &parts, &groups, 1, job, job_length, words, 1 + 8 * 3, &refusal);
+    if (refusal != 16 || count != first || words[first] != 7
+        || memcmp(words, expected, count * sizeof *words) != 0) {
+        fail("a job with too few words");
+    }
 }
 
 int main(void)
@@ -76,9 +124,13 @@ int main(void)
         || parallel_moves_open_in(&parts, 1, bytes, sizeof bytes) != 0) {
         fail("opening");
     }
+    memcpy(job, bytes, sizeof bytes);
+    job[sizeof bytes] = 3;
+    job_length = sizeof bytes + 1;
     check(&spared, spared_each, 2);
     check(&between, between_each, 2);
     check(&nothing, NULL, 0);
+    check_job();
     memcpy(few, bytes, sizeof bytes);
     few[49] = 1;
     if (parallel_moves_open_in(&whole, 1, few, sizeof few) != 0) {

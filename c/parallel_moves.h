@@ -14,6 +14,8 @@
  *   frame: parallel_moves_frame_open, and what stands behind it;
  * - libparallel_moves_c.a, which `rt staticlib parallel_moves_c` builds, for a
  *   whole job as bytes: parallel_moves_answer_in, and parallel_moves_text;
+ * - libanswer_groups_c.a, which `rt staticlib answer_groups_c` builds, for the same by
+ *   groups: parallel_moves_answer_groups_in;
  * - libjob_writer_c.a, which `rt staticlib job_writer_c` builds, for the bytes of a
  *   job from its numbers: parallel_moves_write_in;
  * - libprice_c.a, which `rt staticlib price_c` builds, for what edits cost:
@@ -113,6 +115,7 @@
 #define PARALLEL_MOVES_OWNERS 4608
 #define PARALLEL_MOVES_LABELS 128
 #define PARALLEL_MOVES_JOINED 1024
+#define PARALLEL_MOVES_NUMBERS 512
 #define PARALLEL_MOVES_TALLY 263
 #define PARALLEL_MOVES_TIES 12416
 #define PARALLEL_MOVES_CELLS 67072
@@ -392,6 +395,35 @@ size_t parallel_moves_answer(
     uint16_t carried[PARALLEL_MOVES_CARRIED])
     PARALLEL_MOVES_SYMBOL("parallel_moves_answer");
 
+/* parallel_moves_answer with each patch by groups, as parallel_moves_resolve_groups has
+ * them: the same words and refusals; 17 where a group gets it. */
+size_t parallel_moves_answer_groups(
+    uint32_t kept_evictions,
+    const uint8_t *job, size_t job_length,
+    uint64_t *words, size_t words_length,
+    uint8_t *refusal,
+    uint16_t target[PARALLEL_MOVES_TARGET],
+    uint16_t function[PARALLEL_MOVES_FUNCTION],
+    uint16_t cache[PARALLEL_MOVES_CACHE],
+    bool free_units[PARALLEL_MOVES_UNITS],
+    uint16_t entries[PARALLEL_MOVES_ENTRIES],
+    uint16_t writers[PARALLEL_MOVES_WRITERS],
+    bool available[PARALLEL_MOVES_UNITS],
+    bool sources[PARALLEL_MOVES_UNITS],
+    uint64_t edits[PARALLEL_MOVES_EDITS],
+    uint16_t slots[PARALLEL_MOVES_SLOTS],
+    uint16_t diverted[PARALLEL_MOVES_DIVERTED],
+    uint8_t marks[PARALLEL_MOVES_MARKS],
+    uint16_t carried[PARALLEL_MOVES_CARRIED],
+    uint8_t owners[PARALLEL_MOVES_OWNERS],
+    uint8_t labels[PARALLEL_MOVES_LABELS],
+    uint8_t next[PARALLEL_MOVES_LABELS],
+    bool common[PARALLEL_MOVES_UNITS],
+    uint16_t work[PARALLEL_MOVES_CACHE],
+    uint64_t joined[PARALLEL_MOVES_JOINED],
+    uint32_t numbers[PARALLEL_MOVES_NUMBERS])
+    PARALLEL_MOVES_SYMBOL("parallel_moves_answer_groups");
+
 /* Writes the text of an answer, as the program `resolve` prints it: returns its
  * length, or 0 where `text` is too short; then the lines that fit stand at its
  * front, and the other bytes are as they were. It ends in a newline, not in a
@@ -532,10 +564,11 @@ static inline size_t parallel_moves_answer_in(
         memory->diverted, memory->marks, memory->carried);
 }
 
-/* What parallel_moves_resolve_groups_in works in beside the memory. What it held does not
- * matter. */
+/* What parallel_moves_resolve_groups_in and parallel_moves_answer_groups_in work in beside
+ * the memory. What it held does not matter. */
 struct parallel_moves_groups {
     uint64_t joined[PARALLEL_MOVES_JOINED];
+    uint32_t numbers[PARALLEL_MOVES_NUMBERS];
     uint16_t work[PARALLEL_MOVES_CACHE];
     uint8_t owners[PARALLEL_MOVES_OWNERS];
     uint8_t labels[PARALLEL_MOVES_LABELS];
@@ -558,6 +591,23 @@ static inline size_t parallel_moves_resolve_groups_in(
         memory->sources, memory->edits, memory->slots, memory->diverted, memory->marks,
         memory->carried, groups->owners, groups->labels, groups->next, groups->common,
         groups->work, groups->joined);
+}
+
+/* parallel_moves_answer_groups with the tables of `memory` and `groups`. */
+static inline size_t parallel_moves_answer_groups_in(
+    struct parallel_moves_memory *memory, struct parallel_moves_groups *groups,
+    uint32_t kept_evictions,
+    const uint8_t *job, size_t job_length,
+    uint64_t *words, size_t words_length,
+    uint8_t *refusal)
+{
+    return parallel_moves_answer_groups(
+        kept_evictions, job, job_length, words, words_length, refusal,
+        memory->target, memory->function, memory->cache,
+        memory->free_units, memory->entries, memory->writers,
+        memory->available, memory->sources, memory->edits, memory->slots,
+        memory->diverted, memory->marks, memory->carried, groups->owners, groups->labels,
+        groups->next, groups->common, groups->work, groups->joined, groups->numbers);
 }
 
 /* What an asking leaves to take, about 64 KiB: one for each answer. */

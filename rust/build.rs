@@ -10,7 +10,7 @@ use std::process::Command;
 /// Names the folder of the library by its whole path, where it is another than
 /// the repository's.
 const VARIABLE: &str = "PARALLEL_MOVES_LIB_DIR";
-/// What is linked: whole jobs, calls patch by patch, patches asked for or by groups, formulas that share a
+/// What is linked: whole jobs, calls patch by patch, patches asked for or by groups, whole jobs by groups, formulas that share a
 /// frame, jobs written, what edits cost, settings tried, and lists of edits examined. `c/stamp`
 /// has their sums in this order.
 const LIBRARIES: &[&str] = &[
@@ -18,6 +18,7 @@ const LIBRARIES: &[&str] = &[
     "calls_c",
     "asking_c",
     "groups_c",
+    "answer_groups_c",
     "frame_c",
     "job_writer_c",
     "price_c",

@@ -6,6 +6,7 @@ use crate::draft::{self, Draft, Patch, Place};
 #[link(name = "calls_c", kind = "static")]
 #[link(name = "asking_c", kind = "static")]
 #[link(name = "groups_c", kind = "static")]
+#[link(name = "answer_groups_c", kind = "static")]
 #[link(name = "frame_c", kind = "static")]
 #[link(name = "job_writer_c", kind = "static")]
 #[link(name = "price_c", kind = "static")]

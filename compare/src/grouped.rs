@@ -1,5 +1,5 @@
-//! Holds patches that our static library resolves by groups against request 02 k, as
-//! `judge::grouping` has it.
+//! Holds patches, and whole jobs, that our static library resolves by groups against request
+//! 02 k, as `judge::grouping` has it.
 
 use std::error::Error;
 use std::process::ExitCode;
@@ -13,13 +13,14 @@ use judge::random::Random;
 const HELP: &str = "\
 grouped SEED COUNT [FAULT]
     Makes COUNT random jobs, half of them of patches of several groups, and resolves their
-    patches by groups, at both settings. Prints counts and `no difference`, or the first
+    patches by groups, one by one and as a whole job, at both settings. Prints counts and `no difference`, or the first
     difference, and ends with 1. FAULT is one of the judge that must be found:
     destinations, own-sources, no-chain or last-entry.
 ";
 
 #[link(name = "calls_c", kind = "static")]
 #[link(name = "groups_c", kind = "static")]
+#[link(name = "answer_groups_c", kind = "static")]
 unsafe extern "C" {
     #[link_name = "parallel_moves_open_4"]
     fn parallel_moves_open(
@@ -64,6 +65,36 @@ unsafe extern "C" {
         work: *mut u16,
         joined: *mut u64,
     ) -> usize;
+
+    #[link_name = "parallel_moves_answer_groups_4"]
+    fn parallel_moves_answer_groups(
+        kept_evictions: u32,
+        bytes: *const u8,
+        bytes_len: usize,
+        words: *mut u64,
+        words_len: usize,
+        refusal: *mut u8,
+        target: *mut u16,
+        function: *mut u16,
+        cache: *mut u16,
+        free: *mut u8,
+        entries: *mut u16,
+        writers: *mut u16,
+        available: *mut u8,
+        sources: *mut u8,
+        edits: *mut u64,
+        slots: *mut u16,
+        diverted: *mut u16,
+        marks: *mut u8,
+        carried: *mut u16,
+        owners: *mut u8,
+        labels: *mut u8,
+        next: *mut u8,
+        common: *mut u8,
+        work: *mut u16,
+        joined: *mut u64,
+        numbers: *mut u32,
+    ) -> usize;
 }
 
 /// Ours, with memory that is used again from call to call.
@@ -88,6 +119,8 @@ struct Ours {
     common: Vec<u8>,
     work: Vec<u16>,
     joined: Vec<u64>,
+    numbers: Vec<u32>,
+    words: Vec<u64>,
 }
 
 fn shorts(length: usize) -> Vec<u16> {
@@ -117,6 +150,8 @@ impl Ours {
             common: vec![1; 512],
             work: shorts(65_600),
             joined: vec![u64::MAX / 3; 1024],
+            numbers: vec![u32::MAX / 3; 512],
+            words: vec![UNWRITTEN; MOST_WORDS],
         }
     }
 
@@ -186,6 +221,83 @@ impl Ours {
     }
 }
 
+impl Ours {
+    /// A whole job with room for so many words: those of its patches, and the refusal's
+    /// number or 0. The words behind them must be as they were.
+    fn answer(&mut self, setting: u32, bytes: &[u8], room: usize) -> Result<Whole, String> {
+        self.words[..room].fill(UNWRITTEN);
+        let mut refusal = 0x5a;
+        // SAFETY: each array is as long as the function says, the flags are 0 or 1, and none
+        // lies on another.
+        let count = unsafe {
+            parallel_moves_answer_groups(
+                setting,
+                bytes.as_ptr(),
+                bytes.len(),
+                self.words.as_mut_ptr(),
+                room,
+                &mut refusal,
+                self.target.as_mut_ptr(),
+                self.function.as_mut_ptr(),
+                self.cache.as_mut_ptr(),
+                self.units.as_mut_ptr(),
+                self.entries.as_mut_ptr(),
+                self.writers.as_mut_ptr(),
+                self.available.as_mut_ptr(),
+                self.sources.as_mut_ptr(),
+                self.edits.as_mut_ptr(),
+                self.slots.as_mut_ptr(),
+                self.diverted.as_mut_ptr(),
+                self.marks.as_mut_ptr(),
+                self.carried.as_mut_ptr(),
+                self.owners.as_mut_ptr(),
+                self.labels.as_mut_ptr(),
+                self.next.as_mut_ptr(),
+                self.common.as_mut_ptr(),
+                self.work.as_mut_ptr(),
+                self.joined.as_mut_ptr(),
+                self.numbers.as_mut_ptr(),
+            )
+        };
+        let (words, rest) = self.words[..room].split_at(count);
+        let unwritten = rest.iter().all(|&word| word == UNWRITTEN);
+        same("words behind a job's left", unwritten, true)?;
+        Ok(Whole {
+            words: words.to_vec(),
+            refusal,
+        })
+    }
+}
+
+/// What a whole job is answered with.
+#[derive(PartialEq, Eq, Debug, Default)]
+struct Whole {
+    words: Vec<u64>,
+    refusal: u8,
+}
+
+impl Whole {
+    fn refused(mut self, number: u8) -> Self {
+        self.refusal = number;
+        self
+    }
+
+    /// One more patch.
+    fn with(&mut self, joined: &Joined) {
+        let numbers = joined.position << 16 | joined.made;
+        self.words
+            .push(((numbers << 16 | joined.words.len()) * 8) as u64);
+        self.words.extend(&joined.words);
+    }
+}
+
+/// As many words are enough for every job, and for one of these bytes.
+const MOST_WORDS: usize = 2 * 65_536 + 1024;
+
+fn enough(bytes: &[u8]) -> usize {
+    MOST_WORDS.min(2 * bytes.len() + 1024)
+}
+
 /// A word that no edit has.
 const UNWRITTEN: u64 = u64::MAX / 5;
 
@@ -219,6 +331,49 @@ fn refused(ours: &mut Ours, given: &Given, room: usize, number: u8) -> Checked {
     same("a refused call's cache", ours.cache == before, true)?;
     let unwritten = ours.list.iter().all(|&word| word == UNWRITTEN);
     same("a refused call's list left", unwritten, true)
+}
+
+/// A job as a judge answers it by groups, with room for so many words.
+fn judged(job: &Job, fault: Fault, room: usize) -> Whole {
+    let mut judge = Grouping::new(job, fault);
+    let (mut whole, mut rest) = (Whole::default(), job.behind);
+    for _ in 0..job.patches {
+        let (patch, length) = match judge.read(rest) {
+            Ok(read) => read,
+            Err(number) => return whole.refused(number.0),
+        };
+        rest = &rest[length..];
+        if room < whole.words.len() + 1 + patch.bound {
+            return whole.refused(16);
+        }
+        match judge.resolve(&patch) {
+            Ok(joined) => whole.with(&joined),
+            Err(number) => return whole.refused(number.0),
+        }
+    }
+    match rest {
+        [] => whole,
+        _ => whole.refused(8),
+    }
+}
+
+/// The whole job, with words enough and with too few for some.
+fn answered(
+    job: &Job,
+    bytes: &[u8],
+    setting: u32,
+    fault: Fault,
+    ours: &mut Ours,
+    random: &mut Random,
+) -> Checked {
+    let whole = judged(job, fault, MOST_WORDS);
+    let few = random.below(whole.words.len() + 2);
+    same("a job", ours.answer(setting, bytes, enough(bytes))?, whole)?;
+    same(
+        "a job with few words",
+        ours.answer(setting, bytes, few)?,
+        judged(job, fault, few),
+    )
 }
 
 /// A job's patches, one after the other, up to the first that is refused.
@@ -276,10 +431,17 @@ fn check(
 ) -> Checked {
     for setting in SETTINGS {
         let judge = Judge::of(setting).map_err(|refused| format!("{refused:?}"))?;
-        let Ok(job) = grouping::open(judge, bytes) else {
-            counts.unopened += 1;
-            continue;
+        let job = match grouping::open(judge, bytes) {
+            Ok(job) => job,
+            Err(number) => {
+                let refused = Whole::default().refused(number.0);
+                same("unopened", ours.answer(setting, bytes, enough(bytes))?, refused)?;
+                counts.unopened += 1;
+                continue;
+            }
         };
+        answered(&job, bytes, setting, fault, ours, random)
+            .map_err(|what| format!("setting {setting}: {what}"))?;
         same("opened", ours.open(setting, job.opening), 0)?;
         patches(&job, fault, ours, random, counts)
             .map_err(|what| format!("setting {setting}: {what}"))?;

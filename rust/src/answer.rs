@@ -27,11 +27,6 @@ impl Answer {
         }
     }
 
-    /// The head of a patch's words.
-    pub(crate) fn head(position: usize, made: usize, count: usize) -> u64 {
-        (((position << 16 | made) << 16 | count) * 8) as u64
-    }
-
     /// The patches that were resolved, in the job's order.
     pub fn patches(&self) -> Patches<'_> {
         Patches { words: &self.words }

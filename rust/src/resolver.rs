@@ -3,7 +3,6 @@
 use std::fmt;
 
 use crate::answer::{Answer, RefusedJob};
-use crate::grouped;
 use crate::locate;
 use crate::reading::Location;
 use crate::refusal::Refusal;
@@ -55,8 +54,16 @@ impl Resolver {
     /// assert_eq!(refused.text(), "refused 1\n");
     /// ```
     pub fn answer(&mut self, kept_evictions: u32, job: &[u8]) -> Result<Answer, RefusedJob> {
+        self.answered(|tables, words| tables.answer(kept_evictions, job, words))
+    }
+
+    /// What is answered with words enough.
+    fn answered(
+        &mut self,
+        by: impl Fn(&mut Tables, &mut [u64]) -> (usize, u8),
+    ) -> Result<Answer, RefusedJob> {
         loop {
-            let (count, number) = self.tables.answer(kept_evictions, job, &mut self.words);
+            let (count, number) = by(&mut self.tables, &mut self.words);
             let refusal = Refusal::of_number(number);
             let room = self.words.len();
             if refusal == Some(Refusal::ListTooShort) && room < MOST_WORDS {
@@ -92,7 +99,7 @@ impl Resolver {
         kept_evictions: u32,
         job: &[u8],
     ) -> Result<Answer, RefusedJob> {
-        grouped::answer(self, kept_evictions, job)
+        self.answered(|tables, words| tables.answer_groups(kept_evictions, job, words))
     }
 
     /// Where a job is refused, which was so refused with as many `kept_evictions`: the byte

@@ -20,6 +20,7 @@ extern crate stub;
 #[cfg_attr(not(stub), link(name = "calls_c", kind = "static"))]
 #[cfg_attr(not(stub), link(name = "asking_c", kind = "static"))]
 #[cfg_attr(not(stub), link(name = "groups_c", kind = "static"))]
+#[cfg_attr(not(stub), link(name = "answer_groups_c", kind = "static"))]
 #[cfg_attr(not(stub), link(name = "frame_c", kind = "static"))]
 #[cfg_attr(not(stub), link(name = "job_writer_c", kind = "static"))]
 #[cfg_attr(not(stub), link(name = "price_c", kind = "static"))]

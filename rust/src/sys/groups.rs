@@ -1,8 +1,8 @@
-//! Patches by groups: `groups_c`.
+//! Patches by groups: `groups_c`; and whole jobs: `answer_groups_c`.
 
 use super::{
-    Carried, Diversions, EditBuffer, Entries, Function, States, Opened, RegInfo, RegUnitSet,
-    EmergencySpillSlotCache, Slots, SparseMap, table,
+    Carried, Diverted, EditBuffer, Entries, Function, Marks, Opened, RegInfo, RegUnitSet,
+    SlotCache, Slots, SparseMap, Tables, table,
 };
 use crate::entity::RegUnit;
 
@@ -12,6 +12,8 @@ type Owners = [u8; 4608];
 type Labels = [u8; 128];
 /// The words of all groups.
 type Joined = [u64; 1024];
+/// The numbers of a patch's entries.
+type Numbers = [u32; 512];
 
 unsafe extern "C" {
     #[link_name = "parallel_moves_resolve_groups_4"]
@@ -22,7 +24,7 @@ unsafe extern "C" {
         free_units_length: usize,
         numbers: *const u32,
         numbers_length: usize,
-        cache: &mut EmergencySpillSlotCache,
+        cache: &mut SlotCache,
         list: *mut u64,
         list_length: usize,
         refusal: &mut u8,
@@ -34,26 +36,57 @@ unsafe extern "C" {
         sources: &mut RegUnitSet,
         edits: &mut EditBuffer,
         slots: &mut Slots,
-        diverted: &mut Diversions,
-        marks: &mut States,
+        diverted: &mut Diverted,
+        marks: &mut Marks,
         carried: &mut Carried,
         owners: &mut Owners,
         labels: &mut Labels,
         next: &mut Labels,
         common: &mut RegUnitSet,
-        work: &mut EmergencySpillSlotCache,
+        work: &mut SlotCache,
         joined: &mut Joined,
+    ) -> usize;
+
+    #[link_name = "parallel_moves_answer_groups_4"]
+    fn parallel_moves_answer_groups(
+        kept_evictions: u32,
+        job: *const u8,
+        job_length: usize,
+        words: *mut u64,
+        words_length: usize,
+        refusal: &mut u8,
+        target: &mut RegInfo,
+        function: &mut Function,
+        cache: &mut SlotCache,
+        free: &mut RegUnitSet,
+        entries: &mut Entries,
+        writers: &mut SparseMap,
+        available: &mut RegUnitSet,
+        sources: &mut RegUnitSet,
+        edits: &mut EditBuffer,
+        slots: &mut Slots,
+        diverted: &mut Diverted,
+        marks: &mut Marks,
+        carried: &mut Carried,
+        owners: &mut Owners,
+        labels: &mut Labels,
+        next: &mut Labels,
+        common: &mut RegUnitSet,
+        work: &mut SlotCache,
+        joined: &mut Joined,
+        numbers: &mut Numbers,
     ) -> usize;
 }
 
-/// The tables that only a call by groups needs.
+/// The tables that only a call by groups and a job by groups need.
 pub(super) struct GroupTables {
     owners: Box<Owners>,
     labels: Box<Labels>,
     next: Box<Labels>,
     common: Box<RegUnitSet>,
-    work: Box<EmergencySpillSlotCache>,
+    work: Box<SlotCache>,
     joined: Box<Joined>,
+    numbers: Box<Numbers>,
 }
 
 impl GroupTables {
@@ -65,6 +98,7 @@ impl GroupTables {
             common: table(),
             work: table(),
             joined: table(),
+            numbers: table(),
         }
     }
 }
@@ -111,6 +145,51 @@ impl Opened {
                 &mut groups.common,
                 &mut groups.work,
                 &mut groups.joined,
+            )
+        };
+        (count, refusal)
+    }
+}
+
+impl Tables {
+    /// As `answer`, each patch by groups.
+    pub(crate) fn answer_groups(
+        &mut self,
+        kept_evictions: u32,
+        job: &[u8],
+        words: &mut [u64],
+    ) -> (usize, u8) {
+        let groups = self.groups.get_or_insert_with(GroupTables::new);
+        let mut refusal = 0;
+        // SAFETY: as in `answer` of `jobs`.
+        let count = unsafe {
+            parallel_moves_answer_groups(
+                kept_evictions,
+                job.as_ptr(),
+                job.len(),
+                words.as_mut_ptr(),
+                words.len(),
+                &mut refusal,
+                &mut self.target,
+                &mut self.function,
+                &mut self.cache,
+                &mut self.free,
+                &mut self.entries,
+                &mut self.writers,
+                &mut self.available,
+                &mut self.sources,
+                &mut self.edits,
+                &mut self.slots,
+                &mut self.diverted,
+                &mut self.marks,
+                &mut self.carried,
+                &mut groups.owners,
+                &mut groups.labels,
+                &mut groups.next,
+                &mut groups.common,
+                &mut groups.work,
+                &mut groups.joined,
+                &mut groups.numbers,
             )
         };
         (count, refusal)
