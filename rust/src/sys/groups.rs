@@ -1,8 +1,8 @@
 //! Patches by groups: `groups_c`; and whole jobs: `answer_groups_c`.
 
 use super::{
-    Carried, Diverted, EditBuffer, Entries, Function, Marks, Opened, RegInfo, RegUnitSet,
-    SlotCache, Slots, SparseMap, Tables, table,
+    Carried, Diversions, EditBuffer, Entries, Function, States, Opened, RegInfo, RegUnitSet,
+    EmergencySpillSlotCache, Slots, SparseMap, Tables, table,
 };
 use crate::entity::RegUnit;
 
@@ -24,7 +24,7 @@ unsafe extern "C" {
         free_units_length: usize,
         numbers: *const u32,
         numbers_length: usize,
-        cache: &mut SlotCache,
+        cache: &mut EmergencySpillSlotCache,
         list: *mut u64,
         list_length: usize,
         refusal: &mut u8,
@@ -36,14 +36,14 @@ unsafe extern "C" {
         sources: &mut RegUnitSet,
         edits: &mut EditBuffer,
         slots: &mut Slots,
-        diverted: &mut Diverted,
-        marks: &mut Marks,
+        diverted: &mut Diversions,
+        marks: &mut States,
         carried: &mut Carried,
         owners: &mut Owners,
         labels: &mut Labels,
         next: &mut Labels,
         common: &mut RegUnitSet,
-        work: &mut SlotCache,
+        work: &mut EmergencySpillSlotCache,
         joined: &mut Joined,
     ) -> usize;
 
@@ -57,7 +57,7 @@ unsafe extern "C" {
         refusal: &mut u8,
         target: &mut RegInfo,
         function: &mut Function,
-        cache: &mut SlotCache,
+        cache: &mut EmergencySpillSlotCache,
         free: &mut RegUnitSet,
         entries: &mut Entries,
         writers: &mut SparseMap,
@@ -65,14 +65,14 @@ unsafe extern "C" {
         sources: &mut RegUnitSet,
         edits: &mut EditBuffer,
         slots: &mut Slots,
-        diverted: &mut Diverted,
-        marks: &mut Marks,
+        diverted: &mut Diversions,
+        marks: &mut States,
         carried: &mut Carried,
         owners: &mut Owners,
         labels: &mut Labels,
         next: &mut Labels,
         common: &mut RegUnitSet,
-        work: &mut SlotCache,
+        work: &mut EmergencySpillSlotCache,
         joined: &mut Joined,
         numbers: &mut Numbers,
     ) -> usize;
@@ -84,7 +84,7 @@ pub(super) struct GroupTables {
     labels: Box<Labels>,
     next: Box<Labels>,
     common: Box<RegUnitSet>,
-    work: Box<SlotCache>,
+    work: Box<EmergencySpillSlotCache>,
     joined: Box<Joined>,
     numbers: Box<Numbers>,
 }
