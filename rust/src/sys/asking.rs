@@ -1,8 +1,8 @@
 //! Patches asked for, and taken later: `asking_c`.
 
 use super::{
-    Carried, Diversions, EditBuffer, Entries, Function, States, Opened, RegInfo, RegUnitSet,
-    EmergencySpillSlotCache, Slots, SparseMap, table,
+    Carried, Diversions, EditBuffer, EmergencySpillSlotCache, Entries, Function, Opened, RegInfo,
+    RegUnitSet, Slots, SparseMap, States, table,
 };
 use crate::entity::RegUnit;
 
@@ -34,7 +34,12 @@ unsafe extern "C" {
     ) -> usize;
 
     #[link_name = "parallel_moves_take_4"]
-    fn parallel_moves_take(made: u16, stamp: u64, slots: &Slots, cache: &mut EmergencySpillSlotCache) -> u8;
+    fn parallel_moves_take(
+        made: u16,
+        stamp: u64,
+        slots: &Slots,
+        cache: &mut EmergencySpillSlotCache,
+    ) -> u8;
 }
 
 /// What an asking left to take: of which opened function, the table of slots of

@@ -1,8 +1,8 @@
 //! Patches by groups: `groups_c`; and whole jobs: `answer_groups_c`.
 
 use super::{
-    Carried, Diversions, EditBuffer, Entries, Function, States, Opened, RegInfo, RegUnitSet,
-    EmergencySpillSlotCache, Slots, SparseMap, Tables, table,
+    Carried, Diversions, EditBuffer, EmergencySpillSlotCache, Entries, Function, Opened, RegInfo,
+    RegUnitSet, Slots, SparseMap, States, Tables, table,
 };
 use crate::entity::RegUnit;
 

@@ -1,8 +1,8 @@
 //! Whole jobs, and the text of an answer: `parallel_moves_c`.
 
 use super::{
-    Carried, Diversions, EditBuffer, Entries, Function, States, RegInfo, RegUnitSet, EmergencySpillSlotCache, Slots,
-    SparseMap, Tables,
+    Carried, Diversions, EditBuffer, EmergencySpillSlotCache, Entries, Function, RegInfo,
+    RegUnitSet, Slots, SparseMap, States, Tables,
 };
 
 unsafe extern "C" {

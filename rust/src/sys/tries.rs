@@ -1,8 +1,8 @@
 //! Settings tried on drawn patches: `trying_c`.
 
 use super::{
-    Carried, Diversions, EditBuffer, Entries, Function, States, Prices, RegInfo, RegUnitSet,
-    EmergencySpillSlotCache, Slots, SparseMap, Tables,
+    Carried, Diversions, EditBuffer, EmergencySpillSlotCache, Entries, Function, Prices, RegInfo,
+    RegUnitSet, Slots, SparseMap, States, Tables,
 };
 
 /// Accepted patches, M, R, S, L, evictions and price; then the refusals by number.
