@@ -9,6 +9,8 @@ use frame_calls::FramePreview;
 use frame_table::Frame;
 use frame_table::FrameOpened;
 use function::Function;
+use groups::Labels;
+use groups::Owners;
 use parallel_moves::Resolved;
 use parallel_moves::TakeAnswer;
 use reginfo::RegInfo;
@@ -30,6 +32,7 @@ ghost use Rattle.frame_table.specs.Opening.{shareConditions};
 ghost use Rattle.frame_table.specs.Held.{FrameOk};
 ghost use Rattle.frame_calls.specs.Given.{InFrame, openedIn};
 ghost use Rattle.frame_calls.specs.Answers.{answerOf, CanTakeIn};
+ghost use Rattle.frame_groups.specs.Answer.{groupsAnswer};
 ghost use Rattle.frame_c.specs.Called.{FrameBy, FormulaBy, ResolvedBy, AskedBy, previewOf, TakenBy};
 
 // Opens a frame for as many formulas as there are shares: answers 0; or 2 for none or over 16, or for a limit over 2,048, then 23 for shares above the
@@ -118,6 +121,79 @@ pub extern "C" fn parallel_moves_frame_resolve_4(
         diverted,
         marks,
         carried,
+    ) {
+        Resolved::Edits(count, met) => {
+            *refusal = 0;
+            *position = met;
+            count
+        }
+        Resolved::Refused(number) => {
+            *refusal = number;
+            0
+        }
+    }
+}
+
+// One patch of a formula by groups, as `parallel_moves_resolve_groups` has it. A refusal leaves the frame too.
+#[no_mangle]
+pub extern "C" fn parallel_moves_frame_resolve_groups_4(
+    frame: &mut Frame,
+    formula: usize,
+    target: &RegInfo,
+    function: &Function,
+    free: &[u32],
+    numbers: &[u32],
+    cache: &mut EmergencySpillSlotCache,
+    list: &mut [u64],
+    refusal: &mut u8,
+    position: &mut u16,
+    units: &mut RegUnitSet,
+    entries: &mut Entries,
+    writers: &mut SparseMap,
+    available: &mut RegUnitSet,
+    sources: &mut RegUnitSet,
+    edits: &mut Edits,
+    slots: &mut Slots,
+    diverted: &mut Diversions,
+    marks: &mut States,
+    carried: &mut Carried,
+    owners: &mut Owners,
+    labels: &mut Labels,
+    next: &mut Labels,
+    common: &mut RegUnitSet,
+    work: &mut EmergencySpillSlotCache,
+    joined: &mut [u64; 1024],
+) -> usize
+    requires { ⌜ Checked (now target) (now function) × FrameOk (now frame) × (formula < numberOf (now frame)) × InFrame (now frame) (now function) (now cache) ⌝ }
+    ensures { λ r. ⌜ ResolvedBy (now (frame .entry)) (now (frame .exit)) formula (now (function .entry)) (groupsAnswer (now (frame .entry)) formula (now (target .entry)) (now (function .entry)) (now (free .entry)) (now (numbers .entry)) (length (now (list .entry))) (now (cache .entry))) r (now (refusal .exit)) (now (position .entry)) (now (position .exit)) (now (list .entry)) (now (list .exit)) (now (cache .entry)) (now (cache .exit)) ⌝ }
+    ensures { λ _. ⌜ Anything (now (units .exit)) × Anything (now (entries .exit)) × Anything (now (writers .exit)) × Anything (now (available .exit)) × Anything (now (sources .exit)) × Anything (now (edits .exit)) × Anything (now (slots .exit)) × Anything (now (diverted .exit)) × Anything (now (marks .exit)) × Anything (now (carried .exit)) ⌝ }
+    ensures { λ _. ⌜ Anything (now (owners .exit)) × Anything (now (labels .exit)) × Anything (now (next .exit)) × Anything (now (common .exit)) × Anything (now (work .exit)) × Anything (now (joined .exit)) ⌝ }
+{
+    match frame_groups::resolve_groups_in(
+        frame,
+        formula,
+        target,
+        function,
+        free,
+        numbers,
+        cache,
+        list,
+        units,
+        entries,
+        writers,
+        available,
+        sources,
+        edits,
+        slots,
+        diverted,
+        marks,
+        carried,
+        owners,
+        labels,
+        next,
+        common,
+        work,
+        joined,
     ) {
         Resolved::Edits(count, met) => {
             *refusal = 0;

@@ -37,6 +37,7 @@ use Rattle.frame_calls.specs.declared.FramePreview.{FramePreview}
 use Rattle.frame_calls.specs.declared.FrameAsked as A
 use Rattle.frame_calls.specs.Given.{grantOf, InFrame}
 use Rattle.frame_calls.specs.Answers.{answerOf, GivesIn, AsksIn, CanTakeIn, TakesIn}
+use Rattle.frame_calls.proofs.Under.{refused-under, led-under, accepted-under}
 
 -- a call that is not refused: its free units pass, and its patch is resolved
 pub called : (t : RegInfo) (f : Function) (free numbers : List ℕ) (room : ℕ) (c c′ : Cache) (es : List Edit) (n : ℕ) → callOf t f free numbers room c ≡ resolved es c′ n
@@ -74,31 +75,15 @@ module _ (frame : List ℕ) (ok : FrameOk frame) (i : ℕ) (there : i < numberOf
     -- ---- resolving
     module _ (cache′ : List ℕ) (r : Resolved) (h : GivesGranted f g (under g) r list list′ cache cache′) where
       pub refused-call : (k : ℕ) → r ≡ R.the-variants.Refused k → GivesIn frame frame i f answer (R.the-variants.Refused k) list list′ cache cache′
-      refused-call k e = go answer (rw (is, e) at h)
-        where
-          go : (a : Answer) → GivesGranted f (grantOf frame i) a (R.the-variants.Refused k) list list′ cache cache′ → GivesIn frame frame i f a (R.the-variants.Refused k) list list′ cache cache′
-          go (refused n) h = (h .0, h .1, h .2, refl)
-          go (resolved es c n) h = let e = h .0 in let z : _≡_ {A = ℕ} 0 1 = cc in absurd (omega arith)
+      refused-call = refused-under frame ok i there f cache g is under goes-on list list′ cache′ r h
 
       module _ (m n : ℕ) (eq : r ≡ R.the-variants.Edits m n) where
         -- the cache has the counter after it
         pub led-on : counterOf frame ≤ cacheOf cache′ .made
-        led-on = go answer refl (rw (is, eq) at h)
-          where
-            go : (a : Answer) → answer ≡ a → GivesGranted f (grantOf frame i) a (R.the-variants.Edits m n) list list′ cache cache′ → counterOf frame ≤ cacheOf cache′ .made
-            go (refused k) e x = let y = x .0 in let z : _≡_ {A = ℕ} 0 1 = cc in absurd (omega arith)
-            go (resolved es c k) e x = rw (x .4) (goes-on es c k e)
+        led-on = led-under frame ok i there f cache g is under goes-on list list′ cache′ r h m n eq
 
         pub accepted-call : (frame′ : List ℕ) → WentOn frame i (cacheOf cache′ .made) frame′ → GivesIn frame frame′ i f answer (R.the-variants.Edits m n) list list′ cache cache′
-        accepted-call frame′ w = go answer refl (rw (is, eq) at h)
-          where
-            go : (a : Answer) → answer ≡ a → GivesGranted f (grantOf frame i) a (R.the-variants.Edits m n) list list′ cache cache′ → GivesIn frame frame′ i f a (R.the-variants.Edits m n) list list′ cache cache′
-            go (refused k) e x = let y = x .0 in let z : _≡_ {A = ℕ} 0 1 = cc in absurd (omega arith)
-            go (resolved es c k) e x =
-                let low = goes-on es c k e in
-                let w′ : WentOn frame i (c .made) frame′ = rw (x .4) at w in
-                let to : counterOf frame′ ≡ c .made = w′ .counter in
-                (x .0, x .1, x .2, x .3, x .4, x .6, x .7, w′, went-ok frame i (c .made) frame′ ok there low (x .5 .made) w′, record { fits = x .5 .fits; stacks = rw to (x .5 .stacks) }, low)
+        accepted-call = accepted-under frame ok i there f cache g is under goes-on list list′ cache′ r h m n eq
 
     -- ---- asking
     module _ (slots′ : List ℕ) (r : Asked) (h : Asks f (g .limit) (under g) r list list′ cache slots′) where

@@ -107,7 +107,7 @@ pub fn open_in(
 }
 
 // What formula i is granted: the frame's counter, and how far it may go.
-fn grant(frame: &Frame, i: usize) -> Grant
+pub fn grant(frame: &Frame, i: usize) -> Grant
     requires { ⌜ numberOf (now frame) ≤ 16 ⌝ }
     ensures { λ g. ⌜ g ≡ grantOf (now (frame .entry)) i ⌝ }
 {
