@@ -31,6 +31,17 @@ struct work {
     uint16_t carried[PARALLEL_MOVES_CARRIED];
 };
 
+/* By groups. */
+struct groups {
+    bool units[PARALLEL_MOVES_UNITS];
+    uint8_t owners[PARALLEL_MOVES_OWNERS];
+    uint8_t labels[PARALLEL_MOVES_LABELS];
+    uint8_t next[PARALLEL_MOVES_LABELS];
+    bool common[PARALLEL_MOVES_UNITS];
+    uint16_t cache[PARALLEL_MOVES_CACHE];
+    uint64_t joined[PARALLEL_MOVES_JOINED];
+};
+
 /* What an asking leaves. */
 struct asked {
     uint16_t to, made, position, counter;
@@ -51,6 +62,7 @@ static void is(const char *what, unsigned given, unsigned expected)
 static uint16_t frame[PARALLEL_MOVES_FRAME];
 static struct formula *formulas;
 static struct work *work;
+static struct groups *groups;
 static uint64_t list[16];
 
 static size_t resolve(size_t i, uint8_t *refusal)
@@ -61,6 +73,17 @@ static size_t resolve(size_t i, uint8_t *refusal)
         frame, i, f->target, f->function, swapped, 0, swapped, 8, f->cache, list, 16, refusal,
         &position, work->entries, work->writers, work->available, work->sources, work->edits,
         work->slots, work->diverted, work->marks, work->carried);
+}
+
+static size_t by_groups(size_t i, uint8_t *refusal)
+{
+    uint16_t position;
+    struct formula *f = &formulas[i];
+    return parallel_moves_frame_resolve_groups(
+        frame, i, f->target, f->function, swapped, 0, swapped, 8, f->cache, list, 16, refusal,
+        &position, groups->units, work->entries, work->writers, work->available, work->sources,
+        work->edits, work->slots, work->diverted, work->marks, work->carried, groups->owners,
+        groups->labels, groups->next, groups->common, groups->cache, groups->joined);
 }
 
 static size_t ask(size_t i, struct asked *a, uint8_t *refusal)
@@ -99,7 +122,8 @@ int main(void)
     struct asked *a = PARALLEL_MOVES_AS(struct asked *, calloc(2, sizeof *a));
     formulas = PARALLEL_MOVES_AS(struct formula *, calloc(2, sizeof *formulas));
     work = PARALLEL_MOVES_AS(struct work *, calloc(1, sizeof *work));
-    if (a == NULL || formulas == NULL || work == NULL) {
+    groups = PARALLEL_MOVES_AS(struct groups *, calloc(1, sizeof *groups));
+    if (a == NULL || formulas == NULL || work == NULL || groups == NULL) {
         return 1;
     }
     is("no formula", parallel_moves_frame_open(frame, 1, shares, 0), 2);
@@ -125,6 +149,20 @@ int main(void)
     is("taken", take(0, &a[1]), 0);
     is("made, taken", parallel_moves_frame_made(frame, 0), 1);
     is("taken twice", take(0, &a[1]), 20);
+
+    /* By groups: refused, nothing changes; else the counter is the frame's. */
+    open(2, 1, 1);
+    is("edits by groups", PARALLEL_MOVES_AS(unsigned, by_groups(1, &refusal)), 3);
+    is("its slot", parallel_moves_number(parallel_moves_to(list[0])), 0);
+    is("edits after it", PARALLEL_MOVES_AS(unsigned, resolve(0, &refusal)), 3);
+    is("the next slot", parallel_moves_number(parallel_moves_to(list[0])), 1);
+    is("made by groups", parallel_moves_frame_made(frame, 1), 1);
+    open(1, 1, 0);
+    is("edits by groups refused", PARALLEL_MOVES_AS(unsigned, by_groups(1, &refusal)), 0);
+    is("refusal by groups", refusal, 17);
+    is("edits by groups of the first", PARALLEL_MOVES_AS(unsigned, by_groups(0, &refusal)), 3);
+    is("no refusal by groups", refusal, 0);
+    free(groups);
     free(work);
     free(formulas);
     free(a);

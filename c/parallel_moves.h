@@ -313,6 +313,38 @@ size_t parallel_moves_frame_resolve(
     uint16_t carried[PARALLEL_MOVES_CARRIED])
     PARALLEL_MOVES_SYMBOL("parallel_moves_frame_resolve");
 
+/* Resolves a patch of a formula by groups, as parallel_moves_resolve_groups does. All
+ * groups have the formula's one share: a 17 in one refuses all, and frame, list and cache
+ * are as they were. For the rest it is as parallel_moves_frame_resolve. */
+size_t parallel_moves_frame_resolve_groups(
+    uint16_t frame[PARALLEL_MOVES_FRAME],
+    size_t formula,
+    const uint16_t target[PARALLEL_MOVES_TARGET],
+    const uint16_t function[PARALLEL_MOVES_FUNCTION],
+    const uint32_t *free_units, size_t free_units_length,
+    const uint32_t *numbers, size_t numbers_length,
+    uint16_t cache[PARALLEL_MOVES_CACHE],
+    uint64_t *list, size_t list_length,
+    uint8_t *refusal,
+    uint16_t *position,
+    bool units[PARALLEL_MOVES_UNITS],
+    uint16_t entries[PARALLEL_MOVES_ENTRIES],
+    uint16_t writers[PARALLEL_MOVES_WRITERS],
+    bool available[PARALLEL_MOVES_UNITS],
+    bool sources[PARALLEL_MOVES_UNITS],
+    uint64_t edits[PARALLEL_MOVES_EDITS],
+    uint16_t slots[PARALLEL_MOVES_SLOTS],
+    uint16_t diverted[PARALLEL_MOVES_DIVERTED],
+    uint8_t marks[PARALLEL_MOVES_MARKS],
+    uint16_t carried[PARALLEL_MOVES_CARRIED],
+    uint8_t owners[PARALLEL_MOVES_OWNERS],
+    uint8_t labels[PARALLEL_MOVES_LABELS],
+    uint8_t next[PARALLEL_MOVES_LABELS],
+    bool common[PARALLEL_MOVES_UNITS],
+    uint16_t work[PARALLEL_MOVES_CACHE],
+    uint64_t joined[PARALLEL_MOVES_JOINED])
+    PARALLEL_MOVES_SYMBOL("parallel_moves_frame_resolve_groups");
+
 /* Asks for a patch of a formula as parallel_moves_ask does, and changes neither frame
  * nor cache. *made is how many slots the formula itself has made once the answer is
  * taken. To take it, keep *to, *stamp, *counter and the table `slots`. */

@@ -119,6 +119,32 @@ impl Frame {
         }
     }
 
+    /// The edits that carry a patch of a formula out by groups, as
+    /// [`ParallelMoves::resolve_by_groups`](crate::ParallelMoves::resolve_by_groups) has them. All
+    /// groups have the formula's one share.
+    ///
+    /// # Errors
+    ///
+    /// As [`Frame::resolve`]; a group that is out of slots refuses all, and nothing changes.
+    ///
+    /// # Panics
+    ///
+    /// If there is no such formula.
+    pub fn resolve_by_groups(
+        &mut self,
+        formula: usize,
+        patch: &Patch,
+    ) -> Result<Edits<'_>, Refusal> {
+        let list = &mut self.list[..];
+        let (count, number) =
+            self.opened
+                .resolve_groups(formula, &patch.free, &patch.entries, list);
+        match Refusal::of_number(number) {
+            None => Ok(Edits::new(&self.list[..count])),
+            Some(refusal) => Err(refusal),
+        }
+    }
+
     /// The edits that would carry a patch of a formula out, to look at before one settles on them
     /// by [`Frame::take`]. Nothing changes.
     ///

@@ -54,6 +54,12 @@ type Prices = [u32; 4];
 type States = [u8; 129];
 /// The values that moves still carry.
 type Carried = [u16; 2049];
+/// Of each unit an entry that has it.
+type Owners = [u8; 4608];
+/// A number for each entry.
+type Labels = [u8; 128];
+/// The words of all groups.
+type Joined = [u64; 1024];
 
 /// All tables of the library.
 pub(crate) struct Tables {

@@ -45,6 +45,7 @@ const FUNCTIONS: &[&str] = &[
     "parallel_moves_frame_open",
     "parallel_moves_frame_formula",
     "parallel_moves_frame_resolve",
+    "parallel_moves_frame_resolve_groups",
     "parallel_moves_frame_ask",
     "parallel_moves_frame_take",
     "parallel_moves_frame_made",

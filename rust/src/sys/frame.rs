@@ -2,9 +2,10 @@
 
 use std::sync::atomic::Ordering;
 
+use super::groups::GroupTables;
 use super::{
-    Carried, Diversions, EditBuffer, EmergencySpillSlotCache, Entries, Function, NEXT, RegInfo,
-    RegUnitSet, Slots, SparseMap, States, Tables, table,
+    Carried, Diversions, EditBuffer, EmergencySpillSlotCache, Entries, Function, Joined, Labels,
+    NEXT, Owners, RegInfo, RegUnitSet, Slots, SparseMap, States, Tables, table,
 };
 use crate::entity::RegUnit;
 
@@ -56,6 +57,39 @@ unsafe extern "C" {
         diverted: &mut Diversions,
         marks: &mut States,
         carried: &mut Carried,
+    ) -> usize;
+
+    #[link_name = "parallel_moves_frame_resolve_groups_4"]
+    fn parallel_moves_frame_resolve_groups(
+        frame: &mut Frame,
+        formula: usize,
+        target: &RegInfo,
+        function: &Function,
+        free_units: *const u32,
+        free_units_length: usize,
+        numbers: *const u32,
+        numbers_length: usize,
+        cache: &mut EmergencySpillSlotCache,
+        list: *mut u64,
+        list_length: usize,
+        refusal: &mut u8,
+        position: &mut u16,
+        units: &mut RegUnitSet,
+        entries: &mut Entries,
+        writers: &mut SparseMap,
+        available: &mut RegUnitSet,
+        sources: &mut RegUnitSet,
+        edits: &mut EditBuffer,
+        slots: &mut Slots,
+        diverted: &mut Diversions,
+        marks: &mut States,
+        carried: &mut Carried,
+        owners: &mut Owners,
+        labels: &mut Labels,
+        next: &mut Labels,
+        common: &mut RegUnitSet,
+        work: &mut EmergencySpillSlotCache,
+        joined: &mut Joined,
     ) -> usize;
 
     #[link_name = "parallel_moves_frame_ask_4"]
@@ -228,6 +262,55 @@ impl OpenedFrame {
                 &mut tables.diverted,
                 &mut tables.marks,
                 &mut tables.carried,
+            )
+        };
+        (count, refusal)
+    }
+
+    /// As `resolve`, by groups.
+    pub(crate) fn resolve_groups(
+        &mut self,
+        formula: usize,
+        free: &[RegUnit],
+        entries: &[[u32; 4]],
+        list: &mut [u64],
+    ) -> (usize, u8) {
+        let tables = &mut self.formulas[formula];
+        let entries = entries.as_flattened();
+        let groups = tables.groups.get_or_insert_with(GroupTables::new);
+        let mut refusal = 0;
+        // SAFETY: as in `resolve`.
+        let count = unsafe {
+            parallel_moves_frame_resolve_groups(
+                &mut self.frame,
+                formula,
+                &tables.target,
+                &tables.function,
+                free.as_ptr().cast(),
+                free.len(),
+                entries.as_ptr(),
+                entries.len(),
+                &mut tables.cache,
+                list.as_mut_ptr(),
+                list.len(),
+                &mut refusal,
+                &mut tables.position,
+                &mut tables.free,
+                &mut tables.entries,
+                &mut tables.writers,
+                &mut tables.available,
+                &mut tables.sources,
+                &mut tables.edits,
+                &mut tables.slots,
+                &mut tables.diverted,
+                &mut tables.marks,
+                &mut tables.carried,
+                &mut groups.owners,
+                &mut groups.labels,
+                &mut groups.next,
+                &mut groups.common,
+                &mut groups.work,
+                &mut groups.joined,
             )
         };
         (count, refusal)

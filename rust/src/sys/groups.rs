@@ -1,17 +1,11 @@
 //! Patches by groups: `groups_c`; and whole jobs: `answer_groups_c`.
 
 use super::{
-    Carried, Diversions, EditBuffer, EmergencySpillSlotCache, Entries, Function, Opened, RegInfo,
-    RegUnitSet, Slots, SparseMap, States, Tables, table,
+    Carried, Diversions, EditBuffer, EmergencySpillSlotCache, Entries, Function, Joined, Labels,
+    Opened, Owners, RegInfo, RegUnitSet, Slots, SparseMap, States, Tables, table,
 };
 use crate::entity::RegUnit;
 
-/// Of each unit an entry that has it.
-type Owners = [u8; 4608];
-/// A number for each entry.
-type Labels = [u8; 128];
-/// The words of all groups.
-type Joined = [u64; 1024];
 /// The numbers of a patch's entries.
 type Numbers = [u32; 512];
 
@@ -80,17 +74,17 @@ unsafe extern "C" {
 
 /// The tables that only a call by groups and a job by groups need.
 pub(super) struct GroupTables {
-    owners: Box<Owners>,
-    labels: Box<Labels>,
-    next: Box<Labels>,
-    common: Box<RegUnitSet>,
-    work: Box<EmergencySpillSlotCache>,
-    joined: Box<Joined>,
+    pub(super) owners: Box<Owners>,
+    pub(super) labels: Box<Labels>,
+    pub(super) next: Box<Labels>,
+    pub(super) common: Box<RegUnitSet>,
+    pub(super) work: Box<EmergencySpillSlotCache>,
+    pub(super) joined: Box<Joined>,
     numbers: Box<Numbers>,
 }
 
 impl GroupTables {
-    fn new() -> Self {
+    pub(super) fn new() -> Self {
         GroupTables {
             owners: table(),
             labels: table(),
