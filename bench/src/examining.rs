@@ -70,7 +70,7 @@ fn patches(memory: &mut Memory) -> Vec<(String, Draft)> {
             Some(130),
         ),
         ("swaps of registers, none free", Kind::Swaps, register, None),
-        ("registers rebuilt", Kind::Rebuilds, register, None),
+        ("registers rebuilt", Kind::Remats, register, None),
         ("chain of slots", Kind::Chain, slot, Some(130)),
         ("rotation of slots, none free", Kind::Rotation, slot, None),
     ];

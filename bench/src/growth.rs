@@ -20,7 +20,7 @@ pub enum Kind {
     /// Pairs of places swapped.
     Swaps,
     /// No moves: each place rebuilt, without scratch.
-    Rebuilds,
+    Remats,
 }
 
 /// A place by its number, of one sort.
@@ -30,14 +30,14 @@ pub type Places = fn(usize) -> Place;
 /// the one given.
 pub fn patch(kind: Kind, count: usize, place: Places, free: Option<usize>) -> Patch {
     let next = |index: usize| match kind {
-        Kind::Flat | Kind::Chain | Kind::Rebuilds => index + 1,
+        Kind::Flat | Kind::Chain | Kind::Remats => index + 1,
         // A rotation of one place is none, nor is there half a swap.
         Kind::Rotation | Kind::Swaps if count == 1 => 1,
         Kind::Rotation => (index + 1) % count,
         Kind::Swaps => index ^ 1,
     };
     let moves = (0..count).map(|index| Entry {
-        source: (kind != Kind::Rebuilds).then(|| place(index)),
+        source: (kind != Kind::Remats).then(|| place(index)),
         dest: place(next(index)),
         value: index,
     });
@@ -76,10 +76,10 @@ pub fn target(units: usize, registers: usize) -> Target {
 
 /// A job of one patch; its values can be rebuilt if the patch does so.
 pub fn job(target: Target, values: usize, slots: usize, patch: Patch) -> Draft {
-    let rebuilt = patch.entries.iter().any(|entry| entry.source.is_none());
+    let remat = patch.entries.iter().any(|entry| entry.source.is_none());
     let value = Value {
         bank: 0,
-        cost: usize::from(rebuilt),
+        cost: usize::from(remat),
         class: 0,
     };
     Draft {
@@ -161,7 +161,7 @@ const KINDS: [(&str, Kind, Places, Option<usize>); 7] = [
         Place::Slot,
         Some(130),
     ),
-    ("registers rebuilt", Kind::Rebuilds, Place::Register, None),
+    ("registers rebuilt", Kind::Remats, Place::Register, None),
     (
         "rotation of slots, none free",
         Kind::Rotation,

@@ -48,7 +48,7 @@ fn small(entries: (usize, usize)) -> Flavour {
         wide: 45,
         memory: 10,
         values: if many { (20, 60) } else { (2, 8) },
-        rebuild: 20,
+        remat: 20,
         slots: if many { (160, 160) } else { (16, 16) },
         slot_places: if many { 60 } else { 15 },
         patches: (1, 1),
@@ -65,7 +65,7 @@ fn shipped(entries: (usize, usize)) -> Flavour {
         wide: 85,
         memory: 5,
         values: if many { (20, 200) } else { (2, 16) },
-        rebuild: 10,
+        remat: 10,
         slots: if many { (160, 160) } else { (16, 16) },
         slot_places: if many { 50 } else { 10 },
         ..small(entries)
@@ -76,7 +76,7 @@ fn shipped(entries: (usize, usize)) -> Flavour {
 fn large(entries: (usize, usize)) -> Flavour {
     Flavour {
         values: (4096, 4096),
-        rebuild: 15,
+        remat: 15,
         slots: (4096, 4096),
         slot_places: 25,
         ..small(entries)
@@ -163,7 +163,7 @@ fn job(random: &mut Random, target: &str, entries: (usize, usize)) -> Draft {
         "shipped" => targets::shipped(),
         _ => large_target(),
     };
-    let values = targets::values(random, &target, flavour.values, flavour.rebuild);
+    let values = targets::values(random, &target, flavour.values, flavour.remat);
     let mut draft = Draft {
         target,
         values,

@@ -50,7 +50,10 @@ pub fn print() {
 /// Of each shape what the repetitions took.
 fn repetitions(clock: &Clock, shapes: &[Shape]) -> Vec<Vec<Taken>> {
     let mut memory = Memory::new();
-    let mut pairs: Vec<Pair> = shapes.iter().map(|shape| Pair::open(&shape.draft)).collect();
+    let mut pairs: Vec<Pair> = shapes
+        .iter()
+        .map(|shape| Pair::open(&shape.draft))
+        .collect();
     for pair in &mut pairs {
         for _ in 0..3 {
             pair.compare(&mut memory);
@@ -80,10 +83,10 @@ fn shapes() -> Vec<Shape> {
         shapes.push(of_kind(&name, Kind::Rotation, count, Some(130)));
     }
     for count in [1, 16, 128] {
-        shapes.push(rebuilds(count, false));
+        shapes.push(remats(count, false));
     }
     for count in [16, 128] {
-        shapes.push(rebuilds(count, true));
+        shapes.push(remats(count, true));
     }
     for row in jobs::rows() {
         if row.target == "shipped" && row.size == "16 to 128" {
@@ -101,7 +104,7 @@ fn of_kind(name: &str, kind: Kind, count: usize, free: Option<usize>) -> Shape {
 }
 
 /// As many registers rebuilt, in the order of their numbers or in a random one.
-fn rebuilds(count: usize, shuffled: bool) -> Shape {
+fn remats(count: usize, shuffled: bool) -> Shape {
     let mut entries: Vec<Entry> = (0..count)
         .map(|index| Entry {
             source: None,
@@ -141,7 +144,10 @@ fn mixed(row: &Row, count: usize) -> Shape {
     let patch = job.patches.iter().min_by_key(|patch| near(patch));
     let patch = patch.expect("a job has patches").clone();
     Shape {
-        name: format!("mixed, {} entries on the shipped target", patch.entries.len()),
+        name: format!(
+            "mixed, {} entries on the shipped target",
+            patch.entries.len()
+        ),
         draft: Draft {
             patches: vec![patch],
             ..job.clone()

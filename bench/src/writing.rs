@@ -80,13 +80,13 @@ fn with_patches(draft: &Draft, patches: Vec<Patch>) -> Draft {
 }
 
 /// Moves that are the same, of which one is kept, or rebuilds without scratch of all.
-fn long_patches(rebuilt: bool) -> Draft {
+fn long_patches(remat: bool) -> Draft {
     let register = |unit| Register {
         memory: false,
         bank: 0,
         units: vec![unit],
     };
-    let entry = |index| match rebuilt {
+    let entry = |index| match remat {
         true => Entry {
             source: None,
             dest: Place::Register(index),
@@ -106,7 +106,7 @@ fn long_patches(rebuilt: bool) -> Draft {
         target: with_classes(128, (0..128).map(register).collect(), 1),
         values: vec![Value {
             bank: 0,
-            cost: if rebuilt { 2 } else { COST_NONE },
+            cost: if remat { 2 } else { COST_NONE },
             class: 0,
         }],
         slots: 0,
@@ -132,11 +132,11 @@ pub fn print() {
         let name = format!("{}, no entry", row_of.target);
         row(&name, &clock, &jobs, &mut memory);
     }
-    for (name, rebuilt) in [
+    for (name, remat) in [
         ("120 patches of one move 128 times", false),
         ("120 patches of 128 rebuilds", true),
     ] {
-        let jobs = [Job::new(&long_patches(rebuilt))];
+        let jobs = [Job::new(&long_patches(remat))];
         row(name, &clock, &jobs, &mut memory);
     }
     println!("\nThe same of jobs with 12 patches that are read and resolved.\n");

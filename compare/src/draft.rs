@@ -144,7 +144,7 @@ impl Target {
 
 impl Draft {
     /// Whether an entry is a rebuild and not kept as a move.
-    pub fn is_rebuild(&self, entry: &Entry) -> bool {
+    pub fn is_remat(&self, entry: &Entry) -> bool {
         let value = &self.values[entry.value];
         match entry.source {
             None => true,
@@ -160,7 +160,7 @@ impl Draft {
     /// Whether 14 holds of an entry.
     pub fn evicts_destination(&self, entry: &Entry) -> bool {
         let value = &self.values[entry.value];
-        if value.cost == COST_NONE || !self.is_rebuild(entry) {
+        if value.cost == COST_NONE || !self.is_remat(entry) {
             return false;
         }
         let class = &self.target.classes[value.class];

@@ -13,7 +13,7 @@ pub const MOST_ENTRIES: usize = 128;
 /// 10: self-move.
 const SELF_MOVE: Refused = Refused(10);
 /// 11: cannot rebuild.
-const CANNOT_REBUILD: Refused = Refused(11);
+const CANNOT_REMATERIALIZE: Refused = Refused(11);
 /// 12: the destination overlaps that of an earlier entry.
 const WRITTEN_TWICE: Refused = Refused(12);
 /// 13: a free unit is a destination's.
@@ -97,8 +97,8 @@ fn read_free_units(reader: &mut Reader, target: &Target) -> Result<RegUnitSet, R
 
 impl Entry {
     fn read(reader: &mut Reader, target: &Target, values: &Values) -> Result<Entry, Refused> {
-        let rebuild = reader.flag()?;
-        let entry = if rebuild {
+        let remat = reader.flag()?;
+        let entry = if remat {
             Entry::Remat {
                 dest: read_place(reader, target, values)?,
                 value: read_value(reader, values)?,
@@ -138,7 +138,7 @@ fn read_value(reader: &mut Reader, values: &Values) -> Result<Value, Refused> {
 /// What becomes of an entry.
 enum Fate {
     Kept,
-    Rebuild { class: RegClass, scratch: bool },
+    Remat { class: RegClass, scratch: bool },
 }
 
 /// What the entries so far come to.
@@ -193,7 +193,7 @@ impl Seen {
             self.write(dest, target)?;
         }
 
-        if let Fate::Rebuild { class, scratch } = fate {
+        if let Fate::Remat { class, scratch } = fate {
             self.bound += if scratch { 5 } else { 1 };
             let class = target.class(class);
             if let Some(&last) = class.order.last()
@@ -267,21 +267,21 @@ fn fate(
     let Some((cost, class)) = values.can_rematerialize(value) else {
         return match source {
             Some(_) => Ok(Fate::Kept),
-            None => Err(CANNOT_REBUILD),
+            None => Err(CANNOT_REMATERIALIZE),
         };
     };
     let in_class = match dest.kind() {
         AllocationKind::PhysReg(reg) => target.class(class).members.contains(reg),
         AllocationKind::SpillSlot(_) => target.class(class).slots,
     };
-    let rebuilt = match source {
+    let remat = match source {
         None => true,
         Some(source) => {
             is_memory(source, target) || (cost == RematCost::CheaperThanMove && in_class)
         }
     };
-    Ok(if rebuilt {
-        Fate::Rebuild {
+    Ok(if remat {
+        Fate::Remat {
             class,
             scratch: !in_class,
         }

@@ -215,7 +215,7 @@ enum Stage {
     Closed,
 }
 
-struct Rebuild {
+struct Remat {
     dest: Allocation,
     value: Value,
     class: RegClass,
@@ -245,8 +245,8 @@ struct Run<'a> {
     edits: Vec<Edit>,
     position: usize,
     moves: Vec<Kept>,
-    without_scratch: Vec<Rebuild>,
-    with_scratch: Vec<Rebuild>,
+    without_scratch: Vec<Remat>,
+    with_scratch: Vec<Remat>,
     /// The kept move that writes a unit, in a table over all units.
     writers: Vec<Option<usize>>,
     /// The units that a kept move reads.
@@ -334,9 +334,9 @@ impl<'a> Run<'a> {
                     value,
                 } => self.add_move(source, dest, value),
                 Entry::Remat { dest, value } => {
-                    let rebuilt = self.values.can_rematerialize(value);
-                    let (_, class) = rebuilt.expect("11 is tested before");
-                    self.add_rebuild(dest, value, class);
+                    let remat = self.values.can_rematerialize(value);
+                    let (_, class) = remat.expect("11 is tested before");
+                    self.add_remat(dest, value, class);
                 }
             }
         }
@@ -350,7 +350,7 @@ impl<'a> Run<'a> {
         if let Some((cost, class)) = self.values.can_rematerialize(value) {
             let cheap = cost == RematCost::CheaperThanMove && self.is_in(class, dest);
             if self.is_memory(source) || cheap {
-                self.add_rebuild(dest, value, class);
+                self.add_remat(dest, value, class);
                 return;
             }
         }
@@ -374,12 +374,12 @@ impl<'a> Run<'a> {
     }
 
     /// "A rebuild whose destination is not in the class needs a scratch."
-    fn add_rebuild(&mut self, dest: Allocation, value: Value, class: RegClass) {
-        let rebuild = Rebuild { dest, value, class };
+    fn add_remat(&mut self, dest: Allocation, value: Value, class: RegClass) {
+        let remat = Remat { dest, value, class };
         if self.is_in(class, dest) {
-            self.without_scratch.push(rebuild);
+            self.without_scratch.push(remat);
         } else {
-            self.with_scratch.push(rebuild);
+            self.with_scratch.push(remat);
         }
     }
 
@@ -389,13 +389,13 @@ impl<'a> Run<'a> {
     /// moves, the first skipping roots with memory at either end."
     fn resolve(&mut self) -> Result<(), Refused> {
         self.add_all();
-        for rebuild in std::mem::take(&mut self.without_scratch) {
-            self.rebuild_into(rebuild.dest, rebuild.value);
-            self.make_available(rebuild.dest, true);
+        for remat in std::mem::take(&mut self.without_scratch) {
+            self.remat_into(remat.dest, remat.value);
+            self.make_available(remat.dest, true);
         }
-        for rebuild in std::mem::take(&mut self.with_scratch) {
-            self.rebuild_by_scratch(&rebuild)?;
-            self.make_available(rebuild.dest, true);
+        for remat in std::mem::take(&mut self.with_scratch) {
+            self.remat_by_scratch(&remat)?;
+            self.make_available(remat.dest, true);
         }
         for skipping in [true, false] {
             for root in 0..self.moves.len() {
@@ -415,7 +415,7 @@ impl<'a> Run<'a> {
         Ok(())
     }
 
-    fn rebuild_into(&mut self, to: Allocation, value: Value) {
+    fn remat_into(&mut self, to: Allocation, value: Value) {
         self.edits.push(Edit::Rematerialize { to, value });
     }
 
@@ -424,12 +424,12 @@ impl<'a> Run<'a> {
     /// bringing nothing back for the scratch (both memory: through a second
     /// scratch, of the stack class), then the rebuild into the scratch, and puts a
     /// slot scratch back." The original leaves the scratch as available as it was.
-    fn rebuild_by_scratch(&mut self, rebuild: &Rebuild) -> Result<(), Refused> {
-        let &Rebuild { dest, value, class } = rebuild;
+    fn remat_by_scratch(&mut self, remat: &Remat) -> Result<(), Refused> {
+        let &Remat { dest, value, class } = remat;
         self.bring_back_from("rebuilt into", dest);
         let scratch = self.search(class, false)?;
         self.copy(scratch, dest, value)?;
-        self.rebuild_into(scratch, value);
+        self.remat_into(scratch, value);
         self.put_back_slot(scratch, value);
         Ok(())
     }

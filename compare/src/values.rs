@@ -19,7 +19,7 @@ pub const FOREIGN_BANK: Refused = Refused(9);
 
 struct ValueInfo {
     bank: RegBank,
-    rebuild: Option<(RematCost, RegClass)>,
+    remat: Option<(RematCost, RegClass)>,
 }
 
 /// The values and slots of a function.
@@ -69,7 +69,7 @@ impl ValueInfo {
             1 => Some(RematCost::CheaperThanMove),
             _ => Some(RematCost::CheaperThanLoad),
         };
-        let rebuild = match cost {
+        let remat = match cost {
             None => None,
             Some(cost) => {
                 let class = RegClass::new(reader.index(target.classes.len())?);
@@ -79,7 +79,7 @@ impl ValueInfo {
                 Some((cost, class))
             }
         };
-        Ok(ValueInfo { bank, rebuild })
+        Ok(ValueInfo { bank, remat })
     }
 }
 
@@ -100,7 +100,7 @@ impl Function for Values {
     }
 
     fn can_rematerialize(&self, value: Value) -> Option<(RematCost, RegClass)> {
-        self.values[value.index()].rebuild
+        self.values[value.index()].remat
     }
 
     fn num_insts(&self) -> usize {

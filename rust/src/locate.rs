@@ -260,7 +260,7 @@ fn free_destination(job: &JobBuilder, number: usize) -> Option<Part> {
 fn evicts_destination(job: &JobBuilder, number: usize) -> Option<Part> {
     let evicts = |entry: [u32; 4]| -> Option<bool> {
         let (source, dest, value) = parts_of(entry);
-        let (_, class) = job.function.values.get(value)?.rebuilt?;
+        let (_, class) = job.function.values.get(value)?.remat?;
         let class = job.target.classes.get(class.index())?;
         let AllocationKind::PhysReg(into) = dest.kind() else {
             return Some(false);
@@ -272,12 +272,12 @@ fn evicts_destination(job: &JobBuilder, number: usize) -> Option<Part> {
                 register.is_some_and(|register| register.memory)
             }
         };
-        let rebuilt = source.is_none_or(from_memory);
+        let remat = source.is_none_or(from_memory);
         let last = units(&job.target, (*class.order.last()?).into());
         let overlaps = units(&job.target, dest)
             .iter()
             .any(|unit| last.contains(unit));
-        Some(rebuilt && !class.slots && !class.members.contains(&into) && overlaps)
+        Some(remat && !class.slots && !class.members.contains(&into) && overlaps)
     };
     let entries = &patch_of(job, number)?.entries;
     let entry = entries

@@ -121,7 +121,7 @@ impl Patch {
 
     /// Adds a rebuild, as [`Patch::add_remat`] does.
     #[inline]
-    pub fn rebuild(&mut self, to: impl Into<Allocation>, value: Value) -> &mut Self {
+    pub fn remat(&mut self, to: impl Into<Allocation>, value: Value) -> &mut Self {
         self.add_remat(to.into(), value);
         self
     }

@@ -14,9 +14,9 @@ pub struct Prices {
     /// Of [`Edit::Move`](crate::Edit::Move), `M`.
     pub moves: u32,
     /// Of [`Edit::Rematerialize`](crate::Edit::Rematerialize), `R`.
-    pub rebuilds: u32,
+    pub remats: u32,
     /// Of [`Edit::EmergencySpill`](crate::Edit::EmergencySpill), `S`.
-    pub saves: u32,
+    pub spills: u32,
     /// Of [`Edit::EmergencyReload`](crate::Edit::EmergencyReload), `L`.
     pub reloads: u32,
 }
@@ -24,7 +24,7 @@ pub struct Prices {
 impl Prices {
     /// As the library takes them.
     pub(crate) fn numbers(self) -> [u32; 4] {
-        [self.moves, self.rebuilds, self.saves, self.reloads]
+        [self.moves, self.remats, self.spills, self.reloads]
     }
 }
 
@@ -133,11 +133,11 @@ mod tests {
 
     const MOST_RUNS: u64 = 67_108_863;
 
-    fn prices([moves, rebuilds, saves, reloads]: [u32; 4]) -> Prices {
+    fn prices([moves, remats, spills, reloads]: [u32; 4]) -> Prices {
         Prices {
             moves,
-            rebuilds,
-            saves,
+            remats,
+            spills,
             reloads,
         }
     }

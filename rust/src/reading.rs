@@ -238,11 +238,11 @@ impl Reader<'_> {
                 1 => Some(RematCost::CheaperThanMove),
                 _ => Some(RematCost::CheaperThanLoad),
             };
-            let rebuilt = match cost {
+            let remat = match cost {
                 Some(cost) => Some((cost, RegClass(self.number()?))),
                 None => None,
             };
-            function.values.push(ValueInfo { bank, rebuilt });
+            function.values.push(ValueInfo { bank, remat });
         }
         Ok(())
     }

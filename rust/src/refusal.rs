@@ -71,7 +71,7 @@ refusals! {
     8 LeftOver: "bytes are left over";
     9 ForeignBank: "a register, or a value's rebuild class, is not of the value's bank";
     10 SelfMove: "a move's source is its destination";
-    11 CannotRebuild: "a rebuild of a value that cannot be rebuilt";
+    11 CannotRematerialize: "a rebuild of a value that cannot be rebuilt";
     12 WrittenTwice: "a destination overlaps that of an earlier entry, and the entry does not repeat a kept move";
     13 FreeDestination: "a free unit is a destination's";
     14 EvictsDestination: "a rebuild needs a scratch, in a class without slots whose order's last register overlaps the destination";

@@ -49,9 +49,9 @@ pub struct Tally {
     /// How many `M` their edits have.
     pub moves: u64,
     /// How many `R`.
-    pub rebuilds: u64,
+    pub remats: u64,
     /// How many `S`.
-    pub saves: u64,
+    pub spills: u64,
     /// How many `L`.
     pub reloads: u64,
     /// How often a register was evicted.
@@ -75,8 +75,8 @@ impl Tally {
         let [
             accepted,
             moves,
-            rebuilds,
-            saves,
+            remats,
+            spills,
             reloads,
             evictions,
             price,
@@ -85,8 +85,8 @@ impl Tally {
         Tally {
             accepted,
             moves,
-            rebuilds,
-            saves,
+            remats,
+            spills,
             reloads,
             evictions,
             price,

@@ -102,11 +102,11 @@ fn each_word() {
     let function = job.function();
     let slots = [function.slot(), function.slot()];
     let v0 = function.value(single);
-    let v1 = function.rebuilt_value(single, RematCost::CheaperThanMove, stack);
-    let v2 = function.rebuilt_value(pairs, RematCost::CheaperThanLoad, top_of_pairs);
+    let v1 = function.remat_value(single, RematCost::CheaperThanMove, stack);
+    let v2 = function.remat_value(pairs, RematCost::CheaperThanLoad, top_of_pairs);
     let patch = job.patch();
     patch.free(&[3, 2, 3]).move_(slots[0], r0, v0);
-    patch.rebuild(r1, v1).rebuild(slots[1], v2);
+    patch.remat(r1, v1).remat(slots[1], v2);
     let mut other = Patch::new();
     other.move_(word, r4, v0).move_(pair, SpillSlot::new(1), v2);
     job.add_patch(other);
@@ -300,13 +300,13 @@ fn functions_are_refused_where_they_are_wrong() {
         value(2),
         2,
     );
-    let rebuilt = |t: &mut Three, class| {
+    let remat = |t: &mut Three, class| {
         let cost = RematCost::CheaperThanLoad;
         t.job
             .function()
-            .rebuilt_value(t.bank, cost, RegClass::new(class));
+            .remat_value(t.bank, cost, RegClass::new(class));
     };
-    check(&|t| rebuilt(t, 2), value(2), 2);
+    check(&|t| remat(t, 2), value(2), 2);
     check(
         &|t| {
             let second = t.job.target().bank(3);
@@ -317,8 +317,8 @@ fn functions_are_refused_where_they_are_wrong() {
                 .target()
                 .top_level_class(second, top)
                 .stack_class(second, stack);
-            rebuilt(t, 1);
-            rebuilt(t, 3);
+            remat(t, 1);
+            remat(t, 3);
         },
         value(3),
         9,
@@ -371,11 +371,7 @@ fn patches_are_refused_where_they_are_wrong() {
         entry(2),
         10,
     );
-    check(
-        &|p, [r0, ..], [v0, _]| done(p.rebuild(r0, v0)),
-        entry(1),
-        11,
-    );
+    check(&|p, [r0, ..], [v0, _]| done(p.remat(r0, v0)), entry(1), 11);
     check(
         &|p, [r0, r1, r2], [v0, v1]| {
             p.move_(r0, r1, v0).move_(r1, r0, v1).move_(r2, r1, v1);
@@ -422,7 +418,7 @@ fn entries_over_pairs() {
     let function = job.function();
     let v0 = function.value(single);
     let v1 = function.value(pairs);
-    let v2 = function.rebuilt_value(single, RematCost::CheaperThanLoad, evicting);
+    let v2 = function.remat_value(single, RematCost::CheaperThanLoad, evicting);
     let slot = function.slot();
     let pair: Allocation = low.into();
 
@@ -438,11 +434,11 @@ fn entries_over_pairs() {
     assert_eq!(refused(&sources), (Part::Entry(1, 2), 21));
     // v2 is rebuilt in r0 and copied to r1 and r2. Into another register on r0's unit it
     // cannot go so.
-    let fine = with(&|p| done(p.rebuild(r1, v2).rebuild(r2, v2)));
+    let fine = with(&|p| done(p.remat(r1, v2).remat(r2, v2)));
     assert!(fine.bytes().is_ok());
     let mut evicted = job.clone();
     let same_unit = evicted.target().of_bank(single).register(&[0]);
-    evicted.patch().rebuild(r1, v2).rebuild(same_unit, v2);
+    evicted.patch().remat(r1, v2).remat(same_unit, v2);
     assert_eq!(refused(&evicted), (Part::Entry(1, 2), 14));
 }
 

@@ -11,7 +11,7 @@ const THREE: &str = "3 1 3 0 1 3 0 0 1 0 0 0 1 1 0 0 1 2 2 0 1 3 0 1 2 3 0 1 2 0
 /// Two values that cannot be rebuilt, N = 1, L = 1.
 const PLAIN: &str = "2 1 1 0 0 0 0";
 /// Value 0 is rebuilt by the stack class, at the cost 2.
-const REBUILT: &str = "2 1 1 0 2 1 0 0";
+const REMAT: &str = "2 1 1 0 2 1 0 0";
 /// Two banks of one register each, and their four classes.
 const TWO_BANKS: &str =
     "2 2 3 0 1 3 2 3 2 0 0 1 0 0 1 1 1 4 0 1 1 0 1 0 0 0 1 0 1 0 1 1 1 1 1 1 1 0 1 1 1 1";
@@ -169,11 +169,11 @@ fn entries() {
         &[&[THREE, PLAIN, "1 0 1 0 3 5 1"]],
     );
     // A move from where it lies, or a value that can be rebuilt.
-    let rebuild = "1 0 1 1 3 0";
+    let remat = "1 0 1 1 3 0";
     check(
         11,
-        &[THREE, PLAIN, rebuild],
-        &[&[THREE, PLAIN, "1 0 1 0 1 3 0"], &[THREE, REBUILT, rebuild]],
+        &[THREE, PLAIN, remat],
+        &[&[THREE, PLAIN, "1 0 1 0 1 3 0"], &[THREE, REMAT, remat]],
     );
     // Two values into r1; then one of them into r2.
     check(
@@ -184,13 +184,13 @@ fn entries() {
     // A rebuild twice, and twice a move that becomes one; then once.
     check(
         12,
-        &[THREE, REBUILT, "1 0 2 1 3 0 1 3 0"],
-        &[&[THREE, REBUILT, rebuild]],
+        &[THREE, REMAT, "1 0 2 1 3 0 1 3 0"],
+        &[&[THREE, REMAT, remat]],
     );
     check(
         12,
-        &[THREE, REBUILT, "1 0 2 0 0 3 0 0 0 3 0"],
-        &[&[THREE, REBUILT, "1 0 1 0 0 3 0"]],
+        &[THREE, REMAT, "1 0 2 0 0 3 0 0 0 3 0"],
+        &[&[THREE, REMAT, "1 0 1 0 0 3 0"]],
     );
 }
 

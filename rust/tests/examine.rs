@@ -222,7 +222,7 @@ const WORDS: [&[u8]; 7] = [&[], &[0], &[1], &[0, 0], &[0, 1], &[1, 0], &[1, 1]];
 #[derive(Clone, Copy, PartialEq)]
 enum Step {
     Move(usize, usize),
-    Rebuild(usize, usize),
+    Remat(usize, usize),
     Save(usize, usize),
     Load(usize, usize),
 }
@@ -251,7 +251,7 @@ fn run(list: &[Step], start: Held, content: [&'static [u8]; 2]) -> Result<Held, 
                 }
                 held[to] = held[from];
             }
-            Step::Rebuild(to, value) => {
+            Step::Remat(to, value) => {
                 if value != 1 || to >= 3 {
                     return Err(index);
                 }
@@ -272,7 +272,7 @@ fn run(list: &[Step], start: Held, content: [&'static [u8]; 2]) -> Result<Held, 
 /// A patch: its moves, source, destination and value; rebuilds of value 1; a free register.
 struct Asked {
     moves: Vec<(usize, usize, usize)>,
-    rebuilds: Vec<usize>,
+    remats: Vec<usize>,
     free: Option<usize>,
 }
 
@@ -328,7 +328,7 @@ impl Asked {
         if let Some(&(_, _, value)) = move_to {
             return end[place] == content[value];
         }
-        if self.rebuilds.contains(&place) {
+        if self.remats.contains(&place) {
             return end[place] == content[1];
         }
         self.free == Some(place) || end[place] == start[place]
@@ -346,7 +346,7 @@ fn named(place: usize) -> String {
 fn printed(step: Step) -> String {
     match step {
         Step::Move(to, from) => format!("M {} {} 0", named(to), named(from)),
-        Step::Rebuild(to, value) => format!("R {} {value}", named(to)),
+        Step::Remat(to, value) => format!("R {} {value}", named(to)),
         Step::Save(to, from) => format!("S {} {}", named(to), named(from)),
         Step::Load(to, from) => format!("L {} {}", named(to), named(from)),
     }
@@ -357,7 +357,7 @@ fn drawn(draw: &mut Draw) -> (Asked, Vec<u8>) {
     loop {
         let mut asked = Asked {
             moves: Vec::new(),
-            rebuilds: Vec::new(),
+            remats: Vec::new(),
             free: None,
         };
         let mut patch = String::new();
@@ -371,12 +371,12 @@ fn drawn(draw: &mut Draw) -> (Asked, Vec<u8>) {
             let (source, to, value) = (draw.below(4), draw.below(4), draw.below(2));
             if value == 1 && draw.below(3) == 0 {
                 patch += &format!("  rebuild v1 in {}\n", named(to));
-                asked.rebuilds.push(to);
+                asked.remats.push(to);
             } else {
                 patch += &format!("  move v{value} from {} to {}\n", named(source), named(to));
                 // Rebuilt, since its source is memory, or kept.
                 if value == 1 && source >= 3 {
-                    asked.rebuilds.push(to);
+                    asked.remats.push(to);
                 } else {
                     asked.moves.push((source, to, value));
                 }
@@ -403,7 +403,7 @@ fn step_of(word: u64) -> Step {
     let (to, from) = (place(word / 8 % 16_384), place(word / 131_072 % 16_384));
     match word % 8 {
         1 => Step::Move(to, from),
-        2 => Step::Rebuild(to, (word >> 31) as usize),
+        2 => Step::Remat(to, (word >> 31) as usize),
         3 => Step::Save(to, from),
         _ => Step::Load(to, from),
     }
@@ -411,7 +411,7 @@ fn step_of(word: u64) -> Step {
 
 fn drawn_step(draw: &mut Draw) -> Step {
     match draw.below(8) {
-        0 => Step::Rebuild(draw.below(5), draw.below(2)),
+        0 => Step::Remat(draw.below(5), draw.below(2)),
         1 => Step::Save(3 + draw.below(2), draw.below(3)),
         2 => Step::Load(draw.below(3), 3 + draw.below(2)),
         _ => Step::Move(draw.below(5), draw.below(5)),
@@ -427,8 +427,8 @@ fn with_other_operand(draw: &mut Draw, step: Step) -> Step {
     match step {
         Step::Move(to, from) if first => Step::Move(other(draw, to, 0, 5), from),
         Step::Move(to, from) => Step::Move(to, other(draw, from, 0, 5)),
-        Step::Rebuild(to, value) if first => Step::Rebuild(other(draw, to, 0, 5), value),
-        Step::Rebuild(to, value) => Step::Rebuild(to, 1 - value),
+        Step::Remat(to, value) if first => Step::Remat(other(draw, to, 0, 5), value),
+        Step::Remat(to, value) => Step::Remat(to, 1 - value),
         Step::Save(to, from) if first => Step::Save(other(draw, to, 3, 2), from),
         Step::Save(to, from) => Step::Save(to, other(draw, from, 0, 3)),
         Step::Load(to, from) if first => Step::Load(other(draw, to, 0, 3), from),

@@ -9,8 +9,8 @@ use parallel_moves::{
 
 const PRICES: Prices = Prices {
     moves: 4,
-    rebuilds: 6,
-    saves: 16,
+    remats: 6,
+    spills: 16,
     reloads: 12,
 };
 const MOST_RUNS: u64 = 67_108_863;
@@ -66,11 +66,11 @@ fn ranges() {
     let with = |index: usize, price| {
         let mut prices = [4, 6, 16, 12];
         prices[index] = price;
-        let [moves, rebuilds, saves, reloads] = prices;
+        let [moves, remats, spills, reloads] = prices;
         Prices {
             moves,
-            rebuilds,
-            saves,
+            remats,
+            spills,
             reloads,
         }
     };
@@ -180,10 +180,10 @@ fn cheaper_at_the_limits() {
     }
     for index in 0..4 {
         let mut numbers = [65_535; 4];
-        let prices = |[moves, rebuilds, saves, reloads]: [u32; 4]| Prices {
+        let prices = |[moves, remats, spills, reloads]: [u32; 4]| Prices {
             moves,
-            rebuilds,
-            saves,
+            remats,
+            spills,
             reloads,
         };
         assert_eq!(cheaper(&[S, L], &[M], prices(numbers)), Ok(&[M][..]));
@@ -207,7 +207,7 @@ fn cheaper_order() {
     let given = edits.cheaper(edits, PRICES).unwrap();
     assert_eq!(given.words().as_ptr(), edits.words().as_ptr());
     let too_dear = Prices {
-        saves: 65_536,
+        spills: 65_536,
         ..PRICES
     };
     assert_eq!(edits.cheaper(others, too_dear), Err(Refusal::OutsidePrice));

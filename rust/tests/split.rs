@@ -80,7 +80,7 @@ fn job(
     registers: &[Register],
     slots: u16,
     banks: &[usize],
-    rebuilt: &[bool],
+    remat: &[bool],
     parts: &[Part],
 ) -> Vec<u8> {
     let units = 1 + registers.iter().flat_map(|r| &r.units).max().unwrap();
@@ -109,9 +109,9 @@ fn job(
         }
     }
     numbers.extend([banks.len() as u32, slots.into(), 2048]);
-    for (&bank, &rebuilt) in banks.iter().zip(rebuilt) {
+    for (&bank, &remat) in banks.iter().zip(remat) {
         let bank = bank as u32;
-        numbers.extend(if rebuilt {
+        numbers.extend(if remat {
             vec![bank, 2, 2 * bank + 1]
         } else {
             vec![bank, 0]
@@ -249,8 +249,8 @@ fn try_one(random: &mut Random, resolver: &mut Resolver) -> Tried {
     let bank = |place| start.read(place).len() - 1;
     let mut banks: Vec<usize> = places.iter().map(|&place| bank(place)).collect();
     banks.extend([0, 1]);
-    let mut rebuilt = vec![false; places.len()];
-    rebuilt.extend([true, true]);
+    let mut remat = vec![false; places.len()];
+    remat.extend([true, true]);
     let content = |value: u16| match places.get(value as usize) {
         Some(&place) => start.read(place),
         None => vec![3000; 1 + banks[value as usize]],
@@ -293,7 +293,7 @@ fn try_one(random: &mut Random, resolver: &mut Resolver) -> Tried {
     let mut tried = Tried::Split;
     let kept_evictions = 1 + random.below(2) as u32;
     for parts in [&whole[..], &parts] {
-        let job = job(&registers, SLOTS, &banks, &rebuilt, parts);
+        let job = job(&registers, SLOTS, &banks, &remat, parts);
         let answer = resolver.answer(kept_evictions, &job);
         let refused = parts
             .iter()

@@ -7,8 +7,8 @@ use parallel_moves::{Prices, Refusal, Tally, try_settings};
 
 const PRICES: Prices = Prices {
     moves: 4,
-    rebuilds: 6,
-    saves: 16,
+    remats: 6,
+    spills: 16,
     reloads: 12,
 };
 
@@ -32,12 +32,12 @@ fn swap_full() -> Vec<u8> {
 
 /// Accepted, M, R, S, L and price, then refusals by number.
 fn is(tally: &Tally, counts: [u64; 6], refusals: &[(u8, u64)]) {
-    let [accepted, moves, rebuilds, saves, reloads, price] = counts;
+    let [accepted, moves, remats, spills, reloads, price] = counts;
     let Tally {
         accepted: a,
         moves: m,
-        rebuilds: r,
-        saves: s,
+        remats: r,
+        spills: s,
         reloads: l,
         evictions,
         price: p,
@@ -52,7 +52,7 @@ fn is(tally: &Tally, counts: [u64; 6], refusals: &[(u8, u64)]) {
     assert_eq!(given, refusals);
     let all: u64 = refusals.iter().map(|(_, count)| count).sum();
     assert_eq!(tally.drawn(), accepted + all);
-    assert_eq!(price, 4 * moves + 6 * rebuilds + 16 * saves + 12 * reloads);
+    assert_eq!(price, 4 * moves + 6 * remats + 16 * spills + 12 * reloads);
 }
 
 #[test]
@@ -124,8 +124,8 @@ fn refusals() {
     };
     let dearest = Prices {
         moves: 65_535,
-        rebuilds: 65_535,
-        saves: 65_535,
+        remats: 65_535,
+        spills: 65_535,
         reloads: 65_535,
     };
     let job = swap_full();
@@ -158,11 +158,11 @@ fn refusals() {
     for index in 0..4 {
         let mut prices = [0; 4];
         prices[index] = 65_536;
-        let [moves, rebuilds, saves, reloads] = prices;
+        let [moves, remats, spills, reloads] = prices;
         let prices = Prices {
             moves,
-            rebuilds,
-            saves,
+            remats,
+            spills,
             reloads,
         };
         assert_eq!(refusal(&job, prices, 1), 19);

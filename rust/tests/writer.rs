@@ -115,8 +115,8 @@ fn each_entry_is_written() {
     let twice = all(&[THREE, TWO_VALUES, "1 0 2 0 1 3 0 0 1 3 0"]);
     assert_eq!(outcome(&twice), 0);
     assert_eq!(write(&twice).unwrap().len(), 57);
-    let rebuilt = all(&[THREE, "1 1 0 0 2 1", "1 0 2 0 0 3 0 1 5 0"]);
-    assert_eq!(outcome(&rebuilt), 0);
+    let remat = all(&[THREE, "1 1 0 0 2 1", "1 0 2 0 0 3 0 1 5 0"]);
+    assert_eq!(outcome(&remat), 0);
 }
 
 /// Numbers from 128 on, in their shortest form.

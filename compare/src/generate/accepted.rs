@@ -19,7 +19,7 @@ pub struct Flavour {
     pub memory: usize,
     pub values: Range,
     /// Chance that a value can be rebuilt.
-    pub rebuild: usize,
+    pub remat: usize,
     pub slots: Range,
     /// Chance that a place is a slot.
     pub slot_places: usize,
@@ -39,7 +39,7 @@ pub const SMALL: Flavour = Flavour {
     wide: 45,
     memory: 10,
     values: (1, 6),
-    rebuild: 20,
+    remat: 20,
     slots: (0, 4),
     slot_places: 15,
     patches: (1, 3),
@@ -54,7 +54,7 @@ pub const BIG: Flavour = Flavour {
     wide: 40,
     memory: 8,
     values: (20, 200),
-    rebuild: 15,
+    remat: 15,
     slots: (0, 200),
     slot_places: 25,
     patches: (1, 2),
@@ -69,7 +69,7 @@ pub const SHARED: Flavour = Flavour {
     wide: 85,
     memory: 5,
     values: (2, 16),
-    rebuild: 10,
+    remat: 10,
     slots: (0, 4),
     slot_places: 10,
     patches: (1, 4),
@@ -84,7 +84,7 @@ pub const MEMORY: Flavour = Flavour {
     wide: 45,
     memory: 45,
     values: (1, 10),
-    rebuild: 20,
+    remat: 20,
     slots: (2, 10),
     slot_places: 50,
     patches: (1, 4),
@@ -99,7 +99,7 @@ pub const REMAT: Flavour = Flavour {
     wide: 45,
     memory: 25,
     values: (2, 12),
-    rebuild: 85,
+    remat: 85,
     slots: (1, 8),
     slot_places: 35,
     patches: (1, 4),
@@ -114,7 +114,7 @@ pub const PATCHES: Flavour = Flavour {
     wide: 45,
     memory: 15,
     values: (2, 12),
-    rebuild: 30,
+    remat: 30,
     slots: (0, 6),
     slot_places: 25,
     patches: (8, 60),
@@ -129,7 +129,7 @@ pub const EVICTIONS: Flavour = Flavour {
     wide: 60,
     memory: 10,
     values: (3, 14),
-    rebuild: 40,
+    remat: 40,
     slots: (4, 24),
     slot_places: 75,
     patches: (1, 4),
@@ -145,11 +145,11 @@ pub fn draft(random: &mut Random, flavour: &Flavour) -> Draft {
     } else {
         targets::random(random, flavour)
     };
-    let rebuild = match flavour.evicting {
+    let remat = match flavour.evicting {
         true => *random.pick(&[5, 40, 40, 90]),
-        false => flavour.rebuild,
+        false => flavour.remat,
     };
-    let values = targets::values(random, &target, flavour.values, rebuild);
+    let values = targets::values(random, &target, flavour.values, remat);
     let mut draft = Draft {
         target,
         values,

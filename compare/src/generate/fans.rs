@@ -133,7 +133,12 @@ impl Maker<'_> {
     /// Adds up to three banks of leaves.
     fn add_leaves(&mut self, sources: &[usize]) {
         let under: Vec<(usize, usize)> = (0..self.links.len())
-            .flat_map(|link| self.links[link].leaves.iter().map(move |&unit| (link, unit)))
+            .flat_map(|link| {
+                self.links[link]
+                    .leaves
+                    .iter()
+                    .map(move |&unit| (link, unit))
+            })
             .collect();
         for bank in 1..=self.random.within(1, 3) {
             let room = MOST_REGISTERS - self.target.registers.len() - 8;
@@ -222,7 +227,7 @@ impl Maker<'_> {
             }));
         }
         // One of each bank that is rebuilt by the class without slots.
-        let rebuilt = draft.values.len();
+        let first_remat = draft.values.len();
         for bank in 0..=leaves.len() {
             draft.values.push(Value {
                 bank,
@@ -231,7 +236,7 @@ impl Maker<'_> {
             });
         }
         for _ in 0..random.within(1, 4) {
-            let patch = patch(random, &draft, &links, &leaves, &values, rebuilt);
+            let patch = patch(random, &draft, &links, &leaves, &values, first_remat);
             draft.patches.push(patch);
         }
         draft
@@ -246,7 +251,7 @@ fn patch(
     links: &[Link],
     leaves: &[Leaves],
     values: &[usize],
-    rebuilt: usize,
+    first_remat: usize,
 ) -> Patch {
     let mut patch = Patch::default();
     let length = match random.chance(60) {
@@ -256,7 +261,11 @@ fn patch(
     // Into ordinary slots: they are written once.
     let mut slots: Vec<usize> = (0..draft.slots).collect();
     random.shuffle(&mut slots);
-    let evicting = if random.chance(40) { random.below(4) } else { 0 };
+    let evicting = if random.chance(40) {
+        random.below(4)
+    } else {
+        0
+    };
     for (index, link) in links[..length].iter().enumerate() {
         patch.entries.push(Entry {
             source: Some(Place::Register(link.source)),
@@ -295,15 +304,19 @@ fn patch(
             break;
         };
         // A rebuild comes before all moves, a move from a slot after them.
-        let rebuild = random.chance(60);
+        let remat = random.chance(60);
         let source = (draft.slots - 1 != slot).then_some(Place::Slot(draft.slots - 1));
-        if !rebuild && source.is_none() {
+        if !remat && source.is_none() {
             continue;
         }
         patch.entries.push(Entry {
-            source: if rebuild { None } else { source },
+            source: if remat { None } else { source },
             dest: Place::Slot(slot),
-            value: if rebuild { rebuilt + bank } else { values[bank] },
+            value: if remat {
+                first_remat + bank
+            } else {
+                values[bank]
+            },
         });
     }
     if random.chance(15) {

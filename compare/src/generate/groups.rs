@@ -10,7 +10,7 @@ const GROUPS: Flavour = Flavour {
     wide: 40,
     memory: 10,
     values: (4, 24),
-    rebuild: 20,
+    remat: 20,
     slots: (0, 12),
     slot_places: 20,
     patches: (1, 4),
@@ -85,10 +85,10 @@ impl<'a> Maker<'a> {
     }
 
     /// A value of a bank, one that can be rebuilt if so wanted.
-    fn value(&mut self, bank: usize, rebuilt: bool) -> Option<usize> {
+    fn value(&mut self, bank: usize, remat: bool) -> Option<usize> {
         let values: Vec<usize> = (0..self.draft.values.len())
             .filter(|&value| self.draft.values[value].bank == bank)
-            .filter(|&value| !rebuilt || self.draft.values[value].cost != COST_NONE)
+            .filter(|&value| !remat || self.draft.values[value].cost != COST_NONE)
             .collect();
         self.random.pick_any(&values).copied()
     }

@@ -73,7 +73,7 @@ impl<'a> PatchMaker<'a> {
                 6..=8 => self.add_knot(room),
                 9..=12 if room > 2 => self.add_braid(),
                 13 | 14 => self.add_fan(room),
-                15 | 16 => self.add_rebuild(),
+                15 | 16 => self.add_remat(),
                 17 => self.repeat_entry(),
                 18 => self.add_words(room),
                 _ => self.add_single_move(),
@@ -184,7 +184,7 @@ impl<'a> PatchMaker<'a> {
             return false;
         }
         if let Some(place) = source {
-            if !self.draft.is_rebuild(&entry) {
+            if !self.draft.is_remat(&entry) {
                 if !self.may_be_source(place) {
                     return false;
                 }
@@ -253,7 +253,7 @@ impl<'a> PatchMaker<'a> {
             self.add_alternating(room);
         } else {
             for _ in 0..self.random.within(2, 6).min(room) {
-                self.add_rebuild();
+                self.add_remat();
             }
         }
     }
@@ -548,7 +548,7 @@ impl<'a> PatchMaker<'a> {
         }
     }
 
-    fn add_rebuild(&mut self) {
+    fn add_remat(&mut self) {
         let Some(value) = self.any_value() else {
             return;
         };
@@ -562,7 +562,7 @@ impl<'a> PatchMaker<'a> {
 
     fn repeat_entry(&mut self) {
         if let Some(&entry) = self.random.pick_any(&self.patch.entries)
-            && !self.draft.is_rebuild(&entry)
+            && !self.draft.is_remat(&entry)
         {
             self.patch.entries.push(entry);
         }

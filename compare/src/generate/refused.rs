@@ -79,7 +79,7 @@ fn spoil_draft(random: &mut Random, draft: &mut Draft, number: u8) {
         7 => unfit_class(random, draft),
         9 => foreign_bank(random, draft),
         10 => self_move(random, draft),
-        11 => rebuild_what_cannot_be(random, draft),
+        11 => remat_what_cannot_be(random, draft),
         12 => write_twice(random, draft),
         13 => free_destination(random, draft),
         14 => evict_destination(random, draft),
@@ -375,7 +375,7 @@ fn self_move(random: &mut Random, draft: &mut Draft) {
 }
 
 /// 11.
-fn rebuild_what_cannot_be(random: &mut Random, draft: &mut Draft) {
+fn remat_what_cannot_be(random: &mut Random, draft: &mut Draft) {
     if draft.values.is_empty() {
         return;
     }
@@ -508,7 +508,7 @@ fn too_many_entries(random: &mut Random, draft: &mut Draft) {
     let entries = draft.patches[index].entries.clone();
     let kept: Vec<Entry> = entries
         .into_iter()
-        .filter(|entry| !draft.is_rebuild(entry))
+        .filter(|entry| !draft.is_remat(entry))
         .collect();
     if let Some(&entry) = random.pick_any(&kept) {
         let wanted = random.within(128, 132);
@@ -534,7 +534,7 @@ fn overlap_sources(random: &mut Random, draft: &mut Draft) -> bool {
     let kept: Vec<usize> = draft.patches[index]
         .entries
         .iter()
-        .filter(|entry| !draft.is_rebuild(entry))
+        .filter(|entry| !draft.is_remat(entry))
         .filter_map(|entry| match entry.source {
             Some(Place::Register(reg)) => Some(reg),
             _ => None,
@@ -639,7 +639,7 @@ fn move_from(random: &mut Random, draft: &Draft, patch: usize, source: usize) ->
         value,
     };
     let any = *random.pick(&values);
-    values.retain(|&value| !draft.is_rebuild(&entry(value)));
+    values.retain(|&value| !draft.is_remat(&entry(value)));
     match random.pick_any(&values) {
         Some(&kept) if random.chance(90) => entry(kept),
         _ => entry(any),

@@ -268,13 +268,13 @@ pub fn values(
     random: &mut Random,
     target: &Target,
     count: (usize, usize),
-    rebuild: usize,
+    remat: usize,
 ) -> Vec<Value> {
     let count = random.range(count);
     (0..count)
         .map(|_| {
             let bank = random.below(target.banks.len());
-            let cost = if random.chance(rebuild) {
+            let cost = if random.chance(remat) {
                 *random.pick(&[COST_BELOW_MOVE, COST_BELOW_LOAD])
             } else {
                 COST_NONE

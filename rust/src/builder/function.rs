@@ -27,7 +27,7 @@ impl RematCost {
 #[derive(Clone, Debug, PartialEq, Eq)]
 pub(crate) struct ValueInfo {
     pub bank: RegBank,
-    pub rebuilt: Option<(RematCost, RegClass)>,
+    pub remat: Option<(RematCost, RegClass)>,
 }
 
 /// A function under construction, of a [`JobBuilder`](crate::JobBuilder).
@@ -58,12 +58,12 @@ impl FunctionBuilder {
     }
 
     /// Adds a value that can be rebuilt in the places of a class, at such a cost.
-    pub fn rebuilt_value(&mut self, bank: RegBank, cost: RematCost, class: RegClass) -> Value {
+    pub fn remat_value(&mut self, bank: RegBank, cost: RematCost, class: RegClass) -> Value {
         self.add_value(bank, Some((cost, class)))
     }
 
-    fn add_value(&mut self, bank: RegBank, rebuilt: Option<(RematCost, RegClass)>) -> Value {
-        self.values.push(ValueInfo { bank, rebuilt });
+    fn add_value(&mut self, bank: RegBank, remat: Option<(RematCost, RegClass)>) -> Value {
+        self.values.push(ValueInfo { bank, remat });
         Value::new(self.values.len() - 1)
     }
 
@@ -94,7 +94,7 @@ impl FunctionBuilder {
         for (value, index) in self.values.iter().zip(0..) {
             let part = Part::Value(Value(index));
             put(value.bank.0, part);
-            match value.rebuilt {
+            match value.remat {
                 None => put(0, part),
                 Some((cost, class)) => {
                     put(cost.number(), part);

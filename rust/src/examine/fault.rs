@@ -57,9 +57,9 @@ pub enum Cannot {
     /// What it reads may have any number of words: nothing says what it was at the start.
     AnyLength,
     /// Its value cannot be rebuilt.
-    NeverRebuilt,
+    CannotRematerialize,
     /// Its value can be rebuilt, but not there.
-    NotRebuiltThere,
+    CannotRematerializeThere,
 }
 
 /// Prints the edit, counted from 1, and why it cannot be done; or the place, and what is wrong.
@@ -98,8 +98,8 @@ impl fmt::Display for Cannot {
                 write!(f, "{words} {read} read, and the register has {units}")
             }
             Cannot::AnyLength => f.write_str("what is read may have any number of words"),
-            Cannot::NeverRebuilt => f.write_str("the value cannot be rebuilt"),
-            Cannot::NotRebuiltThere => f.write_str("the value cannot be rebuilt there"),
+            Cannot::CannotRematerialize => f.write_str("the value cannot be rebuilt"),
+            Cannot::CannotRematerializeThere => f.write_str("the value cannot be rebuilt there"),
         }
     }
 }
@@ -234,10 +234,10 @@ impl Held {
             }
             Edit::Rematerialize { to, value } => {
                 let info = sense.job.function.values.get(value.index());
-                let rebuilt = info.and_then(|info| info.rebuilt);
-                let (_, class) = rebuilt.ok_or(Cannot::NeverRebuilt)?;
+                let remat = info.and_then(|info| info.remat);
+                let (_, class) = remat.ok_or(Cannot::CannotRematerialize)?;
                 if !sense.is_in_class(to.into(), class) {
-                    return Err(Cannot::NotRebuiltThere);
+                    return Err(Cannot::CannotRematerializeThere);
                 }
                 self.write(sense, to.into(), List::Words(sense.content(value)));
                 Ok(())

@@ -54,7 +54,7 @@ impl<'a> Sense<'a> {
             }
             let (source, dest, value) = (place(first), place(second), Value(third));
             sense.dests.entry(dest).or_insert(value);
-            if sense.becomes_rebuild(source, dest, value) {
+            if sense.becomes_remat(source, dest, value) {
                 sense.not_read.insert(source);
             } else {
                 let first = *sense.sources.entry(source).or_insert(value);
@@ -65,9 +65,9 @@ impl<'a> Sense<'a> {
     }
 
     /// Whether a move becomes a rebuild.
-    fn becomes_rebuild(&self, source: Place, dest: Place, value: Value) -> bool {
+    fn becomes_remat(&self, source: Place, dest: Place, value: Value) -> bool {
         let value = self.job.function.values.get(value.index());
-        let Some((cost, class)) = value.and_then(|value| value.rebuilt) else {
+        let Some((cost, class)) = value.and_then(|value| value.remat) else {
             return false;
         };
         self.is_memory(source)

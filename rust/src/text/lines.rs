@@ -169,7 +169,7 @@ impl TextReader {
         let index = words.next_name('v', self.job.function.values.len())?;
         words.word("bank")?;
         let bank = RegBank(words.number("b")?);
-        let rebuilt = if words.is_next("rebuilt") {
+        let remat = if words.is_next("rebuilt") {
             let costs = COSTS.into_iter();
             let mut costs = costs.map(|(cost, word)| (cost, words.is_next(word)));
             let cost = costs.find(|&(_, said)| said).map(|(cost, _)| cost);
@@ -180,7 +180,7 @@ impl TextReader {
         } else {
             None
         };
-        self.job.function.values.push(ValueInfo { bank, rebuilt });
+        self.job.function.values.push(ValueInfo { bank, remat });
         Ok(Part::Value(Value(index)))
     }
 

@@ -18,7 +18,7 @@ impl fmt::Display for JobBuilder {
         writeln!(f, "emergency-slots {}", self.function.emergency_slots)?;
         for (value, index) in self.function.values.iter().zip(0..) {
             write!(f, "value v{index} bank b{}", value.bank.0)?;
-            if let Some((cost, class)) = value.rebuilt {
+            if let Some((cost, class)) = value.remat {
                 write!(f, " rebuilt {} by c{}", cost_word(cost), class.0)?;
             }
             writeln!(f)?;

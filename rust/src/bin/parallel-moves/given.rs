@@ -154,13 +154,13 @@ impl Given {
     /// The prices; one that is outside its range is refused.
     pub fn prices(&self) -> Result<Prices, Failure> {
         let list = self.list(&PRICES, u32::MAX);
-        let Ok([moves, rebuilds, saves, reloads]) = <[u32; 4]>::try_from(list) else {
+        let Ok([moves, remats, spills, reloads]) = <[u32; 4]>::try_from(list) else {
             return Err(self.wrong("--prices is given four numbers with commas between them"));
         };
         Ok(Prices {
             moves,
-            rebuilds,
-            saves,
+            remats,
+            spills,
             reloads,
         })
     }

@@ -55,8 +55,8 @@ fn rows(tallies: &[Tally; 2]) -> String {
     row("kept", [1, 2]);
     row("accepted", each(|tally| tally.accepted));
     row("M", each(|tally| tally.moves));
-    row("R", each(|tally| tally.rebuilds));
-    row("S", each(|tally| tally.saves));
+    row("R", each(|tally| tally.remats));
+    row("S", each(|tally| tally.spills));
     row("L", each(|tally| tally.reloads));
     row("evictions", each(|tally| tally.evictions));
     row("price", each(|tally| tally.price));
