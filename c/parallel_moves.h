@@ -17,7 +17,8 @@
  * - libanswer_groups_c.a, which `rt staticlib answer_groups_c` builds, for the same by
  *   groups: parallel_moves_answer_groups_in;
  * - libjob_writer_c.a, which `rt staticlib job_writer_c` builds, for the bytes of a
- *   job from its numbers: parallel_moves_write_in;
+ *   job from its numbers, parallel_moves_write_in, and the shipped target,
+ *   parallel_moves_shipped_in;
  * - libprice_c.a, which `rt staticlib price_c` builds, for what edits cost:
  *   parallel_moves_price and parallel_moves_price_edits, and the cheaper of two
  *   lists, parallel_moves_cheaper_list;
@@ -489,6 +490,13 @@ size_t parallel_moves_write(
     uint16_t writers[PARALLEL_MOVES_WRITERS])
     PARALLEL_MOVES_SYMBOL("parallel_moves_write");
 
+/* Writes the shipped target (docs/JOB.md, 'Writing a job') to the front of `work`,
+ * as the bytes that a job on it begins with, and returns how many there are. */
+size_t parallel_moves_shipped(
+    uint8_t work[PARALLEL_MOVES_MOST_BYTES],
+    uint16_t target[PARALLEL_MOVES_TARGET])
+    PARALLEL_MOVES_SYMBOL("parallel_moves_shipped");
+
 /* All tables, about half a megabyte: make one with calloc, and use it for as
  * many calls as you like, one at a time. It has one opened function at most; after
  * parallel_moves_answer_in, parallel_moves_enough_slots_in and parallel_moves_try_in
@@ -707,6 +715,12 @@ static inline size_t parallel_moves_write_in(
         numbers, numbers_length, bytes, bytes_length, refusal,
         writer->work, writer->target, writer->function, writer->available,
         writer->entries, writer->writers);
+}
+
+/* parallel_moves_shipped with the tables of `writer`: the bytes are in its `work`. */
+static inline size_t parallel_moves_shipped_in(struct parallel_moves_writer *writer)
+{
+    return parallel_moves_shipped(writer->work, writer->target);
 }
 
 /* A word is a patch's head, ((position * 2^16 + made) * 2^16 + count) * 8, or an

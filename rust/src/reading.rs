@@ -91,6 +91,12 @@ impl JobBuilder {
     }
 }
 
+/// The target that bytes begin with.
+pub(crate) fn target(bytes: &[u8]) -> Result<TargetBuilder, NoText> {
+    let mut target = TargetBuilder::default();
+    Reader::new(bytes).target(&mut target).map(|()| target)
+}
+
 /// What was read of a job's bytes.
 pub(crate) struct Reading {
     /// All parts that were read to their end.
@@ -105,12 +111,7 @@ pub(crate) struct Reading {
 impl Reading {
     pub(crate) fn of(bytes: &[u8]) -> Reading {
         let mut job = JobBuilder::new();
-        let mut reader = Reader {
-            bytes,
-            next: 0,
-            part: Part::Job,
-            numbers: Vec::new(),
-        };
+        let mut reader = Reader::new(bytes);
         let end = reader.job(&mut job);
         let numbers = reader.numbers;
         Reading { job, numbers, end }
@@ -126,7 +127,16 @@ struct Reader<'a> {
     numbers: Vec<(Part, Range<usize>)>,
 }
 
-impl Reader<'_> {
+impl<'a> Reader<'a> {
+    fn new(bytes: &'a [u8]) -> Self {
+        Reader {
+            bytes,
+            next: 0,
+            part: Part::Job,
+            numbers: Vec::new(),
+        }
+    }
+
     fn refused(&self, byte: usize, refusal: Refusal) -> NoText {
         let location = Location::new(byte, self.part);
         NoText { location, refusal }

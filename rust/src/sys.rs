@@ -24,7 +24,7 @@ pub(crate) use frame::{OpenedFrame, PendingInFrame};
 pub(crate) use jobs::text;
 pub(crate) use prices::{cheaper, price, price_edits};
 pub(crate) use tries::{Tally, try_settings};
-pub(crate) use writing::WriterTables;
+pub(crate) use writing::{WriterTables, shipped};
 
 use std::sync::atomic::AtomicU64;
 

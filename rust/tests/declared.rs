@@ -51,6 +51,7 @@ const FUNCTIONS: &[&str] = &[
     "parallel_moves_frame_made",
     "parallel_moves_examine",
     "parallel_moves_examine_in",
+    "parallel_moves_shipped",
 ];
 
 /// Where the C header has a pointer to one number, and not to many.

@@ -1,52 +1,10 @@
-//! The shipped target by its name, held against the table that is proved in
-//! `crates/shipped`.
+//! The shipped target by its name, which the library writes, held against document 01's
+//! words.
 
 mod common;
 
-use std::fs;
-
-use common::{encoded, root};
+use common::encoded;
 use parallel_moves::{Class, JobBuilder, PhysReg, RegBank, Resolver, TargetBuilder, text};
-
-/// The source of the proved table.
-fn source() -> String {
-    fs::read_to_string(root().join("crates/shipped/src/lib.rt")).unwrap()
-}
-
-/// The constant table: unit lists of all registers, then for each unit its registers.
-fn table() -> Vec<u32> {
-    let source = source();
-    let (_, table) = source.split_once("const TABLE: [u16; 192] = [\n").unwrap();
-    let (table, _) = table.split_once("];").unwrap();
-    let numbers = table.lines().map(|line| {
-        line.split("//")
-            .next()
-            .unwrap()
-            .trim()
-            .trim_end_matches(',')
-    });
-    let table: Vec<u32> = numbers.map(|number| number.parse().unwrap()).collect();
-    assert_eq!(table.len(), 192);
-    table
-}
-
-/// The numbers that a call of the source is given, wherever it stands.
-fn calls(name: &str) -> Vec<Vec<u32>> {
-    let source = source();
-    let start = format!("    {name}(t, ");
-    let calls = source.split(&start).skip(1);
-    let words = calls.map(|call| call.split_once(");").unwrap().0.to_owned());
-    words
-        .filter_map(|words| words.split(", ").map(|word| word.parse().ok()).collect())
-        .collect()
-}
-
-/// The number that the source puts in a cell of the target's own counts.
-fn count(cell: u32) -> u32 {
-    let source = source();
-    let (_, rest) = source.split_once(&format!("t[{cell}] = ")).unwrap();
-    rest.split_once(';').unwrap().0.parse().unwrap()
-}
 
 fn shipped() -> TargetBuilder {
     TargetBuilder::named("shipped").unwrap()
@@ -78,59 +36,33 @@ fn said() -> (u32, Vec<[u32; 3]>, Registers, Classes) {
     (units, banks, registers, classes)
 }
 
+/// The target by document 01's words: registers 0 to 31 of one unit, 16 of two, 8 of four,
+/// each bank with a class with slots and a stack class, both of all its registers, rising.
+fn by_its_words() -> TargetBuilder {
+    let mut target = TargetBuilder::default();
+    for (size_log2, width) in [(2, 1), (3, 2), (4, 4)] {
+        let bank = target.bank(size_log2);
+        let registers: Vec<PhysReg> = (0..32 / width)
+            .map(|index| {
+                let first = index * width;
+                let units: Vec<u32> = (first..first + width).collect();
+                target.register(&units)
+            })
+            .collect();
+        let top = target.class(Class::of(&registers).with_slots());
+        let stack = target.class(Class::of(&registers));
+        target.top_level_class(bank, top);
+        target.stack_class(bank, stack);
+    }
+    target
+}
+
 #[test]
-fn it_is_the_proved_table() {
-    let (units, banks, registers, classes) = said();
-    let counts = [
-        units,
-        banks.len() as u32,
-        registers.len() as u32,
-        classes.len() as u32,
-    ];
-    assert_eq!(counts, [8736, 8737, 8738, 8739].map(count));
-
-    let table = table();
-    let (lists, rows) = table.split_at(96);
-    let of_all: Vec<u32> = registers
-        .iter()
-        .flat_map(|(_, units)| units.clone())
-        .collect();
-    assert_eq!(of_all, lists);
-    for (unit, row) in (0..).zip(rows.chunks(3)) {
-        let with_unit = (0..)
-            .zip(&registers)
-            .filter(|(_, (_, units))| units.contains(&unit));
-        let with_unit: Vec<u32> = with_unit.map(|(register, _)| register).collect();
-        assert_eq!(with_unit, row, "unit {unit}");
-    }
-
-    // put_bank(t, bank, first register, how many), as `fill` calls it.
-    let source = source();
-    for line in [
-        "t[8704 + i * 4] = 2 + b;",
-        "t[8705 + i * 4] = b * 2;",
-        "t[8706 + i * 4] = b * 2 + 1;",
-        "t[8192 + i * 8] = c / 2;",
-        "t[8193 + i * 8] = 1 - c % 2;",
-    ] {
-        assert!(source.contains(line), "{line}");
-    }
-    let filled = calls("put_bank");
-    assert_eq!(filled.len(), banks.len());
-    for call in filled {
-        let &[bank, first, count] = &call[..] else {
-            panic!("{call:?}");
-        };
-        assert_eq!(banks[bank as usize], [2 + bank, 2 * bank, 2 * bank + 1]);
-        let members: Vec<u32> = (first..first + count).collect();
-        for &member in &members {
-            assert_eq!(registers[member as usize].0, bank);
-        }
-        for (class, slots) in [(2 * bank, 1), (2 * bank + 1, 0)] {
-            let expected = (bank, slots, members.clone(), members.clone());
-            assert_eq!(classes[class as usize], expected);
-        }
-    }
+fn it_is_the_papers() {
+    let numbers = |target| JobBuilder::on(target).numbers();
+    assert_eq!(numbers(shipped()), numbers(by_its_words()));
+    assert_eq!(by_its_words().name(), Some("shipped"));
+    assert_eq!(shipped(), by_its_words());
 }
 
 /// A job on it, with a patch that moves a pair and what stands in its way.

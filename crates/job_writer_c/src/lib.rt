@@ -1,15 +1,18 @@
-// The function that a program in C or in Rust calls to write a job. What the working bytes and tables held does not matter, and nothing is asked of
-// what is lent.
+// The functions that a program in C or in Rust calls to write a job, and the shipped target that one may be made on. What the working bytes and tables
+// held does not matter, and nothing is asked of what is lent.
 use entries::Entries;
 use function::Function;
+use job_bytes::Put;
 use job_bytes::Work;
 use job_writer::Written;
 use reginfo::RegInfo;
 use small_set::RegUnitSet;
 use sparse::SparseMap;
-ghost use lib.ListN.{length};
+ghost use mathlib.Core.Path.{_≡_};
+ghost use lib.ListN.{length, take};
 ghost use Rattle.entity.specs.Logic.{Anything};
-ghost use Rattle.job_numbers.specs.Numbers.{written};
+ghost use Rattle.shipped.specs.Shipped.{shipped};
+ghost use Rattle.job_numbers.specs.Numbers.{written, targetNumbers, bytesOf};
 ghost use Rattle.job_writer_c.specs.Told.{ToldAs};
 
 // Writes a job, given as all its numbers, to the front of `bytes`: answers its length, and sets `refusal` to 0; or answers 0, and sets `refusal` to
@@ -47,5 +50,17 @@ pub extern "C" fn parallel_moves_write_4(
             *refusal = k;
             0
         }
+    }
+}
+
+// Writes the shipped target to the front of `work`, as a job on it begins, and answers how many bytes it has.
+#[no_mangle]
+pub extern "C" fn parallel_moves_shipped_4(work: &mut Work, target: &mut RegInfo) -> usize
+    ensures { λ n. ⌜ (n ≡ length (bytesOf (targetNumbers shipped))) × (take n (now (work .exit)) ≡ bytesOf (targetNumbers shipped)) × Anything (now (target .exit)) ⌝ }
+{
+    shipped::fill(target);
+    match job_bytes::put_target(work, 0, target) {
+        Put::At(n) => n,
+        Put::Over => 0,
     }
 }

@@ -1,7 +1,10 @@
 //! Targets that have a name.
 
-use super::{Class, TargetBuilder};
-use crate::entity::PhysReg;
+use std::sync::LazyLock;
+
+use super::TargetBuilder;
+use crate::entity::RegBank;
+use crate::{reading, sys};
 
 /// The names, and what they stand for.
 const NAMED: &[(&str, fn() -> TargetBuilder)] = &[("shipped", shipped)];
@@ -50,21 +53,15 @@ impl TargetBuilder {
     }
 }
 
+/// As the library has it, where it is proved to be the one of the papers.
 fn shipped() -> TargetBuilder {
-    let mut target = TargetBuilder::default();
-    for (size_log2, width) in [(2, 1), (3, 2), (4, 4)] {
-        let bank = target.bank(size_log2);
-        let registers: Vec<PhysReg> = (0..32 / width)
-            .map(|index| {
-                let first = index * width;
-                let units: Vec<u32> = (first..first + width).collect();
-                target.register(&units)
-            })
-            .collect();
-        let top = target.class(Class::of(&registers).with_slots());
-        let stack = target.class(Class::of(&registers));
-        target.top_level_class(bank, top);
-        target.stack_class(bank, stack);
-    }
-    target
+    static SHIPPED: LazyLock<TargetBuilder> = LazyLock::new(|| {
+        let target = reading::target(&sys::shipped());
+        let mut target = target.expect("its bytes are those of a target");
+        // What is added is of the last bank, and there are as many units as the registers name.
+        target.units = None;
+        target.of_bank(RegBank::new(target.banks.len() - 1));
+        target
+    });
+    SHIPPED.clone()
 }

@@ -20,6 +20,18 @@ unsafe extern "C" {
         entries: &mut Entries,
         writers: &mut SparseMap,
     ) -> usize;
+
+    #[link_name = "parallel_moves_shipped_4"]
+    fn parallel_moves_shipped(work: &mut Work, target: &mut RegInfo) -> usize;
+}
+
+/// The bytes that a job on the shipped target begins with.
+pub(crate) fn shipped() -> Vec<u8> {
+    let (mut work, mut target): (Box<Work>, Box<RegInfo>) = (table(), table());
+    // SAFETY: both tables have the length that they are declared with and are borrowed
+    // mutably, so that nothing else reads or writes them. The function keeps no pointer.
+    let count = unsafe { parallel_moves_shipped(&mut work, &mut target) };
+    work[..count].to_vec()
 }
 
 /// The tables of writing, which is apart from opened functions.
