@@ -60,7 +60,10 @@ pub extern "C" fn parallel_moves_shipped_4(work: &mut Work, target: &mut RegInfo
 {
     shipped::fill(target);
     match job_bytes::put_target(work, 0, target) {
-        Put::At(n) => n,
+        Put::At(n) => {
+            job_bytes::told(*work);
+            n
+        }
         Put::Over => 0,
     }
 }
