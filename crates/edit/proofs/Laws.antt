@@ -11,8 +11,10 @@ use lib.ListN.{set, getD, length, take, drop, length-set, length-map}
 use lib.Seq.{getD-set-same, getD-set-other, drop-set-lt, take-suc-set}
 use borrow.Author.Tests.{eq-eqb}
 use Rattle.entity.specs.Logic.{pick, and}
-use Rattle.entity.specs.Place.{codeOf, placeAt}
+use Rattle.entity.specs.Place.{codeOf, placeAt, placeOf}
+use Rattle.entity.specs.declared.AllocationKind.{AllocationKind}
 use Rattle.entity.proofs.Laws.{place-there, code-there}
+use Rattle.reginfo.proofs.Laws.{by-kind}
 use Rattle.rules.specs.Edit.{Edit, Move, Rematerialize, EmergencySpill, EmergencyReload}
 use Rattle.edit.specs.Word.{packed, kindIn, toIn, fromIn, valueIn, wordOf, editOf, isReg, isSlot, Small, InRange, AllInRange}
 use Rattle.edit.specs.Buffer.{newestFirst, countOf, wordsOf, orEdit, editsOf, Written}
@@ -61,6 +63,10 @@ pub same-word : (a b : Edit) → InRange a → InRange b → wordOf a ≡ wordOf
 same-word a b p q e =
     let h : some a ≡ some b = sym (there a p) ∙ ap editOf e ∙ there b q in
     cc
+
+-- the code of a place whose kind is told
+pub code-kind : (c : ℕ) {k v : AllocationKind} → placeOf k ≡ placeAt c → k ≡ v → codeOf (placeOf v) ≡ c
+code-kind c h e = by-kind codeOf h e ∙ code-there c
 
 -- ---- the buffer
 -- the words are those of the cells that count

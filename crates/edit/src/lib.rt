@@ -1,5 +1,6 @@
 // Edits packed into one number each, and the buffer that they are made in.
 use entity::Allocation;
+use entity::AllocationKind;
 use entity::PhysReg;
 use entity::SpillSlot;
 use entity::Value;
@@ -40,71 +41,65 @@ pub enum Edit {
     Nothing,
 }
 
-fn pack(kind: u64, to: u16, from: u16, v: u16) -> u64
-    requires { ⌜ (kind < 8) × Small to from v ⌝ }
-    ensures { λ r. ⌜ r ≡ packed kind to from v ⌝ }
+fn pack(kind: u64, to: Allocation, from: Allocation, v: Value) -> u64
+    requires { ⌜ (kind < 8) × Small (to .0) (from .0) (v .0) ⌝ }
+    ensures { λ r. ⌜ r ≡ packed kind (to .0) (from .0) (v .0) ⌝ }
 {
-    ((v as u64 * 16384 + from as u64) * 16384 + to as u64) * 8 + kind
+    ((v.0 as u64 * 16384 + from.0 as u64) * 16384 + to.0 as u64) * 8 + kind
 }
 
 pub fn move_word(to: Allocation, from: Allocation, v: Value) -> u64
     requires { ⌜ Small (to .0) (from .0) (v .0) ⌝ }
     ensures { λ r. ⌜ r ≡ wordOf (rule.Move (placeAt (to .0)) (placeAt (from .0)) (v .0)) ⌝ }
 {
-    pack(1, to.0, from.0, v.0)
+    pack(1, to, from, v)
 }
 
 pub fn remat_word(to: Allocation, v: Value) -> u64
     requires { ⌜ Small (to .0) 0 (v .0) ⌝ }
     ensures { λ r. ⌜ r ≡ wordOf (rule.Rematerialize (placeAt (to .0)) (v .0)) ⌝ }
 {
-    pack(2, to.0, 0, v.0)
+    pack(2, to, Allocation(0), v)
 }
 
 pub fn spill_word(s: SpillSlot, r: PhysReg) -> u64
     requires { ⌜ (s .0 < 8192) × (r .0 < 8192) ⌝ }
     ensures { λ w. ⌜ w ≡ wordOf (rule.EmergencySpill (s .0) (r .0)) ⌝ }
 {
-    pack(3, s.0 * 2, r.0 * 2 + 1, 0)
+    pack(3, Allocation::spillslot(s), Allocation::reg(r), Value(0))
 }
 
 pub fn reload_word(r: PhysReg, s: SpillSlot) -> u64
     requires { ⌜ (r .0 < 8192) × (s .0 < 8192) ⌝ }
     ensures { λ w. ⌜ w ≡ wordOf (rule.EmergencyReload (r .0) (s .0)) ⌝ }
 {
-    pack(4, r.0 * 2 + 1, s.0 * 2, 0)
+    pack(4, Allocation::reg(r), Allocation::spillslot(s), Value(0))
 }
 
 // A save is into a slot and of a register.
-fn spill_read(to: u16, from: u16) -> Edit
-    ensures { λ e. ⌜ readOf e ≡ pick (and (isSlot to) (isReg from)) (some (rule.EmergencySpill (to / 2) (from / 2))) none ⌝ }
+fn spill_read(to: Allocation, from: Allocation) -> Edit
+    ensures { λ e. ⌜ readOf e ≡ pick (and (isSlot (to .0)) (isReg (from .0))) (some (rule.EmergencySpill (to .0 / 2) (from .0 / 2))) none ⌝ }
 {
-    if to % 2 == 1 {
+    let AllocationKind::SpillSlot(s) = to.kind() else {
         return Edit::Nothing;
-    }
-    if from % 2 == 0 {
+    };
+    let AllocationKind::PhysReg(r) = from.kind() else {
         return Edit::Nothing;
-    }
-    Edit::EmergencySpill {
-        to: SpillSlot(to / 2),
-        from: PhysReg(from / 2),
-    }
+    };
+    Edit::EmergencySpill { to: s, from: r }
 }
 
 // A reload is into a register and from a slot.
-fn reload_read(to: u16, from: u16) -> Edit
-    ensures { λ e. ⌜ readOf e ≡ pick (and (isReg to) (isSlot from)) (some (rule.EmergencyReload (to / 2) (from / 2))) none ⌝ }
+fn reload_read(to: Allocation, from: Allocation) -> Edit
+    ensures { λ e. ⌜ readOf e ≡ pick (and (isReg (to .0)) (isSlot (from .0))) (some (rule.EmergencyReload (to .0 / 2) (from .0 / 2))) none ⌝ }
 {
-    if to % 2 == 0 {
+    let AllocationKind::PhysReg(r) = to.kind() else {
         return Edit::Nothing;
-    }
-    if from % 2 == 1 {
+    };
+    let AllocationKind::SpillSlot(s) = from.kind() else {
         return Edit::Nothing;
-    }
-    Edit::EmergencyReload {
-        to: PhysReg(to / 2),
-        from: SpillSlot(from / 2),
-    }
+    };
+    Edit::EmergencyReload { to: r, from: s }
 }
 
 // What a word is.
@@ -112,19 +107,12 @@ pub fn read(word: u64) -> Edit
     ensures { λ r. ⌜ readOf r ≡ editOf word ⌝ }
 {
     let kind = word % 8;
-    let to = (word / 8 % 16384) as u16;
-    let from = (word / 131072 % 16384) as u16;
-    let v = (word / 2147483648 % 4096) as u16;
+    let to = Allocation((word / 8 % 16384) as u16);
+    let from = Allocation((word / 131072 % 16384) as u16);
+    let value = Value((word / 2147483648 % 4096) as u16);
     match kind {
-        1 => Edit::Move {
-            to: Allocation(to),
-            from: Allocation(from),
-            value: Value(v),
-        },
-        2 => Edit::Rematerialize {
-            to: Allocation(to),
-            value: Value(v),
-        },
+        1 => Edit::Move { to, from, value },
+        2 => Edit::Rematerialize { to, value },
         3 => spill_read(to, from),
         4 => reload_read(to, from),
         _ => Edit::Nothing,

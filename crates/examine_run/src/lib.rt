@@ -57,8 +57,8 @@ fn lay_one(t: &RegInfo, f: &Function, e: &Entries, x: &Ties, c: &mut Cells, b: &
     requires { ⌜ Checked (now t) (now f) × Tied (now e) (now x) × SortedOk (regInfoOf (now t)) (functionOf (now f)) (sortedOf (now e)) × Short (now c) × (m < kept (now e)) ⌝ }
     ensures { λ _. ⌜ LaidOne (regInfoOf (now (t .entry))) (functionOf (now (f .entry))) (sortedOf (now (e .entry)) .moves) m (memoryOf (now (c .entry))) (memoryOf (now (c .exit))) × Short (now (c .exit)) × Anything (now (b .exit)) ⌝ }
 {
-    let v = Value(ties::value_at(e, m));
-    let p = Allocation(ties::source_at(e, m));
+    let v = ties::value_at(e, m);
+    let p = ties::source_at(e, m);
     content(t, f, e, x, v, b);
     cells::write(t, c, p, b);
 }

@@ -8,6 +8,8 @@ use lib.ListN.{length, getD, drop, set, length-set}
 use lib.Seq.{getD-set-same, getD-set-other}
 use lib.Dec.{eqb, ltb, leb}
 use borrow.Author.Tests.{ltb-true, leb-true, eq-eqb, ne-eqb}
+use Rattle.entity.specs.declared.RegBank.{RegBank}
+use Rattle.entity.specs.declared.RegClass.{RegClass}
 use Rattle.entity.specs.Logic.{pick, and, indices}
 use Rattle.entity.proofs.Laws.{and-true}
 use Rattle.reginfo.specs.RegInfo.{RegInfo, numBanks, numClasses, bankForClass}
@@ -44,26 +46,26 @@ module _ (d : List ℕ → Read ℕ) (f : ℕ → List ℕ → Read ValueData) (
       on (R.the-variants.Is b cost c q) p = (omega (arith, h .onward .0, p .0), p .1)
       on (R.the-variants.Refused k) p = tt
 
-  row-ends : (n next b cost c : ℕ) → ReadAt d s at (N.the-variants.Is n next) → got (record { bank = b; cost = cost; class = c }) (drop next s) ≡ f n (drop next s) → RowRead (λ l. then (d l) f) s at (R.the-variants.Is b cost c next)
+  row-ends : (n next : ℕ) (b : RegBank) (cost : ℕ) (c : RegClass) → ReadAt d s at (N.the-variants.Is n next) → got (record { bank = b .0; cost = cost; class = c .0 }) (drop next s) ≡ f n (drop next s) → RowRead (λ l. then (d l) f) s at (R.the-variants.Is b cost c next)
   row-ends n next b cost c h e = record { reads = rw (← h .reads) e; onward = h .onward }
 
 -- ---- the class of a value that can be rebuilt
-module _ (t : RegInfo) (b cost : ℕ) (s : List ℕ) (at m : ℕ) (is : m ≡ numClasses t) where
+module _ (t : RegInfo) (b : RegBank) (cost : ℕ) (s : List ℕ) (at m : ℕ) (is : m ≡ numClasses t) where
   abbrev classed : ℕ → List ℕ → Read ValueData
-  classed c r = pick (eqb (bankForClass t c) b) (got (record { bank = b; cost = cost; class = c }) r) (refused 9)
+  classed c r = pick (eqb (bankForClass t c) (b .0)) (got (record { bank = b .0; cost = cost; class = c }) r) (refused 9)
 
-  pub no-class : (k : ℕ) → ReadAt (below m) s at (N.the-variants.Refused k) → RowRead (rebuilt t b cost) s at (R.the-variants.Refused k)
+  pub no-class : (k : ℕ) → ReadAt (below m) s at (N.the-variants.Refused k) → RowRead (rebuilt t (b .0) cost) s at (R.the-variants.Refused k)
   unfolding rebuilt
   no-class k h = row-refused (below (numClasses t)) classed s at k (rw is at h)
 
   module _ (c next own : ℕ) (h : ReadAt (below m) s at (N.the-variants.Is c next)) (o : own ≡ bankForClass t c) where
-    pub own-class : own ≡ b → RowRead (rebuilt t b cost) s at (R.the-variants.Is b cost c next)
+    pub own-class : own ≡ b .0 → RowRead (rebuilt t (b .0) cost) s at (R.the-variants.Is b cost (record { 0 = c }) next)
     unfolding rebuilt
-    own-class e = row-ends (below (numClasses t)) classed s at c next b cost c (rw is at h) (rw (eq-eqb (bankForClass t c) b (sym o ∙ e)))
+    own-class e = row-ends (below (numClasses t)) classed s at c next b cost (record { 0 = c }) (rw is at h) (rw (eq-eqb (bankForClass t c) (b .0) (sym o ∙ e)))
 
-    pub foreign-class : (own ≡ b → ⊥) → RowRead (rebuilt t b cost) s at (R.the-variants.Refused 9)
+    pub foreign-class : (own ≡ b .0 → ⊥) → RowRead (rebuilt t (b .0) cost) s at (R.the-variants.Refused 9)
     unfolding rebuilt
-    foreign-class n = row-then (below (numClasses t)) classed s at c next (R.the-variants.Refused 9) (rw is at h) (rw (ne-eqb (bankForClass t c) b (λ e. n (o ∙ e)))) tt
+    foreign-class n = row-then (below (numClasses t)) classed s at c next (R.the-variants.Refused 9) (rw is at h) (rw (ne-eqb (bankForClass t c) (b .0) (λ e. n (o ∙ e)))) tt
 
 -- ---- a value
 module _ (t : RegInfo) (s : List ℕ) (at m : ℕ) (is : m ≡ numBanks t) where
@@ -86,8 +88,8 @@ module _ (t : RegInfo) (s : List ℕ) (at m : ℕ) (is : m ≡ numBanks t) where
     no-cost k g = bank-then (R.the-variants.Refused k) (row-refused (below 3) (costed b) s a k g)
 
     module _ (cost q : ℕ) (g : ReadAt (below 3) s a (N.the-variants.Is cost q)) where
-      pub never-rebuilt : cost ≡ 0 → RowRead (value t) s at (R.the-variants.Is b 0 0 q)
-      never-rebuilt e = bank-then (R.the-variants.Is b 0 0 q) (row-ends (below 3) (costed b) s a cost q b 0 0 g (rw (eq-eqb cost 0 e)))
+      pub never-rebuilt : cost ≡ 0 → RowRead (value t) s at (R.the-variants.Is (record { 0 = b }) 0 (record { 0 = 0 }) q)
+      never-rebuilt e = bank-then (R.the-variants.Is (record { 0 = b }) 0 (record { 0 = 0 }) q) (row-ends (below 3) (costed b) s a cost q (record { 0 = b }) 0 (record { 0 = 0 }) g (rw (eq-eqb cost 0 e)))
 
       pub can-rebuild : (cost ≡ 0 → ⊥) → (r : Row) → RowRead (rebuilt t b cost) s q r → RowRead (value t) s at r
       can-rebuild n r w = bank-then r (row-then (below 3) (costed b) s a cost q r g (rw (ne-eqb cost 0 n) (w .reads)) (w .onward))
@@ -135,14 +137,14 @@ module _ (t : RegInfo) (s : List ℕ) (from n : ℕ) where
   filling-start f l = let e : n - 0 ≡ n = omega arith in record { timing = rw e (timing-start (value t) s from n); long = l; within = omega arith }
 
   module _ (f : List ℕ) (at v : ℕ) (i : Filling f at v) (low : v < n) (few : n ≤ 4096) where
-    pub filling-step : (b cost c next : ℕ) → RowRead (value t) s at (R.the-variants.Is b cost c next) → Filling (filled f (i .long) v (omega arith) b cost c) next (v + 1)
+    pub filling-step : (b : RegBank) (cost : ℕ) (c : RegClass) (next : ℕ) → RowRead (value t) s at (R.the-variants.Is b cost c next) → Filling (filled f (i .long) v (omega arith) (b .0) cost (c .0)) next (v + 1)
     filling-step b cost c next h =
-        let x : ValueData = record { bank = b; cost = cost; class = c } in
+        let x : ValueData = record { bank = b .0; cost = cost; class = c .0 } in
         let one : NextAt (value t) s at x Unit (X.the-variants.At next) = record { reads = h .reads; past = (omega (arith, h .onward .0), (λ _. h .onward .1), tt) } in
         let e : n - (v + 1) ≡ n - v - 1 = omega arith in
         record {
-          timing = rw (filled-more f (i .long) v (omega arith) b cost c, e) (timing-step (value t) s from n (firstValues f v) at (n - v) (i .timing) x Unit next (omega arith) one);
-          long = filled-long f (i .long) v (omega arith) b cost c;
+          timing = rw (filled-more f (i .long) v (omega arith) (b .0) cost (c .0), e) (timing-step (value t) s from n (firstValues f v) at (n - v) (i .timing) x Unit next (omega arith) one);
+          long = filled-long f (i .long) v (omega arith) (b .0) cost (c .0);
           within = omega arith;
         }
 

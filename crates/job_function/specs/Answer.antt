@@ -36,7 +36,7 @@ firstValues f n = map (valueAt f) (indices 0 n)
 
 -- one value
 abbrev pub rowOf : List ℕ → Row → Read ValueData
-rowOf s (row.Is b cost c next) = got (record { bank = b; cost = cost; class = c }) (drop next s)
+rowOf s (row.Is b cost c next) = got (record { bank = b .0; cost = cost; class = c .0 }) (drop next s)
 rowOf s (row.Refused k) = refused k
 
 abbrev pub RowOnward : List ℕ → ℕ → Row → Type 0

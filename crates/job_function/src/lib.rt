@@ -1,4 +1,5 @@
 // 01, The job: the function, read from a job's bytes into the lent table that `function` reads, with its setting, which is given beside them.
+use entity::RegBank;
 use entity::RegClass;
 use entity::wide;
 use function::Function;
@@ -23,7 +24,7 @@ ghost use Rattle.job_function.specs.Answer.{FunctionReadWithin, Function
 
 // A value's bank, rebuild code and class, with the next offset, or the number of 01's refused jobs.
 enum Row {
-    Is(u16, u16, u16, usize),
+    Is(RegBank, u16, RegClass, usize),
     Refused(u8),
 }
 
@@ -35,16 +36,17 @@ fn told(f: [u16; 16388]) -> bool
 }
 
 // The class of a value that can be rebuilt.
-fn read_rebuilt(t: &RegInfo, s: &[u8], at: usize, bank: u16, cost: u16) -> Row
+fn read_remat_class(t: &RegInfo, s: &[u8], at: usize, bank: RegBank, cost: u16) -> Row
     requires { ⌜ Accepted (regInfoOf (now t)) ⌝ }
-    ensures { λ r. ⌜ RowRead (rebuilt (regInfoOf (now (t .entry))) bank cost) (now (s .entry)) at r ⌝ }
+    ensures { λ r. ⌜ RowRead (rebuilt (regInfoOf (now (t .entry))) (bank .0) cost) (now (s .entry)) at r ⌝ }
 {
     match below(s, at, num_classes(t) as u32) {
         Number::Refused(k) => Row::Refused(k),
         Number::Is(c, next) => {
-            let own = bank_for_class(t, RegClass(c as u16));
-            if own.0 == bank {
-                return Row::Is(bank, cost, c as u16, next);
+            let class = RegClass(c as u16);
+            let own = bank_for_class(t, class);
+            if own.0 == bank.0 {
+                return Row::Is(bank, cost, class, next);
             }
             Row::Refused(9)
         }
@@ -62,9 +64,9 @@ fn read_value(t: &RegInfo, s: &[u8], at: usize) -> Row
             Number::Refused(k) => Row::Refused(k),
             Number::Is(cost, b) => {
                 if cost == 0 {
-                    return Row::Is(bank as u16, 0, 0, b);
+                    return Row::Is(RegBank(bank as u16), 0, RegClass(0), b);
                 }
-                read_rebuilt(t, s, b, bank as u16, cost as u16)
+                read_remat_class(t, s, b, RegBank(bank as u16), cost as u16)
             }
         },
     }
@@ -82,9 +84,9 @@ fn read_values(t: &RegInfo, s: &[u8], from: usize, f: &mut Function, n: usize) -
         match read_value(t, s, at) {
             Row::Refused(k) => return Next::Refused(k),
             Row::Is(bank, cost, class, next) => {
-                f[v * 4] = bank;
+                f[v * 4] = bank.0;
                 f[1 + v * 4] = cost;
-                f[2 + v * 4] = class;
+                f[2 + v * 4] = class.0;
                 at = next;
             }
         }

@@ -1,11 +1,15 @@
--- A set of numbers below a bound has at most as many as the bound.
+-- A set of numbers below a bound has at most as many as the bound; and what a table of flags holds.
 use Prim.Native.Nat.{ℕ, zero, suc, _+_, _<_, _≤_}
 use mathlib.Core.Path.{_≡_, refl}
 use mathlib.Core.Bool.{Bool, true, false}
+use mathlib.Core.List.{List}
 use native.Mathlib.Omega.{arith}
 use lib.Dec.{eqb}
+use lib.ListN.{length, set, replicate}
+use lib.Seq.{getD-set-same, getD-set-other}
 use borrow.Author.Tests.{ne-eqb, eqb-true, eqb-false}
 use Rattle.entity.specs.Logic.{pick}
+use Rattle.job_target.specs.Steps.{seenIn}
 
 -- how many numbers below n are in the set
 unfoldable pub count : (ℕ → Bool) → ℕ → ℕ
@@ -55,3 +59,18 @@ count-more f g (suc n) u more h l = go (eqb n u) refl (count-more f g n u more h
     go false e on =
         let z : n ≡ u → ⊥ = eqb-false n u e in
         rw (more n, e, on (omega (arith, z))) (omega arith)
+
+-- ---- the table: no flag, and one stored
+pub no-flag : (n x : ℕ) → seenIn (replicate n false) x ≡ false
+unfolding seenIn
+no-flag zero x = refl
+no-flag (suc n) zero = refl
+no-flag (suc n) (suc x) = no-flag n x
+
+pub flag-stored : (l : List Bool) (u : ℕ) → u < length l → (x : ℕ) → seenIn (set l u true) x ≡ pick (eqb x u) true (seenIn l x)
+unfolding seenIn
+flag-stored l u h x = go (eqb x u) refl
+  where
+    go : (b : Bool) → eqb x u ≡ b → seenIn (set l u true) x ≡ pick b true (seenIn l x)
+    go true e = rw (eqb-true x u e) (getD-set-same l u true false h)
+    go false e = getD-set-other l u x true false (eqb-false x u e)

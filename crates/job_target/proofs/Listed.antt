@@ -6,7 +6,6 @@ use mathlib.Core.List.{List, []}
 use native.Mathlib.Omega.{arith}
 use lib.Dec.{eqb}
 use Rattle.entity.specs.Logic.{pick, cells}
-use Rattle.small_set.specs.Set.{emptySet, inserted}
 use Rattle.number.specs.declared.Number.the-variants.{Is, Refused}
 use Rattle.reading.specs.Reading.{below, distinct, fresh}
 use Rattle.reading.specs.Answer.{ReadAt, NextAt}
@@ -28,7 +27,7 @@ module _ (limit : ℕ) (seen seen′ : ℕ → Bool) (s : List ℕ) (at : ℕ) w
     unfolding fresh
     seen-before e = (record { reads = rw (← h .reads, e); onward = tt }, tt)
 
-    pub seen-now : seen x ≡ false → seen′ ≡ inserted seen x → ReadAt (fresh limit seen) s at (Is x next) × NewIn limit seen seen′ (Is x next)
+    pub seen-now : seen x ≡ false → ((y : ℕ) → seen′ y ≡ pick (eqb y x) true (seen y)) → ReadAt (fresh limit seen) s at (Is x next) × NewIn limit seen seen′ (Is x next)
     unfolding fresh
     seen-now e i = (record { reads = rw (← h .reads, e); onward = h .onward }, (under limit s at x next h, e, i))
 
@@ -40,10 +39,9 @@ pub record Cells (limit : ℕ) (s : List ℕ) (from n start : ℕ) (t₀ : List 
   pub keeps : Keeps t₀ t start i
 
 module _ (limit : ℕ) (s : List ℕ) (from n start : ℕ) (t₀ : List ℕ) where
-  pub cells-start : (seen : ℕ → Bool) → seen ≡ emptySet → Cells limit s from n start t₀ seen t₀ from 0 n
-  unfolding emptySet cells
-  cells-start seen e =
-      let none : (x : ℕ) → seen x ≡ false = λ x. ap (λ (f : ℕ → Bool). f x) e in
+  pub cells-start : (seen : ℕ → Bool) → ((x : ℕ) → seen x ≡ false) → Cells limit s from n start t₀ seen t₀ from 0 n
+  unfolding cells
+  cells-start seen none =
       record { listing = listing-start limit s from n seen none; sum = omega arith; size = count-empty seen 512 none; keeps = keeps-same t₀ start 0 }
 
   module _ (low : limit ≤ 512) (seen : ℕ → Bool) (t : List ℕ) (at i left : ℕ) (h : Cells limit s from n start t₀ seen t at i left) where
@@ -55,13 +53,11 @@ module _ (limit : ℕ) (s : List ℕ) (from n start : ℕ) (t₀ : List ℕ) whe
       low-enough = omega (arith, new .0)
 
       pub cells-step : (t′ : List ℕ) → 0 < left → ReadAt (fresh limit seen) s at (Is x next) → Put t t′ (start + i) x → Cells limit s from n start t₀ seen′ t′ next (i + 1) (left - 1)
-      unfolding inserted
       cells-step t′ l g p =
-          let more : (y : ℕ) → seen′ y ≡ pick (eqb y x) true (seen y) = λ y. ap (λ (f : ℕ → Bool). f y) (new .2) in
           record {
-            listing = rw (cells-more t t′ start i x p) (listing-step limit s from n seen (cells t start i) at left (h .listing) x next seen′ more l g);
+            listing = rw (cells-more t t′ start i x p) (listing-step limit s from n seen (cells t start i) at left (h .listing) x next seen′ (new .2) l g);
             sum = omega (arith, h .sum);
-            size = count-more seen seen′ 512 x more (new .1) low-enough ∙ ap (λ (k : ℕ). k + 1) (h .size);
+            size = count-more seen seen′ 512 x (new .2) (new .1) low-enough ∙ ap (λ (k : ℕ). k + 1) (h .size);
             keeps = keeps-then t₀ t t′ start (i + 1) (keeps-more t₀ t start i start (i + 1) (omega arith) (omega arith) (h .keeps)) (keeps-put t t′ (start + i) x start (i + 1) p (omega arith) (omega arith));
           }
 

@@ -1,14 +1,13 @@
 -- The reading of a target from each part on, what was read so far given, and what each part leaves of the table.
 use Prim.Native.Nat.{ℕ, _+_, _*_, _<_, _≤_}
 use mathlib.Core.Path.{_≡_}
-use mathlib.Core.Bool.{Bool, false}
+use mathlib.Core.Bool.{Bool, true, false}
 use mathlib.Core.List.{List, []}
-use lib.Dec.{leb}
+use lib.Dec.{eqb, leb}
 use lib.ListN.{getD}
-use Rattle.entity.specs.Logic.{and, no, any}
+use Rattle.entity.specs.Logic.{pick, and, no, any}
 use Rattle.reginfo.specs.RegInfo.{Bank, Reg, RegInfo}
 use Rattle.reginfo.specs.Table.{classAt}
-use Rattle.small_set.specs.Set.{inserted}
 use Rattle.number.specs.Read.{Read, got, then}
 use Rattle.number.specs.Number.{number}
 use Rattle.number.specs.declared.Number as N
@@ -50,9 +49,13 @@ pub record Keeps (t t′ : List ℕ) (low n : ℕ) : Type 0 where
   pub before : (k : ℕ) → k < low → getD t′ k 0 ≡ getD t k 0
   pub after : (k : ℕ) → low + n ≤ k → getD t′ k 0 ≡ getD t k 0
 
+-- the numbers that a table of flags holds
+unfoldable pub seenIn : List Bool → ℕ → Bool
+seenIn l x = getD l x false
+
 -- a new number of a list
 abbrev pub NewIn : ℕ → (ℕ → Bool) → (ℕ → Bool) → N.Number → Type 0
-NewIn limit seen seen′ (N.the-variants.Is x next) = (x < limit) × (seen x ≡ false) × (seen′ ≡ inserted seen x)
+NewIn limit seen seen′ (N.the-variants.Is x next) = (x < limit) × (seen x ≡ false) × ((y : ℕ) → seen′ y ≡ pick (eqb y x) true (seen y))
 NewIn limit seen seen′ (N.the-variants.Refused k) = Unit
 
 -- a list of n, not more than there are flags

@@ -1,29 +1,35 @@
 // 01, The job: a target is read from bytes into the lent table.
-use entity::RegUnit;
 use number::Number;
 use reader::read;
 use reading::Next;
 use reading::below;
 use reading::between;
 use reginfo::RegInfo;
-use small_set::RegUnitSet;
 ghost use mathlib.Core.Path.{_≡_};
 ghost use mathlib.Core.List.{[], map};
 ghost use Prim.Native.Nat.{_+_, _*_, _<_, _≤_};
 ghost use lib.ListN.{length, getD};
 ghost use Rattle.entity.specs.Logic.{any, cells, indices};
-ghost use Rattle.small_set.specs.Set.{setOf};
 ghost use Rattle.reginfo.specs.Table.{bankAt, regAt, classAt, regInfoOf};
 ghost use Rattle.reading.specs.Reading.{times, distinct, fresh};
 ghost use Rattle.reading.specs.Answer.{ReadAt, NextAt};
 ghost use Rattle.job_target.specs.Target.{reg, class, classes, unknownClass, target};
 ghost use Rattle.job_target.specs.Answer.{TargetAt};
 ghost use Rattle.job_target.specs.Held.{held, bankHeld};
-ghost use Rattle.job_target.specs.Steps.{withOrder, withMembers, withClasses, withRegs, withBanks, Put, Keeps, NewIn, ListKept, RegKept, FewUnits, RegsKept, Earlier, ClassKept, countedAt};
+ghost use Rattle.job_target.specs.Steps.{withOrder, withMembers, withClasses, withRegs, withBanks, Put, Keeps, seenIn, NewIn, ListKept, RegKept, FewUnits, RegsKept, Earlier, ClassKept, countedAt};
 
-// It does nothing: a call tells the length of the table that is passed.
+// The numbers of a list that were read, one flag for each.
+type Seen = [bool; 512];
+
+// These do nothing: a call tells the length of the table that is passed.
 fn told(t: RegInfo) -> bool
     ensures { λ _. ⌜ length t ≡ 107520 ⌝ }
+{
+    true
+}
+
+fn told_seen(t: Seen) -> bool
+    ensures { λ _. ⌜ length t ≡ 512 ⌝ }
 {
     true
 }
@@ -105,19 +111,19 @@ fn read_bank_rows(s: &[u8], from: usize, t: &mut RegInfo, n: u32) -> Next
     Next::At(at)
 }
 
-// A number below the limit that is not in the set yet, and is from now on.
-fn read_new(s: &[u8], at: usize, limit: u32, seen: &mut RegUnitSet) -> Number
+// A number below the limit that is not seen yet, and is from now on.
+fn read_new(s: &[u8], at: usize, limit: u32, seen: &mut Seen) -> Number
     requires { ⌜ limit ≤ 512 ⌝ }
-    ensures { λ r. ⌜ ReadAt (fresh limit (setOf (now (seen .entry)))) (now (s .entry)) at r × NewIn limit (setOf (now (seen .entry))) (setOf (now (seen .exit))) r ⌝ }
+    ensures { λ r. ⌜ ReadAt (fresh limit (seenIn (now (seen .entry)))) (now (s .entry)) at r × NewIn limit (seenIn (now (seen .entry))) (seenIn (now (seen .exit))) r ⌝ }
 {
+    told_seen(*seen);
     match below(s, at, limit) {
         Number::Refused(k) => Number::Refused(k),
         Number::Is(x, next) => {
-            let u = x as u16;
-            if small_set::contains(seen, RegUnit(u)) {
+            if seen[x as usize] {
                 return Number::Refused(3);
             }
-            small_set::insert(seen, RegUnit(u));
+            seen[x as usize] = true;
             Number::Is(x, next)
         }
     }
@@ -129,7 +135,6 @@ fn read_list(s: &[u8], from: usize, t: &mut RegInfo, start: usize, n: u32, limit
     ensures { λ r. ⌜ NextAt (distinct n limit []) (now (s .entry)) from (cells (now (t .exit)) start n) (ListKept (now (t .entry)) (now (t .exit)) start n) r ⌝ }
 {
     let mut seen = [false; 512];
-    small_set::clear(&mut seen);
     let mut at = from;
     let mut i: usize = 0;
     let mut left = n;

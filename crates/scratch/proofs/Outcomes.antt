@@ -52,13 +52,13 @@ found-low t f c p s r i ok h e q = ordered-fits (T t) (ok .target) c h (r .0) (f
 
 module _ (t f cache : List ℕ) where
   -- a slot of the stack, and a new one
-  pub taken-top : (z : ℕ) (k : ScratchAllocator) (s s′ : List ℕ) (x : ℕ) → Stocked k s cache → slots.Taken s cache s′ z (popped.At x) → Acquired t f cache z k s (record { slot = record { 0 = x }; allocator = k }) s′
+  pub taken-top : (z : ℕ) (k : ScratchAllocator) (s s′ : List ℕ) (x : SpillSlot) → Stocked k s cache → slots.Taken s cache s′ z (popped.At x) → Acquired t f cache z k s (record { slot = x; allocator = k }) s′
   taken-top z k s s′ x h p =
       record {
-        is = took (T t) (F f) z (cacheIn k s cache) (stacksOf s cache z) x (stacksOf s′ cache) (p .got) (p .stacks);
+        is = took (T t) (F f) z (cacheIn k s cache) (stacksOf s cache z) (x .0) (stacksOf s′ cache) (p .got) (p .stacks);
         kept = refl;
         met = p .met;
-        small = top-low (stacksOf s cache z) x (h .stacked z) (p .got);
+        small = top-low (stacksOf s cache z) (x .0) (h .stacked z) (p .got);
         fits = λ a b n edits h. taken p (fewer (omega arith) (omega arith) (omega arith) h);
       }
 

@@ -266,7 +266,7 @@ impl ScratchAllocator {
     {
         if let Popped::At(s) = slots::acquire(slots, cache, z) {
             return Taken {
-                slot: SpillSlot(s),
+                slot: s,
                 allocator: self,
             };
         }

@@ -1,5 +1,7 @@
 // 01: the shipped target, a constant table of 32 units and 56 registers.
 use entity::PhysReg;
+use entity::RegBank;
+use entity::RegClass;
 use entity::RegUnit;
 use entity::narrow;
 use entity::wide;
@@ -309,32 +311,34 @@ fn put_regs(t: &mut RegInfo)
 }
 
 // A class of the n registers from r on.
-fn put_class(t: &mut RegInfo, c: u16, r: u16, n: u16)
-    requires { ⌜ (c < 6) × (r + n ≤ 56) ⌝ }
-    ensures { λ _. ⌜ now (t .exit) ≡ written (now (t .entry)) (classWrites c r n) ⌝ }
+fn put_class(t: &mut RegInfo, c: RegClass, r: PhysReg, n: u16)
+    requires { ⌜ (c .0 < 6) × (r .0 + n ≤ 56) ⌝ }
+    ensures { λ _. ⌜ now (t .exit) ≡ written (now (t .entry)) (classWrites (c .0) (r .0) n) ⌝ }
 {
-    let i = wide(c);
-    let first = wide(r);
-    t[8192 + i * 8] = c / 2;
-    t[8193 + i * 8] = 1 - c % 2;
+    let i = wide(c.0);
+    let first = wide(r.0);
+    t[8192 + i * 8] = c.0 / 2;
+    t[8193 + i * 8] = 1 - c.0 % 2;
     t[8194 + i * 8] = n;
     t[8195 + i * 8] = n;
-    put_rising(t, 9216 + i * 512, r, n);
-    put_rising(t, 41984 + i * 512, r, n);
+    put_rising(t, 9216 + i * 512, r.0, n);
+    put_rising(t, 41984 + i * 512, r.0, n);
     put_rising(t, 74752 + i * 512 + first, 0, n);
 }
 
 // A bank of the n registers from r on: its class with slots and its stack class.
-fn put_bank(t: &mut RegInfo, b: u16, r: u16, n: u16)
-    requires { ⌜ (b < 3) × (r + n ≤ 56) ⌝ }
-    ensures { λ _. ⌜ now (t .exit) ≡ written (now (t .entry)) (bankWrites b r n) ⌝ }
+fn put_bank(t: &mut RegInfo, b: RegBank, r: PhysReg, n: u16)
+    requires { ⌜ (b .0 < 3) × (r .0 + n ≤ 56) ⌝ }
+    ensures { λ _. ⌜ now (t .exit) ≡ written (now (t .entry)) (bankWrites (b .0) (r .0) n) ⌝ }
 {
-    let i = wide(b);
-    t[8704 + i * 4] = 2 + b;
-    t[8705 + i * 4] = b * 2;
-    t[8706 + i * 4] = b * 2 + 1;
-    put_class(t, b * 2, r, n);
-    put_class(t, b * 2 + 1, r, n);
+    let i = wide(b.0);
+    let top = RegClass(b.0 * 2);
+    let stack = RegClass(b.0 * 2 + 1);
+    t[8704 + i * 4] = 2 + b.0;
+    t[8705 + i * 4] = top.0;
+    t[8706 + i * 4] = stack.0;
+    put_class(t, top, r, n);
+    put_class(t, stack, r, n);
 }
 
 // Writes the shipped target into a table.
@@ -346,8 +350,8 @@ pub fn fill(t: &mut RegInfo)
     t[8737] = 3;
     t[8738] = 56;
     t[8739] = 6;
-    put_bank(t, 0, 0, 32);
-    put_bank(t, 1, 32, 16);
-    put_bank(t, 2, 48, 8);
+    put_bank(t, RegBank(0), PhysReg(0), 32);
+    put_bank(t, RegBank(1), PhysReg(32), 16);
+    put_bank(t, RegBank(2), PhysReg(48), 8);
     put_regs(t);
 }

@@ -216,7 +216,7 @@ module _ (slots cache : List ℕ) (long : length slots ≡ 32835) (z : ℕ) (low
             let q : y ≡ z → ⊥ = λ e. omega (arith, k .1, ap (λ (x : ℕ). ownOf slots x) e) in
             (getD-set-other slots (32 + z) y v 0 (λ e. omega arith) ∙ k .0, getD-set-other slots (32 + z) (32 + y) v 0 (λ e. q (omega arith)) ∙ k .1)
 
-    pub took-own : Taken slots cache (set slots (32 + z) (own - 1)) z (At (getD (set slots (32 + z) (own - 1)) (64 + z * 1024 + (own - 1)) 0))
+    pub took-own : Taken slots cache (set slots (32 + z) (own - 1)) z (At (record { 0 = getD (set slots (32 + z) (own - 1)) (64 + z * 1024 + (own - 1)) 0 }))
     took-own =
         record {
           got = rw (own-top, getD-set-other slots (32 + z) (64 + z * 1024 + (own - 1)) (own - 1) 0 (λ e. omega arith));
@@ -242,7 +242,7 @@ module _ (slots cache : List ℕ) (long : length slots ≡ 32835) (z : ℕ) (low
     left-fits : (n : ℕ) → SlotsFit n slots → SlotsFit n (set slots z (left - 1))
     left-fits n f = fits-left slots long z low n f (left - 1) (omega (arith, f .left z low))
 
-    pub took-left : (exit : List ℕ) → 0 < left → SlotsFit 1024 slots → Touched (set slots z (left - 1)) exit z → Taken slots cache exit z (At (getD cache (64 + z * 2048 + (left - 1)) 0))
+    pub took-left : (exit : List ℕ) → 0 < left → SlotsFit 1024 slots → Touched (set slots z (left - 1)) exit z → Taken slots cache exit z (At (record { 0 = getD cache (64 + z * 2048 + (left - 1)) 0 }))
     took-left exit some f t =
         let u = set slots z (left - 1) in
         let top : stacksOf slots cache z ≡ getD cache (64 + z * 2048 + (left - 1)) 0 ∷ topFirst cache (64 + z * 2048) (left - 1) = left-stack ∙ top-step cache (64 + z * 2048) left some in

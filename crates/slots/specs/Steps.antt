@@ -13,7 +13,7 @@ use Rattle.slots.specs.declared.Popped.the-variants.{At, Empty}
 use Rattle.slots.specs.Stacks.{topFirst, depthOf, lowOf, highOf, metOf, cacheOf, stampOf, raised, stacksOf, CacheFits, SlotsFit, Untouched}
 
 abbrev pub poppedOf : Popped → Option ℕ
-poppedOf (At s) = some s
+poppedOf (At s) = some (s .0)
 poppedOf Empty = none
 
 -- the slot last put back on a stack

@@ -18,7 +18,7 @@ pub type Slots = [u16; 32835];
 
 // What a stack gives.
 pub enum Popped {
-    At(u16),
+    At(SpillSlot),
     Empty,
 }
 
@@ -178,14 +178,14 @@ pub fn acquire(slots: &mut Slots, cache: &EmergencySpillSlotCache, z: usize) -> 
     if 0 < own {
         let i = own - 1;
         slots[32 + z] = narrow(i);
-        return Popped::At(slots[64 + z * 1024 + i]);
+        return Popped::At(SpillSlot(slots[64 + z * 1024 + i]));
     }
     let left = wide(slots[z]);
     if 0 < left {
         let i = left - 1;
         slots[z] = narrow(i);
         touch(slots, z);
-        return Popped::At(cache[64 + z * 2048 + i]);
+        return Popped::At(SpillSlot(cache[64 + z * 2048 + i]));
     }
     Popped::Empty
 }

@@ -1,4 +1,5 @@
 // 02 m: which kept moves have the same content in every start, one lent table of numbers (specs/Ties.antt).
+use entity::Allocation;
 use entity::Value;
 use entity::narrow;
 use entity::wide;
@@ -28,25 +29,25 @@ fn told(x: [u16; 12416]) -> bool
     true
 }
 
-// How many moves are kept, and of kept move m the source's code and the value.
+// How many moves are kept, and of kept move m the source and the value.
 pub fn kept(e: &Entries) -> usize
     ensures { λ n. ⌜ n ≡ kept (now (e .entry)) ⌝ }
 {
     wide(e[1024])
 }
 
-pub fn source_at(e: &Entries, m: usize) -> u16
+pub fn source_at(e: &Entries, m: usize) -> Allocation
     requires { ⌜ m < 128 ⌝ }
-    ensures { λ c. ⌜ c ≡ sourceAt (now (e .entry)) m ⌝ }
+    ensures { λ p. ⌜ p .0 ≡ sourceAt (now (e .entry)) m ⌝ }
 {
-    e[m * 4]
+    Allocation(e[m * 4])
 }
 
-pub fn value_at(e: &Entries, m: usize) -> u16
+pub fn value_at(e: &Entries, m: usize) -> Value
     requires { ⌜ m < 128 ⌝ }
-    ensures { λ v. ⌜ v ≡ valueAt (now (e .entry)) m ⌝ }
+    ensures { λ v. ⌜ v .0 ≡ valueAt (now (e .entry)) m ⌝ }
 {
-    e[2 + m * 4]
+    Value(e[2 + m * 4])
 }
 
 // A kept move at its source and at its value, labelled by its own number.
@@ -56,8 +57,8 @@ fn note_one(e: &Entries, x: &mut Ties, m: usize)
 {
     told(*x);
     let n = narrow(m);
-    let v = wide(value_at(e, m));
-    let s = wide(source_at(e, m));
+    let v = wide(value_at(e, m).0);
+    let s = wide(source_at(e, m).0);
     x[v] = n;
     x[4096 + s] = n;
     x[12288 + m] = n;
@@ -81,7 +82,7 @@ fn by_source(e: &Entries, x: &Ties, m: usize) -> usize
     requires { ⌜ Kept (now e) × (m < kept (now e)) ⌝ }
     ensures { λ k. ⌜ k ≡ bySource (now (e .entry)) (now (x .entry)) m ⌝ }
 {
-    let s = wide(source_at(e, m));
+    let s = wide(source_at(e, m).0);
     wide(x[4096 + s])
 }
 
@@ -89,7 +90,7 @@ fn by_value(e: &Entries, x: &Ties, m: usize) -> usize
     requires { ⌜ Kept (now e) × (m < kept (now e)) ⌝ }
     ensures { λ k. ⌜ k ≡ byValue (now (e .entry)) (now (x .entry)) m ⌝ }
 {
-    let v = wide(value_at(e, m));
+    let v = wide(value_at(e, m).0);
     wide(x[v])
 }
 
@@ -175,7 +176,7 @@ fn is_of(e: &Entries, k: usize, v: Value) -> bool
     if kept(e) <= k {
         return false;
     }
-    value_at(e, k) == v.0
+    value_at(e, k).0 == v.0
 }
 
 // The label of a value's kept moves, or a number of its own where it has none.
@@ -209,8 +210,8 @@ pub fn no_start(t: &RegInfo, f: &Function, e: &Entries, x: &Ties) -> bool
     let mut i: usize = 0;
     while i < n {
         let k = by_source(e, x, i);
-        let a = width(t, f, Value(value_at(e, i)));
-        let b = width(t, f, Value(value_at(e, k)));
+        let a = width(t, f, value_at(e, i));
+        let b = width(t, f, value_at(e, k));
         if a != b {
             return true;
         }

@@ -5,14 +5,14 @@ use Rattle.edit.specs.Word.{editOf}
 use Rattle.edit.proofs.read.Statement.{statement}
 use Rattle.edit.proofs.read.Tie as tie
 
-cast-to : tie.Need-cast-to
-cast-to c = search needs
+cast-t8 : tie.Need-cast-t8
+cast-t8 c = search needs
 
-cast-from : tie.Need-cast-from
-cast-from c = search needs
+cast-t8-2 : tie.Need-cast-t8-2
+cast-t8-2 c = search needs
 
-cast-v : tie.Need-cast-v
-cast-v c = search needs
+cast-t8-3 : tie.Need-cast-t8-3
+cast-t8-3 c = search needs
 
 spill-read-requires : tie.Need-spill-read-requires
 spill-read-requires c κs = search needs
@@ -44,9 +44,9 @@ pub read-spec : {M : Type 1} → statement M
 read-spec =
     tie.close
     (tie.spec
-    cast-to
-    cast-from
-    cast-v
+    cast-t8
+    cast-t8-2
+    cast-t8-3
     spill-read-requires
     reload-read-requires
     returns

@@ -36,14 +36,14 @@ cast-t17 c = omega (arith, c .before .before .before .before .before .before .be
 returns : tie.Need-returns
 returns c = never-rebuilt _ _ _ _ (c .before .before .before .before .before .before .before .before .before .num-banks .ensures) _ _ (rw (c .before .before .before .before .before .before .bank .given .1) at (c .before .before .before .before .before .before .before .before .below .ensures)) _ _ (rw (c .before .before .cost .given .1) at (c .before .before .before .before .below2 .ensures)) (c .if1 .taken)
 
-cast-read-rebuilt : tie.Need-cast-read-rebuilt
-cast-read-rebuilt c = omega (arith, c .before .before .before .before .before .before .before .before .before .num-banks .ensures, banks-fit _ (c .before .before .before .before .before .before .before .before .before .before .before .pre) .1, below-limit _ _ _ _ _ (rw (c .before .before .before .before .before .before .bank .given .1) at (c .before .before .before .before .before .before .before .before .below .ensures)))
+cast-t20 : tie.Need-cast-t20
+cast-t20 c = omega (arith, c .before .before .before .before .before .before .before .before .before .num-banks .ensures, banks-fit _ (c .before .before .before .before .before .before .before .before .before .before .before .pre) .1, below-limit _ _ _ _ _ (rw (c .before .before .before .before .before .before .bank .given .1) at (c .before .before .before .before .before .before .before .before .below .ensures)))
 
-cast-read-rebuilt-2 : tie.Need-cast-read-rebuilt-2
-cast-read-rebuilt-2 c = omega (arith, below-limit _ _ _ _ _ (rw (c .before .before .cost .given .1) at (c .before .before .before .before .below2 .ensures)))
+cast-read-remat-class : tie.Need-cast-read-remat-class
+cast-read-remat-class c = omega (arith, below-limit _ _ _ _ _ (rw (c .before .before .cost .given .1) at (c .before .before .before .before .below2 .ensures)))
 
-read-rebuilt-requires : tie.Need-read-rebuilt-requires
-read-rebuilt-requires c κs = search needs
+read-remat-class-requires : tie.Need-read-remat-class-requires
+read-remat-class-requires c κs = search needs
 
 returns-2 : tie.Need-returns-2
 returns-2 c = no-bank _ _ _ _ (c .before .before .before .before .num-banks .ensures) _ (rw (c .before .k .given .1) at (c .before .before .before .below .ensures))
@@ -52,7 +52,7 @@ returns-3 : tie.Need-returns-3
 returns-3 c = no-cost _ _ _ _ (c .before .before .before .before .before .before .before .before .num-banks .ensures) _ _ (rw (c .before .before .before .before .before .bank .given .1) at (c .before .before .before .before .before .before .before .below .ensures)) _ (rw (c .before .k2 .given .1) at (c .before .before .before .below2 .ensures))
 
 returns-4 : tie.Need-returns-4
-returns-4 c = can-rebuild _ _ _ _ (c .before .before .before .before .before .before .before .before .before .before .num-banks .ensures) _ _ (rw (c .before .before .before .before .before .before .before .bank .given .1) at (c .before .before .before .before .before .before .before .before .before .below .ensures)) _ _ (rw (c .before .before .before .cost .given .1) at (c .before .before .before .before .before .below2 .ensures)) (c .before .if1 .left) _ (c .read-rebuilt .ensures)
+returns-4 c = can-rebuild _ _ _ _ (c .before .before .before .before .before .before .before .before .before .before .num-banks .ensures) _ _ (rw (c .before .before .before .before .before .before .before .bank .given .1) at (c .before .before .before .before .before .before .before .before .before .below .ensures)) _ _ (rw (c .before .before .before .cost .given .1) at (c .before .before .before .before .before .below2 .ensures)) (c .before .if1 .left) _ (c .read-remat-class .ensures)
 
 pub read-value-spec : {M : Type 1} → statement M
 read-value-spec =
@@ -68,9 +68,9 @@ read-value-spec =
     enum-known-cost
     cast-t17
     returns
-    cast-read-rebuilt
-    cast-read-rebuilt-2
-    read-rebuilt-requires
+    cast-t20
+    cast-read-remat-class
+    read-remat-class-requires
     returns-2
     returns-3
     returns-4)

@@ -92,7 +92,7 @@ put-rising-requires-3 : tie.Need-put-rising-requires-3
 put-rising-requires-3 c κs = search needs
 
 returns : tie.Need-returns
-returns c = rw (class-written, c .put-rising3 .ensures, c .before .before .put-rising2 .ensures, c .before .before .before .before .put-rising .ensures, c .before .before .before .before .before .before .wide2 .ensures .0, c .before .before .before .before .before .before .before .wide .ensures .0)
+returns c = rw (class-written, c .put-rising3 .ensures, c .before .before .put-rising2 .ensures, c .before .before .before .before .put-rising .ensures, c .before .before .before .before .before .before .before .before .wide2 .ensures .0, c .before .before .before .before .before .before .before .before .before .wide .ensures .0)
 
 pub put-class-spec : {M : Type 1} → statement M
 put-class-spec =

@@ -83,20 +83,20 @@ element-write-slots-2 c = search needs
 touch-requires : tie.Need-touch-requires
 touch-requires c κs = search needs
 
-mul-t27 : tie.Need-mul-t27
-mul-t27 c = search needs
-
-add-t32 : tie.Need-add-t32
-add-t32 c = search needs
+mul-t28 : tie.Need-mul-t28
+mul-t28 c = search needs
 
 add-t33 : tie.Need-add-t33
 add-t33 c = search needs
 
-mul-t34 : tie.Need-mul-t34
-mul-t34 c = search needs
+add-t34 : tie.Need-add-t34
+add-t34 c = search needs
 
-element-copy-out-t26 : tie.Need-element-copy-out-t26
-element-copy-out-t26 c = let s = c .before .before .before .before .before .before .before .before .before .before .before in omega (arith, s .pre .1 .left (s .args .z) (s .pre .0))
+mul-t35 : tie.Need-mul-t35
+mul-t35 c = search needs
+
+element-copy-out-t27 : tie.Need-element-copy-out-t27
+element-copy-out-t27 c = let s = c .before .before .before .before .before .before .before .before .before .before .before in omega (arith, s .pre .1 .left (s .args .z) (s .pre .0))
 
 returns-2 : tie.Need-returns-2
 returns-2 c =
@@ -140,10 +140,10 @@ acquire-spec =
     mul-slots-2
     element-write-slots-2
     touch-requires
-    mul-t27
-    add-t32
+    mul-t28
     add-t33
-    mul-t34
-    element-copy-out-t26
+    add-t34
+    mul-t35
+    element-copy-out-t27
     returns-2
     returns-3)

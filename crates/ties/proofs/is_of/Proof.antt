@@ -18,7 +18,7 @@ value-at-requires : tie.Need-value-at-requires
 value-at-requires c κs = omega (arith, c .if1 .left, c .before .kept .ensures, c .before .before .pre)
 
 returns-2 : tie.Need-returns-2
-returns-2 c = let s = c .before .before .before .before in rw (lt-ltb (s .args .k) (kept (s .args .e .now)) (omega (arith, c .before .before .if1 .left, c .before .before .before .kept .ensures)), sym (c .before .value-at .ensures))
+returns-2 c = let s = c .before .before .before .before .before in rw (lt-ltb (s .args .k) (kept (s .args .e .now)) (omega (arith, c .before .before .before .if1 .left, c .before .before .before .before .kept .ensures)), sym (c .before .before .value-at .ensures))
 
 pub is-of-spec : {M : Type 1} → statement M
 is-of-spec = tie.close (tie.spec kept-requires returns value-at-requires returns-2)
