@@ -15,21 +15,27 @@ use Rattle.function.specs.Table.{functionOf}
 use Rattle.rules.specs.Edit.{updated}
 use Rattle.rules.specs.Scratch.{Cache}
 use Rattle.rules.specs.Patch.{unlessRefused}
-use Rattle.rules.specs.Take.{Counted, Request, stampedBy}
+use Rattle.rules.specs.Take.{Counted, stampedBy}
 use Rattle.rules.proofs.Steps.{same?, updated-same, updated-other}
 use Rattle.machine.specs.Slots.{Stacked}
 use Rattle.slots.specs.Stacks.{cacheOf, stampOf, raised, stacksOf, CacheFits}
 use Rattle.parallel_moves.specs.Given.{withMade}
 use Rattle.parallel_moves.specs.Answers.{CanTake}
 use Rattle.calls.specs.Call.{patchOf, callOf}
-use Rattle.frame_rules.specs.Frame.{Inlined, noFormula, openRefusal, Asked, Formula, Frame, reach, cacheIn, nowIn, functionIn, resolveIn, standingIn, askedIn, madeTo, withCache, afterIn}
-use Rattle.frame_rules.proofs.Calls.{Moved, moved, goes-on, at-own, at-other}
-use Rattle.frame_rules.proofs.Claim.{Lying, lying-after, stacked-of}
+use Rattle.frame_rules.specs.Frame.{Inlined, noFormula, openRefusal, Asked, Formula, Frame, reach, cacheIn, nowIn, functionIn, resolveIn, madeTo, withCache}
+use Rattle.frame_rules.proofs.Calls.{at-own, at-other}
+use Rattle.frame_rules.proofs.Claim.{stacked-of}
+use Rattle.frame_rules.proofs.Given.{Known}
+use Rattle.group_rules.specs.Requests.{Request}
+use Rattle.group_rules.specs.Frame.{groupsIn, standingIn, askedIn, afterIn}
+use Rattle.group_rules.proofs.Frame.{Sim, goes-up, sim-after, stacks, known-here}
 use Rattle.frame_table.specs.Table.{counterOf, shareOf, madeOf, reachOf}
 use Rattle.frame_table.specs.Held.{Holds, FrameOk}
 use Rattle.frame_table.proofs.Held.{reach-held}
 use Rattle.frame_calls.specs.Given.{InFrame}
 use Rattle.frame_calls.specs.Answers.{answerOf}
+use Rattle.frame_groups.specs.Answer.{groupsAnswer}
+use Rattle.frame_groups.proofs.Are.{groups-are}
 use Rattle.frame_claim.specs.Claim.{Left, State, freeIn, Taken, Same}
 
 -- ---- lists of askings
@@ -103,11 +109,14 @@ module _ (t f : ℕ → List ℕ) (limit : ℕ) (l : List Inlined) (e : openRefu
     pub stamp : (i : ℕ) → i < length l → stampOf (k .cache i) ≡ s .formulas i .count
     pub many : (i : ℕ) → length (k .asked i) ≡ length (s .formulas i .asked)
     pub asked : (i n : ℕ) → LeftBeside (k .cache i) (s .formulas i .count) (s .counter) (getD (k .asked i) n none) (getD (s .formulas i .asked) n none)
-    pub lying : Lying limit l e s
+    pub sim : Sim limit l e s
 
   module _ (k : State) (s : Frame) (b : Beside k s) where
+    pub known : Known limit l s
+    known = known-here limit l e s (b .sim)
+
     pub number-is : s .number ≡ length l
-    number-is = b .lying .known .sound .number
+    number-is = known .sound .number
 
     pub few : s .number ≤ 16
     few = omega (arith, b .holds .number, b .ok .number)
@@ -117,13 +126,13 @@ module _ (t f : ℕ → List ℕ) (limit : ℕ) (l : List Inlined) (e : openRefu
       there = omega (arith, number-is, h)
 
       target-is : s .formulas i .target ≡ regInfoOf (t i)
-      target-is = b .lying .known .given .target-is i ∙ tg i h
+      target-is = known .given .target-is i ∙ tg i h
 
       function-is : s .formulas i .function ≡ functionOf (f i)
-      function-is = b .lying .known .given .function-is i ∙ fn i h
+      function-is = known .given .function-is i ∙ fn i h
 
       pub reach-same : reachOf (k .frame) i ≡ reach s i
-      reach-same = reach-held (k .frame) s (b .holds) (b .lying .known .sound .kept) i there
+      reach-same = reach-held (k .frame) s (b .holds) (known .sound .kept) i there
 
       pub in-frame : InFrame (k .frame) (f i) (k .cache i)
       in-frame =
@@ -131,7 +140,7 @@ module _ (t f : ℕ → List ℕ) (limit : ℕ) (l : List Inlined) (e : openRefu
             fits = b .fits i h;
             stacks =
                 restack (functionIn s i) (functionOf (f i)) (cacheIn s i) (withMade (counterOf (k .frame)) (cacheOf (k .cache i))) (ap (λ (y : Function). y .slots) function-is) (sym (b .stacks i h)) (sym (b .holds .counter))
-                (stacked-of limit l e s (b .lying .known) (b .lying .stacks) i h);
+                (stacked-of limit l e s known (stacks limit l e s (b .sim)) i h);
           }
 
       pub ready : Checked (t i) (f i) → Taken t f k i
@@ -144,6 +153,10 @@ module _ (t f : ℕ → List ℕ) (limit : ℕ) (l : List Inlined) (e : openRefu
       answer-is free numbers room =
           ap (unlessRefused (freeIn t f i free))
           (rw (target-is, function-is, reach-same, b .stacks i h, b .holds .counter) refl)
+
+      pub groups-answer-is : (free numbers : List ℕ) (room : ℕ)
+          → groupsAnswer (k .frame) i (t i) (f i) free numbers room (k .cache i) ≡ unlessRefused (freeIn t f i free) (groupsIn s i (patchOf free numbers) room)
+      groups-answer-is = groups-are (k .frame) s (b .holds) (known .sound .kept) i there (t i) (f i) (k .cache i) target-is function-is (b .stacks i h)
 
     pub same : Same t f k s
     same =
@@ -165,26 +178,14 @@ module _ (t f : ℕ → List ℕ) (limit : ℕ) (l : List Inlined) (e : openRefu
     abbrev k′ : State
     k′ = record { frame = frame′; cache = updated i cache′ (k .cache); asked = updated i asked′ (k .asked) }
 
-    went : Moved s i c
-    went = moved s i x (b .lying .known .sound .previews i)
-
-    -- what the formula's own askings left, where a call that is not counted leaves the cache
-    module _ (kept : c .count ≡ s .formulas i .count → cache′ ≡ k .cache i) where
+    -- what the formula's own askings left, after a call that is counted
+    module _ (up : s .formulas i .count < c .count) where
       own-left : (n : ℕ) (o : Option Left) (a : Option Asked) → getD (s .formulas i .asked) n none ≡ a → LeftBeside (k .cache i) (s .formulas i .count) (s .counter) o a
           → LeftBeside cache′ (c .count) (c .cache .made) o a
       own-left n none none q g = tt
       own-left n (some y) (some a) q g =
-          let st = b .lying .known .sound .previews i n a q in
-          record {
-            to = g .to;
-            stamp = g .stamp;
-            counter-is = g .counter-is;
-            pending = λ u v.
-                ⊎-elim
-                (λ w. let m : c .cache .made ≡ s .counter = ap (λ (y : Cache). y .made) (w .0) in
-                subst (λ (z : List ℕ). CanTake (y .slots) z × (stacksOf (y .slots) z ≡ a .preview .after .stacks)) (sym (kept (w .1))) (g .pending (u ∙ w .1) (v ∙ m)))
-                (λ w. absurd (omega (arith, st .count-low, w .counted, u))) went;
-          }
+          let st = b .sim .previews i n a q in
+          record { to = g .to; stamp = g .stamp; counter-is = g .counter-is; pending = λ u v. absurd (omega (arith, st .count-low, up, u)) }
 
       pub own-stays : (n : ℕ) → LeftBeside cache′ (c .count) (c .cache .made) (getD (k .asked i) n none) (getD (s .formulas i .asked) n none)
       own-stays n = own-left n (getD (k .asked i) n none) (getD (s .formulas i .asked) n none) refl (b .asked i n)
@@ -193,8 +194,8 @@ module _ (t f : ℕ → List ℕ) (limit : ℕ) (l : List Inlined) (e : openRefu
         → LeftBeside (k .cache j) (s .formulas j .count) (c .cache .made) o a
     other-left j d n none none q g = tt
     other-left j d n (some y) (some a) q g =
-        let st = b .lying .known .sound .previews j n a q in
-        record { to = g .to; stamp = g .stamp; counter-is = g .counter-is; pending = λ u v. g .pending u (omega (arith, st .counter-low, goes-on s i c went, v)) }
+        let st = b .sim .previews j n a q in
+        record { to = g .to; stamp = g .stamp; counter-is = g .counter-is; pending = λ u v. g .pending u (omega (arith, st .counter-low, goes-up limit l e s (b .sim) i h x, v)) }
 
     -- the frame of the rules after it
     abbrev F : ℕ → Formula
@@ -225,5 +226,5 @@ module _ (t f : ℕ → List ℕ) (limit : ℕ) (l : List Inlined) (e : openRefu
           stamp = λ j g. each (λ y z a. stampOf z ≡ y .count) sp j (λ d. b .stamp j g);
           many = λ j. each (λ y z a. length a ≡ length (y .asked)) mn j (λ d. b .many j);
           asked = λ j n. each (λ y z a. LeftBeside z (y .count) (c .cache .made) (getD a n none) (getD (y .asked) n none)) (ls n) j (λ d. other-left j d n (getD (k .asked j) n none) (getD (s .formulas j .asked) n none) refl (b .asked j n));
-          lying = lying-after limit l e s (record { formula = i; request = x }) h (b .lying);
+          sim = sim-after limit l e s (b .sim) i h x;
         }

@@ -9,19 +9,21 @@ use lib.ListN.{length, getD}
 use Rattle.rules.specs.Edit.{updated}
 use Rattle.rules.specs.Scratch.{Cache}
 use Rattle.rules.specs.Patch.{Patch, Answer, refused, resolved, unlessRefused}
-use Rattle.rules.specs.Take.{Counted, Request, resolving, asking, taking, answerIn, stamped, stampedBy, previewOf}
+use Rattle.rules.specs.Take.{Counted, resolving, asking, taking, answerIn, stamped, stampedBy, previewOf}
 use Rattle.rules.proofs.Steps.{same?, updated-same, updated-other}
 use Rattle.slots.specs.Stacks.{cacheOf, stampOf, raised, CacheFits}
 use Rattle.parallel_moves.specs.declared.Resolved.{Resolved}
 use Rattle.parallel_moves.specs.declared.TakeAnswer.{TakeAnswer}
 use Rattle.calls.specs.Call.{patchOf}
-use Rattle.frame_rules.specs.Frame.{Inlined, Asked, Formula, Frame, opened, cacheIn, nowIn, resolveIn, takeIn, takenIn, askedOf, standingIn, answeredIn, askedIn, madeTo, afterIn, withCache, FrameCall, afterCalls}
+use Rattle.frame_rules.specs.Frame.{Inlined, Asked, Formula, Frame, opened, cacheIn, nowIn, resolveIn, takeIn, takenIn, askedOf, madeTo, withCache}
 use Rattle.frame_rules.specs.Frame as frame
 use Rattle.frame_rules.proofs.Calls.{at-own, resolved-within, take-now, take-late, fresh-or-late}
-use Rattle.frame_rules.proofs.Promise.{promised}
-use Rattle.frame_rules.proofs.Takes.{count-calls, takes-in-frame}
-use Rattle.frame_rules.proofs.Independent.{independent}
-use Rattle.frame_rules.proofs.Claim.{lying-opened, frame-demand-3, frame-slots}
+use Rattle.group_rules.specs.Requests.{Request, single, grouping}
+use Rattle.group_rules.specs.Frame as rules
+use Rattle.group_rules.specs.Frame.{groupsIn, standingIn, answeredIn, askedIn, afterIn, FrameCall, afterCalls}
+use Rattle.group_rules.proofs.Frame.{sim-opened, frame-demand-3, frame-slots, promised}
+use Rattle.group_rules.proofs.FrameTakes.{count-calls, takes-in-frame}
+use Rattle.group_rules.proofs.Independent.{independent}
 use Rattle.frame_table.specs.Table.{counterOf, madeOf}
 use Rattle.frame_table.specs.Steps.{WentOn}
 use Rattle.frame_table.specs.Held.{Holds, FrameOk}
@@ -29,8 +31,8 @@ use Rattle.frame_table.proofs.Held.{went-holds}
 use Rattle.frame_calls.specs.declared.FrameAsked.{FrameAsked}
 use Rattle.frame_calls.specs.declared.FramePreview.{FramePreview}
 use Rattle.frame_calls.specs.Answers.{GivesIn, previewIn, AsksIn, CanTakeIn, TakesIn}
-use Rattle.frame_claim.specs.Claim.{Left, State, Kind, resolves, asks, takes, Made, leftBy, ifFree, askedIf, freeIn, requestOf, askedAfter, after, Taken, TookAs, DidAs, Called, Resolves, Shows, Takes, Outcome, ruledBy, ruledAfter, Claim, callIf, callsOf, Named, Begun, begun, SharedFrame}
-use Rattle.frame_claim.proofs.Beside.{both, one-more, raised-is, stays-holds, LeftIs, LeftBeside, Beside, few, there, reach-same, ready, answer-is, same, beside-after, own-stays}
+use Rattle.frame_claim.specs.Claim.{Left, State, Kind, resolves, groups, asks, takes, Made, leftBy, ifFree, askedIf, freeIn, requestOf, askedAfter, after, Taken, TookAs, DidAs, Called, Resolves, Shows, Takes, Outcome, ruledBy, ruledAfter, Claim, callIf, callsOf, Named, Begun, begun, SharedFrame}
+use Rattle.frame_claim.proofs.Beside.{both, one-more, raised-is, stays-holds, LeftIs, LeftBeside, Beside, few, there, reach-same, ready, answer-is, groups-answer-is, same, beside-after, own-stays}
 
 module _ (t f : ℕ → List ℕ) (limit : ℕ) (l : List Inlined) (frame₀ : List ℕ) (cache₀ : ℕ → List ℕ) (B : Begun t f limit l frame₀ cache₀) where
   abbrev By : State → Frame → Type 0
@@ -53,7 +55,7 @@ module _ (t f : ℕ → List ℕ) (limit : ℕ) (l : List Inlined) (frame₀ : L
           stamp = λ j g. keeps (λ j z a. stampOf z ≡ s .formulas j .count) j (b .stamp j g);
           many = λ j. keeps (λ j z a. length a ≡ length (s .formulas j .asked)) j (b .many j);
           asked = λ j n. keeps (λ j z a. LeftBeside t f limit l (B .opens) (B .target) (B .function) z (s .formulas j .count) (s .counter) (getD a n none) (getD (s .formulas j .asked) n none)) j (b .asked j n);
-          lying = b .lying;
+          sim = b .sim;
         }
       where
         keeps : (P : ℕ → List ℕ → List (Option Left) → Type 0) (j : ℕ) → P j (k .cache j) (k .asked j) → P j (updated i cache′ (k .cache) j) (updated i (k .asked i) (k .asked) j)
@@ -96,40 +98,32 @@ module _ (t f : ℕ → List ℕ) (limit : ℕ) (l : List Inlined) (frame₀ : L
           beside-after t f limit l (B .opens) (B .target) (B .function) k s b i h x frame′ cache′ (k .asked i)
               H ok (st ∙ sym (ap (λ (z : Counted). z .cache .stacks) eq)) fi (one-raised x c eq low cache′ sp ∙ sym (ap (λ (z : Counted). z .count) eq)) (b .many i ∙ sym (ap length ae))
               (λ n. subst (λ (a : List (Option Asked)). LeftBeside t f limit l (B .opens) (B .target) (B .function) cache′ (y .count) (y .cache .made) (getD (k .asked i) n none) (getD a n none)) (sym ae)
-              (own-stays t f limit l (B .opens) (B .target) (B .function) k s b i h x frame′ cache′ (k .asked i) (λ z. absurd (omega (arith, z, ap (λ (z : Counted). z .count) eq))) n)),
+              (own-stays t f limit l (B .opens) (B .target) (B .function) k s b i h x frame′ cache′ (k .asked i) (omega (arith, ap (λ (z : Counted). z .count) eq)) n)),
           own-made s i (there t f limit l (B .opens) (B .target) (B .function) k s b i h) y (askedIn s i x) frame′ H ∙ ap (madeTo s i) made,
         )
 
-    -- ---- the three kinds
+    -- ---- the kinds
     abbrev In : List ℕ → ℕ → ℕ → Option Left → Option Asked → Type 0
     In = LeftBeside t f limit l (B .opens) (B .target) (B .function)
 
-    stands-resolving : (p : Patch) (room : ℕ) → stampedBy (nowIn s i) (standingIn s i (resolving p room)) ≡ stamped (nowIn s i) (resolveIn s i p room)
-    unfolding standingIn
-    stands-resolving p room = refl
-
-    keeps-asked : (p : Patch) (room : ℕ) → askedIn s i (resolving p room) ≡ s .formulas i .asked
-    unfolding askedIn
-    keeps-asked p room = refl
-
-    stands-asking : (p : Patch) (room : ℕ) → stampedBy (nowIn s i) (standingIn s i (asking p room)) ≡ nowIn s i
-    unfolding standingIn
+    stands-asking : (p : Patch) (room : ℕ) → stampedBy (nowIn s i) (standingIn s i (single (asking p room))) ≡ nowIn s i
+    unfolding standingIn frame.standingIn
     stands-asking p room = refl
 
-    asked-is : (p : Patch) (room : ℕ) → askedIn s i (asking p room) ≡ s .formulas i .asked ++ (askedOf (s .counter) (previewOf p room (s .formulas i .count) (resolveIn s i p room)) ∷ [])
-    unfolding askedIn
+    asked-is : (p : Patch) (room : ℕ) → askedIn s i (single (asking p room)) ≡ s .formulas i .asked ++ (askedOf (s .counter) (previewOf p room (s .formulas i .count) (resolveIn s i p room)) ∷ [])
+    unfolding askedIn frame.askedIn
     asked-is p room = refl
 
-    stands-taking : (n : ℕ) → standingIn s i (taking n) ≡ takenIn (getD (s .formulas i .asked) n none) s i
-    unfolding standingIn
+    stands-taking : (n : ℕ) → standingIn s i (single (taking n)) ≡ takenIn (getD (s .formulas i .asked) n none) s i
+    unfolding standingIn frame.standingIn
     stands-taking n = refl
 
-    answered-taking : (n : ℕ) → answeredIn s i (taking n) ≡ answerIn (takenIn (getD (s .formulas i .asked) n none) s i)
-    unfolding answeredIn standingIn
+    answered-taking : (n : ℕ) → answeredIn s i (single (taking n)) ≡ answerIn (takenIn (getD (s .formulas i .asked) n none) s i)
+    unfolding answeredIn frame.answeredIn frame.standingIn
     answered-taking n = refl
 
-    taken-asked : (n : ℕ) → askedIn s i (taking n) ≡ s .formulas i .asked
-    unfolding askedIn
+    taken-asked : (n : ℕ) → askedIn s i (single (taking n)) ≡ s .formulas i .asked
+    unfolding askedIn frame.askedIn
     taken-asked n = refl
 
     ready-now : Taken t f k i
@@ -139,31 +133,40 @@ module _ (t f : ℕ → List ℕ) (limit : ℕ) (l : List Inlined) (frame₀ : L
     next frame′ cache′ asked′ = record { frame = frame′; cache = updated i cache′ (k .cache); asked = updated i asked′ (k .asked) }
 
     module _ (frame′ cache′ : List ℕ) where
-      resolve-step : (free numbers list : List ℕ) (r : Resolved) (after : List ℕ) → DidAs t f k i (resolves free numbers list r after) frame′ cache′ → FewIf (freeIn t f i free) (resolving (patchOf free numbers) (length list))
+      -- a call that resolves a patch, by groups or not: y is the rules' answer to its request x
+      module _ (x : Request) (y : Answer) (stands : stampedBy (nowIn s i) (standingIn s i x) ≡ stamped (nowIn s i) y) (keeps : askedIn s i x ≡ s .formulas i .asked) (r : Resolved) (list after : List ℕ) where
+        abbrev Gives : Answer → Type 0
+        Gives a = GivesIn (k .frame) frame′ i (f i) a r list after (k .cache i) cache′
+
+        given : Few x → (a : Answer) → y ≡ a → Gives a → Resolves t f k s i frame′ cache′ a r list after × By (next frame′ cache′ (k .asked i)) (afterIn s i x)
+        given low (refused n) e g =
+            let is : stampedBy (nowIn s i) (standingIn s i x) ≡ stamped (nowIn s i) (refused n) = stands ∙ ap (stamped (nowIn s i)) e in (
+              (g .0, g .1, g .3, g .2),
+              quiet x (ap (λ (z : Counted). z .cache) is) (ap (λ (z : Counted). z .count) is ∙ omega arith) frame′ cache′ (g .3) (g .2) (k .asked i) (b .many i ∙ sym (ap length keeps))
+                  (λ n. subst (λ (a : List (Option Asked)). In (k .cache i) (s .formulas i .count) (s .counter) (getD (k .asked i) n none) (getD a n none)) (sym keeps) (b .asked i n)),
+            )
+        given low (resolved es c n) e g =
+            let q = counted x c (stands ∙ ap (stamped (nowIn s i)) e) keeps low frame′ cache′ (g .7) (g .8) (ap (λ (z : Cache). z .stacks) (g .4)) (g .9 .fits) (g .6) in
+            ((g .0, g .1, g .2, g .3, g .5, q .1), q .0)
+
+        given-if : (o : Option ℕ) → FewIf o x → Gives (unlessRefused o y)
+            → Resolves t f k s i frame′ cache′ (unlessRefused o y) r list after × By (next frame′ cache′ (k .asked i)) (ruledBy t f (ifFree o x) i s)
+        given-if (some n) low g = ((g .0, g .1, g .3, g .2), unchanged frame′ cache′ (g .3) (g .2))
+        given-if none low g = given low y refl g
+
+      resolve-step : (free numbers list : List ℕ) (r : Resolved) (after : List ℕ) → DidAs t f k i (resolves free numbers list r after) frame′ cache′ → FewIf (freeIn t f i free) (single (resolving (patchOf free numbers) (length list)))
           → Outcome t f k s i frame′ cache′ (resolves free numbers list r after) × By (next frame′ cache′ (k .asked i)) (ruledBy t f (requestOf t f i (resolves free numbers list r after)) i s)
+      unfolding standingIn frame.standingIn askedIn frame.askedIn
       resolve-step free numbers list r after D low =
-          go (freeIn t f i free) low
+          given-if (single (resolving (patchOf free numbers) (length list))) (resolveIn s i (patchOf free numbers) (length list)) refl refl r list after (freeIn t f i free) low
           (subst (λ (a : Answer). GivesIn (k .frame) frame′ i (f i) a r list after (k .cache i) cache′) (answer-is t f limit l (B .opens) (B .target) (B .function) k s b i h free numbers (length list)) (D ready-now))
-        where
-          p : Patch
-          p = patchOf free numbers
 
-          on : Few (resolving p (length list)) → (a : Answer) → resolveIn s i p (length list) ≡ a → GivesIn (k .frame) frame′ i (f i) a r list after (k .cache i) cache′
-              → Resolves t f k s i frame′ cache′ a r list after × By (next frame′ cache′ (k .asked i)) (afterIn s i (resolving p (length list)))
-          on low (refused n) e g =
-              let is : stampedBy (nowIn s i) (standingIn s i (resolving p (length list))) ≡ stamped (nowIn s i) (refused n) = stands-resolving p (length list) ∙ ap (stamped (nowIn s i)) e in (
-                (g .0, g .1, g .3, g .2),
-                quiet (resolving p (length list)) (ap (λ (z : Counted). z .cache) is) (ap (λ (z : Counted). z .count) is ∙ omega arith) frame′ cache′ (g .3) (g .2) (k .asked i) (b .many i ∙ sym (ap length (keeps-asked p (length list))))
-                    (λ n. subst (λ (a : List (Option Asked)). In (k .cache i) (s .formulas i .count) (s .counter) (getD (k .asked i) n none) (getD a n none)) (sym (keeps-asked p (length list))) (b .asked i n)),
-              )
-          on low (resolved es c n) e g =
-              let q = counted (resolving p (length list)) c (stands-resolving p (length list) ∙ ap (stamped (nowIn s i)) e) (keeps-asked p (length list)) low frame′ cache′ (g .7) (g .8) (ap (λ (z : Cache). z .stacks) (g .4)) (g .9 .fits) (g .6) in
-              ((g .0, g .1, g .2, g .3, g .5, q .1), q .0)
-
-          go : (o : Option ℕ) → FewIf o (resolving p (length list)) → GivesIn (k .frame) frame′ i (f i) (unlessRefused o (resolveIn s i p (length list))) r list after (k .cache i) cache′
-              → Resolves t f k s i frame′ cache′ (unlessRefused o (resolveIn s i p (length list))) r list after × By (next frame′ cache′ (k .asked i)) (ruledBy t f (ifFree o (resolving p (length list))) i s)
-          go (some n) low g = ((g .0, g .1, g .3, g .2), unchanged frame′ cache′ (g .3) (g .2))
-          go none low g = on low (resolveIn s i p (length list)) refl g
+      groups-step : (free numbers list : List ℕ) (r : Resolved) (after : List ℕ) → DidAs t f k i (groups free numbers list r after) frame′ cache′ → FewIf (freeIn t f i free) (grouping (patchOf free numbers) (length list))
+          → Outcome t f k s i frame′ cache′ (groups free numbers list r after) × By (next frame′ cache′ (k .asked i)) (ruledBy t f (requestOf t f i (groups free numbers list r after)) i s)
+      unfolding standingIn askedIn
+      groups-step free numbers list r after D low =
+          given-if (grouping (patchOf free numbers) (length list)) (groupsIn s i (patchOf free numbers) (length list)) refl refl r list after (freeIn t f i free) low
+          (subst (λ (a : Answer). GivesIn (k .frame) frame′ i (f i) a r list after (k .cache i) cache′) (groups-answer-is t f limit l (B .opens) (B .target) (B .function) k s b i h free numbers (length list)) (D ready-now))
 
       ask-step : (free numbers list : List ℕ) (r : FrameAsked) (after slots : List ℕ) → DidAs t f k i (asks free numbers list r after slots) frame′ cache′
           → Outcome t f k s i frame′ cache′ (asks free numbers list r after slots)
@@ -179,16 +182,16 @@ module _ (t f : ℕ → List ℕ) (limit : ℕ) (l : List Inlined) (frame₀ : L
           a₀ : Option Asked
           a₀ = askedOf (s .counter) (previewOf p (length list) (s .formulas i .count) (resolveIn s i p (length list)))
 
-          left-new : frame′ ≡ k .frame → cache′ ≡ k .cache i → In (k .cache i) (s .formulas i .count) (s .counter) (leftBy r slots) a₀ → By (next frame′ cache′ (k .asked i ++ (leftBy r slots ∷ []))) (afterIn s i (asking p (length list)))
+          left-new : frame′ ≡ k .frame → cache′ ≡ k .cache i → In (k .cache i) (s .formulas i .count) (s .counter) (leftBy r slots) a₀ → By (next frame′ cache′ (k .asked i ++ (leftBy r slots ∷ []))) (afterIn s i (single (asking p (length list))))
           left-new fe ce new =
               let is = stands-asking p (length list) in
-              quiet (asking p (length list)) (ap (λ (z : Counted). z .cache) is) (ap (λ (z : Counted). z .count) is) frame′ cache′ fe ce (k .asked i ++ (leftBy r slots ∷ []))
+              quiet (single (asking p (length list))) (ap (λ (z : Counted). z .cache) is) (ap (λ (z : Counted). z .count) is) frame′ cache′ fe ce (k .asked i ++ (leftBy r slots ∷ []))
               (one-more (k .asked i) (leftBy r slots) ∙ ap (λ (m : ℕ). m + 1) (b .many i) ∙ sym (one-more (s .formulas i .asked) a₀) ∙ sym (ap length (asked-is p (length list))))
               (λ n. subst (λ (a : List (Option Asked)). In (k .cache i) (s .formulas i .count) (s .counter) (getD (k .asked i ++ (leftBy r slots ∷ [])) n none) (getD a n none)) (sym (asked-is p (length list)))
               (both (In (k .cache i) (s .formulas i .count) (s .counter)) (leftBy r slots) a₀ tt new (k .asked i) (s .formulas i .asked) (b .many i) (b .asked i) n))
 
           on : frame′ ≡ k .frame → cache′ ≡ k .cache i → (a : Answer) → resolveIn s i p (length list) ≡ a → AsksIn (k .frame) i (f i) a r list after (k .cache i) slots
-              → Shows t f k s i frame′ cache′ a r list after × By (next frame′ cache′ (k .asked i ++ (leftBy r slots ∷ []))) (afterIn s i (asking p (length list)))
+              → Shows t f k s i frame′ cache′ a r list after × By (next frame′ cache′ (k .asked i ++ (leftBy r slots ∷ []))) (afterIn s i (single (asking p (length list))))
           on fe ce (refused n) e g =
               let x : leftBy r slots ≡ none = ap (λ (z : FrameAsked). leftBy z slots) (g .0) in
               let y : a₀ ≡ none = ap (λ (z : Answer). askedOf (s .counter) (previewOf p (length list) (s .formulas i .count) z)) e in
@@ -205,64 +208,65 @@ module _ (t f : ℕ → List ℕ) (limit : ℕ) (l : List Inlined) (frame₀ : L
 
           go : frame′ ≡ k .frame → cache′ ≡ k .cache i → (o : Option ℕ) → AsksIn (k .frame) i (f i) (unlessRefused o (resolveIn s i p (length list))) r list after (k .cache i) slots
               → Shows t f k s i frame′ cache′ (unlessRefused o (resolveIn s i p (length list))) r list after
-              × By (next frame′ cache′ (askedIf o (k .asked i) (leftBy r slots))) (ruledBy t f (ifFree o (asking p (length list))) i s)
+              × By (next frame′ cache′ (askedIf o (k .asked i) (leftBy r slots))) (ruledBy t f (ifFree o (single (asking p (length list)))) i s)
           go fe ce (some n) g = ((g .0, g .1, fe, ce), unchanged frame′ cache′ fe ce)
           go fe ce none g = on fe ce (resolveIn s i p (length list)) refl g
 
-      stays : (n : ℕ) → stampedBy (nowIn s i) (standingIn s i (taking n)) .cache ≡ cacheIn s i → stampedBy (nowIn s i) (standingIn s i (taking n)) .count ≡ s .formulas i .count → frame′ ≡ k .frame → cache′ ≡ k .cache i
-          → By (next frame′ cache′ (k .asked i)) (afterIn s i (taking n))
+      stays : (n : ℕ) → stampedBy (nowIn s i) (standingIn s i (single (taking n))) .cache ≡ cacheIn s i → stampedBy (nowIn s i) (standingIn s i (single (taking n))) .count ≡ s .formulas i .count → frame′ ≡ k .frame → cache′ ≡ k .cache i
+          → By (next frame′ cache′ (k .asked i)) (afterIn s i (single (taking n)))
       stays n cq nq fe ce =
-          quiet (taking n) cq nq frame′ cache′ fe ce (k .asked i) (b .many i ∙ sym (ap length (taken-asked n)))
+          quiet (single (taking n)) cq nq frame′ cache′ fe ce (k .asked i) (b .many i ∙ sym (ap length (taken-asked n)))
           (λ m. subst (λ (a : List (Option Asked)). In (k .cache i) (s .formulas i .count) (s .counter) (getD (k .asked i) m none) (getD a m none)) (sym (taken-asked n)) (b .asked i m))
 
       -- the answer of the n-th asking, which was not refused
       module _ (n : ℕ) (r : TakeAnswer) (x : Left) (a : Asked) (q : getD (s .formulas i .asked) n none ≡ some a) (g : LeftIs t f limit l (B .opens) (B .target) (B .function) (k .cache i) (s .formulas i .count) (s .counter) x a) where
-        standing : stampedBy (nowIn s i) (standingIn s i (taking n)) ≡ stamped (nowIn s i) (takeIn a s i)
+        standing : stampedBy (nowIn s i) (standingIn s i (single (taking n))) ≡ stamped (nowIn s i) (takeIn a s i)
         standing = ap (stampedBy (nowIn s i)) (stands-taking n ∙ ap (λ (z : Option Asked). takenIn z s i) q)
 
         can : x .preview .stamp ≡ stampOf (k .cache i) → x .preview .counter ≡ counterOf (k .frame) → CanTakeIn (k .frame) i (x .preview) (x .slots) (k .cache i)
         can u v =
             let u′ : a .preview .count ≡ s .formulas i .count = sym (g .stamp) ∙ u ∙ b .stamp i h in
             let v′ : a .counter ≡ s .counter = sym (g .counter-is) ∙ v ∙ b .holds .counter in
-            let w = resolved-within s i (a .preview .patch) (a .preview .room) (a .preview .edits) (a .preview .after) (a .preview .position) (b .lying .known .sound .previews i n a q .same u′ v′) in
+            let w = resolved-within s i (a .preview .patch) (a .preview .room) (a .preview .edits) (a .preview .after) (a .preview .position) (b .sim .previews i n a q .same u′ v′) in
             let far = reach-same t f limit l (B .opens) (B .target) (B .function) k s b i h in
             record { can = g .pending u′ v′ .0; on = omega (arith, b .holds .counter, g .to, w .0); within = omega (arith, far, g .to, w .1) }
 
         abbrev Did : Type 0
-        Did = Takes t f k s i frame′ cache′ (some (takeIn a s i)) r × By (next frame′ cache′ (k .asked i)) (afterIn s i (taking n))
+        Did = Takes t f k s i frame′ cache′ (some (takeIn a s i)) r × By (next frame′ cache′ (k .asked i)) (afterIn s i (single (taking n)))
 
         module _ (T : TakesIn (k .frame) frame′ i (x .preview) (x .slots) (k .cache i) r cache′) where
-          took-now : Few (taking n) → a .preview .count ≡ s .formulas i .count → a .counter ≡ s .counter → Did
+          took-now : Few (single (taking n)) → a .preview .count ≡ s .formulas i .count → a .counter ≡ s .counter → Did
           took-now low u v =
               let d = T .same (g .stamp ∙ u ∙ sym (b .stamp i h)) (g .counter-is ∙ v ∙ sym (b .holds .counter)) in
               let e = take-now s i a u v in
-              let y = counted (taking n) (a .preview .after) (standing ∙ ap (stamped (nowIn s i)) e) (taken-asked n) low frame′ cache′ (rw (g .to) at (d .2)) (d .3) (ap (λ (z : Cache). z .stacks) (d .1 .is) ∙ g .pending u v .1) (d .1 .fits) (d .1 .stamp) in
+              let y = counted (single (taking n)) (a .preview .after) (standing ∙ ap (stamped (nowIn s i)) e) (taken-asked n) low frame′ cache′ (rw (g .to) at (d .2)) (d .3) (ap (λ (z : Cache). z .stacks) (d .1 .is) ∙ g .pending u v .1) (d .1 .fits) (d .1 .stamp) in
               (rw e (d .0, y .1), y .0)
 
           took-late : (a .preview .count ≡ s .formulas i .count → ⊥) ⊎ (a .counter ≡ s .counter → ⊥) → Did
           took-late z =
               let d = T .other (⊎-elim (λ y. inl (λ u. y (sym (g .stamp) ∙ u ∙ b .stamp i h))) (λ y. inr (λ v. y (sym (g .counter-is) ∙ v ∙ b .holds .counter))) z) in
               let e = take-late s i a z in
-              let is : stampedBy (nowIn s i) (standingIn s i (taking n)) ≡ stamped (nowIn s i) (refused 20) = standing ∙ ap (stamped (nowIn s i)) e in
+              let is : stampedBy (nowIn s i) (standingIn s i (single (taking n))) ≡ stamped (nowIn s i) (refused 20) = standing ∙ ap (stamped (nowIn s i)) e in
               (rw e (d .0, d .2, d .1), stays n (ap (λ (y : Counted). y .cache) is) (ap (λ (y : Counted). y .count) is ∙ omega arith) (d .2) (d .1))
 
-          did : Few (taking n) → Did
+          did : Few (single (taking n)) → Did
           did low = ⊎-elim (λ w. took-now low (w .0) (w .1)) took-late (fresh-or-late s i a)
 
-      take-step : (n : ℕ) (r : TakeAnswer) → DidAs t f k i (takes n r) frame′ cache′ → Few (taking n)
+      take-step : (n : ℕ) (r : TakeAnswer) → DidAs t f k i (takes n r) frame′ cache′ → Few (single (taking n))
           → Outcome t f k s i frame′ cache′ (takes n r) × By (next frame′ cache′ (k .asked i)) (ruledBy t f (requestOf t f i (takes n r)) i s)
-      take-step n r D low = subst (λ (z : Option Answer). Takes t f k s i frame′ cache′ z r × By (next frame′ cache′ (k .asked i)) (afterIn s i (taking n))) (sym (answered-taking n)) (go (getD (k .asked i) n none) (getD (s .formulas i .asked) n none) refl (b .asked i n) D)
+      take-step n r D low = subst (λ (z : Option Answer). Takes t f k s i frame′ cache′ z r × By (next frame′ cache′ (k .asked i)) (afterIn s i (single (taking n)))) (sym (answered-taking n)) (go (getD (k .asked i) n none) (getD (s .formulas i .asked) n none) refl (b .asked i n) D)
         where
           go : (o : Option Left) (a : Option Asked) → getD (s .formulas i .asked) n none ≡ a → In (k .cache i) (s .formulas i .count) (s .counter) o a → TookAs t f k i o r frame′ cache′
-              → Takes t f k s i frame′ cache′ (answerIn (takenIn a s i)) r × By (next frame′ cache′ (k .asked i)) (afterIn s i (taking n))
+              → Takes t f k s i frame′ cache′ (answerIn (takenIn a s i)) r × By (next frame′ cache′ (k .asked i)) (afterIn s i (single (taking n)))
           go none none q g d =
-              let is : stampedBy (nowIn s i) (standingIn s i (taking n)) ≡ nowIn s i = ap (stampedBy (nowIn s i)) (stands-taking n ∙ ap (λ (z : Option Asked). takenIn z s i) q) in
+              let is : stampedBy (nowIn s i) (standingIn s i (single (taking n))) ≡ nowIn s i = ap (stampedBy (nowIn s i)) (stands-taking n ∙ ap (λ (z : Option Asked). takenIn z s i) q) in
               ((d .0, d .1), stays n (ap (λ (y : Counted). y .cache) is) (ap (λ (y : Counted). y .count) is) (d .0) (d .1))
           go (some x) (some a) q g d =
               did n r x a q g (d (b .ok) (omega (arith, b .holds .number, there t f limit l (B .opens) (B .target) (B .function) k s b i h)) (can n r x a q g)) low
 
       step : (x : Kind) → DidAs t f k i x frame′ cache′ → ruledBy t f (requestOf t f i x) i s .formulas i .count < 18446744073709551616 → Outcome t f k s i frame′ cache′ x × By (next frame′ cache′ (askedAfter t f i x (k .asked i))) (ruledBy t f (requestOf t f i x) i s)
       step (resolves free numbers list r after) D low = resolve-step free numbers list r after D low
+      step (groups free numbers list r after) D low = groups-step free numbers list r after D low
       step (asks free numbers list r after slots) D low = ask-step free numbers list r after slots D
       step (takes n r) D low = take-step n r D low
 
@@ -295,14 +299,14 @@ module _ (t f : ℕ → List ℕ) (limit : ℕ) (l : List Inlined) (frame₀ : L
         stamp = λ i g. B .cleared i g .stamp;
         many = λ i. refl;
         asked = λ i n. tt;
-        lying = lying-opened limit l (B .opens);
+        sim = sim-opened limit l (B .opens);
       }
 
-  named-if : (o : Option Request) (i : ℕ) (xs : List FrameCall) → i < length l → frame.Named (length l) xs → frame.Named (length l) (callIf t f o i xs)
+  named-if : (o : Option Request) (i : ℕ) (xs : List FrameCall) → i < length l → rules.Named (length l) xs → rules.Named (length l) (callIf t f o i xs)
   named-if none i xs h k = k
   named-if (some x) i xs h k = (h, k)
 
-  named : (calls : List Made) → Named t f (length l) calls → frame.Named (length l) (callsOf t f calls)
+  named : (calls : List Made) → Named t f (length l) calls → rules.Named (length l) (callsOf t f calls)
   named [] n = tt
   named (x ∷ xs) n = named-if (requestOf t f (x .formula) (x .kind)) (x .formula) (callsOf t f xs) (n .0) (named xs (n .1))
 

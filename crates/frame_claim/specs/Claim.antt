@@ -1,5 +1,5 @@
--- 02 l of the code: one claim about a whole list of calls of formulas that share a frame, by `resolve_in`, `ask_in` and `take_in`. What they answer and
--- leave is what crate frame_rules says, so all that it shows of every list of calls holds of these.
+-- 02 l of the code: one claim about a whole list of calls of formulas that share a frame, by `resolve_in`, `resolve_groups_in` (02 k), `ask_in` and
+-- `take_in`. What they answer and leave is what crate group_rules says, so all that it shows of every list of such calls holds of these.
 use Prim.Native.Nat.{ℕ, _<_}
 use mathlib.Core.Path.{_≡_}
 use mathlib.Core.List.{List, [], _∷_, _++_, map}
@@ -10,7 +10,7 @@ use Rattle.function.specs.Known.{Checked}
 use Rattle.function.specs.Table.{functionOf}
 use Rattle.rules.specs.Edit.{updated}
 use Rattle.rules.specs.Patch.{Answer, refused, resolved, unlessRefused}
-use Rattle.rules.specs.Take.{Request, resolving, asking, taking}
+use Rattle.rules.specs.Take.{resolving, asking, taking}
 use Rattle.edit.specs.Word.{wordOf, AllInRange}
 use Rattle.slots.specs.Stacks.{cacheOf, stampOf}
 use Rattle.slots.specs.Steps.{Cleared}
@@ -19,11 +19,13 @@ use Rattle.parallel_moves.specs.declared.TakeAnswer as K
 use Rattle.parallel_moves.specs.declared.TakeAnswer.{TakeAnswer}
 use Rattle.parallel_moves.specs.Answers as told
 use Rattle.calls.specs.Call.{freeRefusal, patchOf}
-use Rattle.frame_rules.specs.Frame.{Inlined, noFormula, openRefusal, firstSlots, Frame, opened, resolveIn, answeredIn, madeTo, FrameCall, afterCall, afterCalls}
-use Rattle.frame_rules.specs.Promise.{Kept, PromisedTo}
-use Rattle.frame_rules.specs.Claim.{FrameClaim, FrameStacks}
-use Rattle.frame_rules.specs.Takes.{settledBy, TakesAnswered}
-use Rattle.frame_rules.specs.Renamed.{Alike}
+use Rattle.frame_rules.specs.Frame.{Inlined, noFormula, openRefusal, firstSlots, Frame, opened, resolveIn, madeTo}
+use Rattle.frame_rules.specs.Promise.{Kept}
+use Rattle.frame_rules.specs.Claim.{FrameStacks}
+use Rattle.group_rules.specs.Requests.{Request, single, grouping}
+use Rattle.group_rules.specs.Frame.{groupsIn, answeredIn, FrameCall, afterCall, afterCalls, FrameClaim, PromisedToGroups}
+use Rattle.group_rules.specs.FrameTakes.{settledBy, TakesAnswered}
+use Rattle.group_rules.specs.Renamed.{Alike}
 use Rattle.frame_table.specs.Table.{numberOf, counterOf, madeOf}
 use Rattle.frame_table.specs.Held.{Holds, FrameOk}
 use Rattle.frame_calls.specs.declared.FramePreview.{FramePreview}
@@ -31,6 +33,7 @@ use Rattle.frame_calls.specs.declared.FrameAsked as A
 use Rattle.frame_calls.specs.declared.FrameAsked.{FrameAsked}
 use Rattle.frame_calls.specs.Given.{InFrame}
 use Rattle.frame_calls.specs.Answers.{answerOf, GivesIn, AsksIn, CanTakeIn, TakesIn}
+use Rattle.frame_groups.specs.Answer.{groupsAnswer}
 
 -- what an asking left to take: what it handed back, and the table of slots that it wrote
 pub record Left : Type 0 where
@@ -43,9 +46,11 @@ pub record State : Type 0 where
   pub cache : ℕ → List ℕ
   pub asked : ℕ → List (Option Left)
 
--- a call that was made: what it was given beside frame and cache, and what it answered and left; a take is passed what the n-th asking of its formula left
+-- a call that was made: what it was given beside frame and cache, and what it answered and left; one by groups is given and answers what one of
+-- `resolve_in` does; a take is passed what the n-th asking of its formula left
 pub data Kind : Type 0 where
   resolves : (free numbers list : List ℕ) → Resolved → (after : List ℕ) → Kind
+  groups : (free numbers list : List ℕ) → Resolved → (after : List ℕ) → Kind
   asks : (free numbers list : List ℕ) → FrameAsked → (after slots : List ℕ) → Kind
   takes : (n : ℕ) → TakeAnswer → Kind
 
@@ -74,12 +79,14 @@ module _ (t f : ℕ → List ℕ) where
   freeIn i free = freeRefusal (regInfoOf (t i) .units) free
 
   abbrev pub requestOf : ℕ → Kind → Option Request
-  requestOf i (resolves free numbers list r after) = ifFree (freeIn i free) (resolving (patchOf free numbers) (length list))
-  requestOf i (asks free numbers list r after slots) = ifFree (freeIn i free) (asking (patchOf free numbers) (length list))
-  requestOf i (takes n r) = some (taking n)
+  requestOf i (resolves free numbers list r after) = ifFree (freeIn i free) (single (resolving (patchOf free numbers) (length list)))
+  requestOf i (groups free numbers list r after) = ifFree (freeIn i free) (grouping (patchOf free numbers) (length list))
+  requestOf i (asks free numbers list r after slots) = ifFree (freeIn i free) (single (asking (patchOf free numbers) (length list)))
+  requestOf i (takes n r) = some (single (taking n))
 
   abbrev pub askedAfter : ℕ → Kind → List (Option Left) → List (Option Left)
   askedAfter i (resolves free numbers list r after) l = l
+  askedAfter i (groups free numbers list r after) l = l
   askedAfter i (asks free numbers list r after slots) l = askedIf (freeIn i free) l (leftBy r slots)
   askedAfter i (takes n r) l = l
 
@@ -101,6 +108,8 @@ module _ (t f : ℕ → List ℕ) where
   abbrev pub DidAs : State → ℕ → Kind → (frame cache : List ℕ) → Type 0
   DidAs k i (resolves free numbers list r after) frame cache =
       Taken k i → GivesIn (k .frame) frame i (f i) (answerOf (k .frame) i (t i) (f i) free numbers (length list) (k .cache i)) r list after (k .cache i) cache
+  DidAs k i (groups free numbers list r after) frame cache =
+      Taken k i → GivesIn (k .frame) frame i (f i) (groupsAnswer (k .frame) i (t i) (f i) free numbers (length list) (k .cache i)) r list after (k .cache i) cache
   DidAs k i (asks free numbers list r after slots) frame cache =
       Taken k i
       → AsksIn (k .frame) i (f i) (answerOf (k .frame) i (t i) (f i) free numbers (length list) (k .cache i)) r list after (k .cache i) slots × (frame ≡ k .frame) × (cache ≡ k .cache i)
@@ -131,8 +140,9 @@ module _ (t f : ℕ → List ℕ) where
 
     abbrev pub Outcome : Kind → Type 0
     Outcome (resolves free numbers list r after) = Resolves (unlessRefused (freeIn i free) (resolveIn s i (patchOf free numbers) (length list))) r list after
+    Outcome (groups free numbers list r after) = Resolves (unlessRefused (freeIn i free) (groupsIn s i (patchOf free numbers) (length list))) r list after
     Outcome (asks free numbers list r after slots) = Shows (unlessRefused (freeIn i free) (resolveIn s i (patchOf free numbers) (length list))) r list after
-    Outcome (takes n r) = Takes (answeredIn s i (taking n)) r
+    Outcome (takes n r) = Takes (answeredIn s i (single (taking n))) r
 
   -- the tables hold the frame of the rules, each formula's stacks, and the next call takes them
   pub record Same (k : State) (s : Frame) : Type 0 where
@@ -189,7 +199,7 @@ module _ (t f : ℕ → List ℕ) where
     pub claim : Claim calls (begun frame cache) (opened limit l)
     pub demand-3 : FrameClaim (callsOf calls) (opened limit l)
     pub kept : Kept (afterCalls (callsOf calls) (opened limit l))
-    pub promised : (i : ℕ) → i < length l → PromisedTo (afterCalls (callsOf calls) (opened limit l)) i
+    pub promised : (i : ℕ) → i < length l → PromisedToGroups (afterCalls (callsOf calls) (opened limit l)) i
     pub slots : FrameStacks (firstSlots l) (afterCalls (callsOf calls) (opened limit l))
     pub takes-answered : TakesAnswered limit l (callsOf calls)
     pub independent : (i : ℕ) → i < length l → Alike (firstSlots l) i (callsOf calls) (opened limit l) (opened limit l) (λ y. y)

@@ -100,7 +100,7 @@ made-calls i (x ∷ l) s z = made-calls i l (afterCall s x) (omega (arith, z)) �
         ap (λ (y : Formula). y .made)
         (at-other s (x .formula) (stampedBy (nowIn s (x .formula)) (standingIn s (x .formula) (x .request))) (askedIn s (x .formula) (x .request)) i (λ e. d (sym e)))
 
-count-calls : (i : ℕ) (k : List FrameCall) (s : Frame) → afterCalls k s .formulas i .count ≡ s .formulas i .count + settledBy i k s
+pub count-calls : (i : ℕ) (k : List FrameCall) (s : Frame) → afterCalls k s .formulas i .count ≡ s .formulas i .count + settledBy i k s
 unfolding afterCalls settledBy
 count-calls i [] s = omega arith
 count-calls i (x ∷ l) s = omega (arith, count-calls i l (afterCall s x), count-call i s x)
