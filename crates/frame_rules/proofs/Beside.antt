@@ -16,7 +16,7 @@ use Rattle.rules.specs.Scratch.{Cache}
 use Rattle.rules.specs.Patch.{Patch, resolve}
 use Rattle.rules.specs.Refusals.{withLimit}
 use Rattle.rules.specs.Take.{Counted}
-use Rattle.machine.proofs.Slots.{less?}
+use Rattle.machine.proofs.SlotCounts.{less?}
 use Rattle.frame_rules.specs.Frame.{Asked, Formula, Frame, reach, cacheIn, resolveIn, withCache}
 use Rattle.frame_rules.specs.Renamed.{Renaming}
 use Rattle.frame_rules.proofs.Calls.{reach-far, at-own, at-other}

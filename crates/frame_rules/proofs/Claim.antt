@@ -21,7 +21,8 @@ use Rattle.machine.specs.Slots.{Stacked}
 use Rattle.machine.proofs.Banked.{banked}
 use Rattle.machine.proofs.Cache.{CacheOk}
 use Rattle.machine.proofs.Demand.{called, cache-fresh}
-use Rattle.machine.proofs.Slots.{less?, Onward, run-onward}
+use Rattle.machine.proofs.SlotCounts.{less?}
+use Rattle.machine.proofs.Slots.{Onward, run-onward}
 use Rattle.frame_rules.specs.Frame.{Inlined, firstSlots, openRefusal, Asked, Formula, Frame, noFormula, opened, reach, cacheIn, nowIn, functionIn, resolveIn, takeIn, takenIn, standingIn, askedIn, withCache, FrameCall, afterCall, Named}
 use Rattle.frame_rules.specs.Claim.{FrameClaim, FrameDemand3, FrameStacks, FrameSlots}
 use Rattle.frame_rules.proofs.Calls.{along, Moved, PreviewsIn, moved, goes-on, at-own, at-other, take-now, take-late, fresh-or-late}

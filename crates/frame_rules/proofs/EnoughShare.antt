@@ -21,7 +21,8 @@ use Rattle.rules.proofs.Steps.{same?}
 use Rattle.machine.specs.Enough.{numSizes}
 use Rattle.machine.specs.Slots.{InStacks}
 use Rattle.machine.proofs.Banked.{Banked, banked}
-use Rattle.machine.proofs.Slots.{stacked, slots-empty}
+use Rattle.machine.proofs.SlotCounts.{stacked}
+use Rattle.machine.proofs.Slots.{slots-empty}
 use Rattle.machine.proofs.OwnSize.{Fair}
 use Rattle.machine.proofs.EnoughSlots.{Steady, never-out, quiet-after, quiet-fresh, same-sizes, accepted-within}
 use Rattle.frame_rules.specs.Frame.{Inlined, openRefusal, Asked, Frame, noFormula, opened, reach, nowIn, resolveIn, takenIn, standingIn, answeredIn, askedIn, afterIn, FrameCall, afterCall, afterCalls}

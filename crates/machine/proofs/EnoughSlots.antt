@@ -32,9 +32,11 @@ use Rattle.machine.specs.Slots.{InStacks, Stays}
 use Rattle.machine.specs.Enough.{sizesThat, isSize, numSizes, isBankSize, numBankSizes, RequestsNeverOut, NeverOut, editSize, namesSlot, Sized, SizedIn, editsOf, editsIn, Between, RequestsSizes, SizesClaim, EachOfItsSize, EnoughWith, Enough, FewerEnough, EnoughForTarget, enoughSlots, planned, Plan}
 use Rattle.machine.proofs.Diversions.{has-occurs}
 use Rattle.machine.proofs.Banked.{Banked, banked, banked-within}
-use Rattle.machine.proofs.Slots.{less?, occurs-has, stacked, slots-empty, run-lies, slots-ok}
+use Rattle.machine.proofs.SlotCounts.{less?, occurs-has, stacked}
+use Rattle.machine.proofs.Slots.{slots-empty, run-lies, slots-ok}
 use Rattle.machine.proofs.Sums.{sum-swap, sum-once, sum-times, filtered}
-use Rattle.machine.proofs.OwnSize.{any-index, Names, Fair, Ended, run-ended}
+use Rattle.machine.proofs.OwnSize.{any-index, Names, Fair, Ended}
+use Rattle.machine.proofs.SizeWalk.{run-ended}
 
 -- a number that passes the test
 any-found : (p : ℕ → Bool) (i n : ℕ) → any p (indices i n) ≡ true → (k : ℕ) × (i ≤ k) × (k < i + n) × (p k ≡ true)

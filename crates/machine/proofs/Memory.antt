@@ -106,6 +106,9 @@ module _ (t : RegInfo) (f : Function) (tk : TargetOk t) where
   abbrev pub Apart : Place → Place → Type 0
   Apart p q = (u : ℕ) → T (covers p u) → T (covers q u) → ⊥
 
+  pub apart-sym : (p q : Place) → Apart p q → Apart q p
+  apart-sym p q h u a b = h u b a
+
   -- memory shares nothing with what is not memory
   pub memory-apart : (q : Place) (r : ℕ) → T (isMemory t q) → T (not (isMemoryReg t r)) → Apart q (reg r)
   unfolding covers

@@ -25,7 +25,8 @@ use Rattle.machine.proofs.Sound.{Needs, Ok, Sound}
 use Rattle.machine.proofs.Cache.{CacheOk}
 use Rattle.machine.proofs.Search.{waitOf, Kept, Back, bring-ok}
 use Rattle.machine.proofs.Tally.{tally, tally-zero}
-use Rattle.machine.proofs.Order.{isDone, PatchOk, Needed, live, Rest, Home, Went, went-trans, Visited, AllSeen, each-ok, visit-ok}
+use Rattle.machine.proofs.Order.{isDone, PatchOk, Needed, live, Rest, Home}
+use Rattle.machine.proofs.Visit.{Went, went-trans, Visited, AllSeen, each-ok, visit-ok}
 
 -- the indices from i on, n of them
 pub indices-lt : (n i k : ℕ) → T (hasIn (indices i n) k) → k < i + n

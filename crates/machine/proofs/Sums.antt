@@ -10,7 +10,7 @@ use Rattle.entity.specs.Logic.{pick, indices}
 use Rattle.rules.specs.Edit.{filter}
 use Rattle.rules.specs.Counts.{bit, sum}
 use Rattle.rules.proofs.Sum.{sum-change, sum-zero}
-use Rattle.machine.proofs.Slots.{less?}
+use Rattle.machine.proofs.SlotCounts.{less?}
 
 pub sum-plus : (f g : ℕ → ℕ) (n : ℕ) → sum (λ k. f k + g k) n ≡ sum f n + sum g n
 unfolding sum

@@ -18,7 +18,7 @@ use Rattle.rules.specs.Counts.{bit}
 use Rattle.rules.specs.Scratch.{Cache}
 use Rattle.rules.specs.Patch.{Answer, refused, resolved}
 use Rattle.rules.proofs.Steps.{same?}
-use Rattle.machine.proofs.Slots.{less?}
+use Rattle.machine.proofs.SlotCounts.{less?}
 use Rattle.edit.specs.Word.{kindIn, packed, wordOf}
 use Rattle.price.specs.declared.Prices.{Prices}
 use Rattle.price.specs.Price.{priceOf, totalOf, inRange}
