@@ -1,8 +1,8 @@
 -- `set_count` meets its contract.
 use Rattle.scratch.proofs.Diversions.{counted}
 use borrow.Author.Needs.{needs}
-use Rattle.scratch.proofs.set_count.Statement.{statement}
-use Rattle.scratch.proofs.set_count.Tie as tie
+use Rattle.scratch.proofs.diverting.set_count.Statement.{statement}
+use Rattle.scratch.proofs.diverting.set_count.Tie as tie
 
 told-requires : tie.Need-told-requires
 told-requires c κs = search needs

@@ -1,9 +1,9 @@
 use mathlib.Core.Path.{sym, _∙_}
 use borrow.Author.Needs.{needs}
-use Rattle.scratch.proofs.overlaps_end.Statement.{statement}
-use Rattle.scratch.proofs.overlaps_end.Tie as tie
-use Rattle.scratch.proofs.overlaps_end.Reads as reads
-use Rattle.scratch.proofs.overlaps_end.Lts as lts
+use Rattle.scratch.proofs.bringing_back.overlaps_end.Statement.{statement}
+use Rattle.scratch.proofs.bringing_back.overlaps_end.Tie as tie
+use Rattle.scratch.proofs.bringing_back.overlaps_end.Reads as reads
+use Rattle.scratch.proofs.bringing_back.overlaps_end.Lts as lts
 use Rattle.reginfo.proofs.overlaps_reg.Reads as overlaps-reg-reads
 
 overlaps-reg-requires : tie.Need-overlaps-reg-requires

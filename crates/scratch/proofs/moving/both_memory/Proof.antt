@@ -1,8 +1,8 @@
 -- `scratch::both_memory` meets its contract.
 use mathlib.Core.Path.{sym, _∙_}
 use borrow.Author.Needs.{needs}
-use Rattle.scratch.proofs.both_memory.Statement.{statement}
-use Rattle.scratch.proofs.both_memory.Tie as tie
+use Rattle.scratch.proofs.moving.both_memory.Statement.{statement}
+use Rattle.scratch.proofs.moving.both_memory.Tie as tie
 
 is-memory-requires : tie.Need-is-memory-requires
 is-memory-requires c κs = search needs

@@ -1,8 +1,8 @@
 -- `note` meets its contract.
 use Rattle.scratch.proofs.Diversions.{noted}
 use borrow.Author.Needs.{needs}
-use Rattle.scratch.proofs.note.Statement.{statement}
-use Rattle.scratch.proofs.note.Tie as tie
+use Rattle.scratch.proofs.diverting.note.Statement.{statement}
+use Rattle.scratch.proofs.diverting.note.Tie as tie
 
 told-requires : tie.Need-told-requires
 told-requires c κs = search needs

@@ -3,8 +3,8 @@ use Prim.Native.Nat.{ℕ}
 use mathlib.Core.Path.{ap, _∙_}
 use lib.ListN.{getD}
 use borrow.Author.Needs.{needs}
-use Rattle.scratch.proofs.ref_count.Statement.{statement}
-use Rattle.scratch.proofs.ref_count.Tie as tie
+use Rattle.scratch.proofs.diverting.ref_count.Statement.{statement}
+use Rattle.scratch.proofs.diverting.ref_count.Tie as tie
 
 wide-requires : tie.Need-wide-requires
 wide-requires c κs = search needs
