@@ -25,7 +25,7 @@ use Rattle.rules.proofs.Writers.{writers-low}
 use Rattle.machine.proofs.Diversions.{Grown, carry-grown}
 use Rattle.carried.specs.Carried.{countOf, carriedBy}
 use Rattle.scratch.specs.declared.ScratchAllocator.{ScratchAllocator}
-use Rattle.scratch.specs.declared.Divert.{Divert}
+use Rattle.scratch.specs.declared.diverting.Divert.{Divert}
 use Rattle.scratch.specs.State.{T, F, PlaceFits}
 use Rattle.scratch.specs.Contracts.{Tables, stateOf, FitsIn, Moved}
 use Rattle.scratch.specs.Diversions.{Diversion, Diverting, countAt, allocAt, scratchAt, diversionAt, divertBy, Diverts}

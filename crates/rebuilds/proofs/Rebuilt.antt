@@ -22,7 +22,7 @@ use Rattle.machine.proofs.Bound.{scratch-owed}
 use Rattle.edit.specs.Buffer.{countOf, editsOf, Written}
 use Rattle.search.specs.Search.{barredBy}
 use Rattle.scratch.specs.declared.ScratchAllocator.{ScratchAllocator}
-use Rattle.scratch.specs.declared.Scratch.{Scratch}
+use Rattle.scratch.specs.declared.finding.Scratch.{Scratch}
 use Rattle.scratch.specs.State.{T, F, evictedIn, allocatorOf, Fits, owed}
 use Rattle.scratch.specs.Contracts.{Tables, tables, stateOf, FitsIn, Brought, Found, Moved, Released}
 use Rattle.scratch.proofs.Bounds.{fewer, refit, pushed}

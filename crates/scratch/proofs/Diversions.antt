@@ -16,7 +16,7 @@ use Rattle.rules.specs.Edit.{andThen}
 use Rattle.rules.specs.Scratch as rules
 use Rattle.rules.specs.Scratch.{getScratchReg, makeUnavailable, doMove, releasePlace}
 use Rattle.scratch.specs.declared.ScratchAllocator.{ScratchAllocator}
-use Rattle.scratch.specs.declared.Scratch.{Scratch}
+use Rattle.scratch.specs.declared.finding.Scratch.{Scratch}
 use Rattle.scratch.specs.State.{T, F, allocatorOf, PlaceFits}
 use Rattle.scratch.specs.Contracts.{Tables, tables, stateOf, Found, Moved, Released}
 use Rattle.scratch.specs.Diversions.{Diversion, Undiverting, countAt, allocAt, scratchAt, diversionAt, divertBy, undivertBy, Noted, Diverts, Ended, Undiverts}

@@ -33,8 +33,8 @@ use Rattle.scratch.specs.declared.Held.{Held}
 use Rattle.scratch.specs.declared.Evicted.{Evicted}
 use Rattle.scratch.specs.declared.Evicted.the-variants.{Nothing}
 use Rattle.scratch.specs.declared.ScratchAllocator.{ScratchAllocator}
-use Rattle.scratch.specs.declared.Scratch.{Scratch}
-use Rattle.scratch.specs.declared.Taken.{Taken}
+use Rattle.scratch.specs.declared.finding.Scratch.{Scratch}
+use Rattle.scratch.specs.declared.finding.Taken.{Taken}
 use Rattle.function.specs.Known.{Checked}
 use Rattle.scratch.specs.State.{T, F, madeOf, evictedIn, heldOf, evictedOf, cacheIn, allocatorOf, Stocked, Fits, PlaceFits, Evictable}
 use Rattle.scratch.specs.Contracts.{Tables, tables, failing, unevictForEnds, stateOf, Acquired, Brought, Holds, Found, Moved, Released}

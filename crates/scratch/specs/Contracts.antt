@@ -12,8 +12,8 @@ use Rattle.rules.specs.Scratch as rules
 use Rattle.slots.specs.Stacks.{metOf}
 use Rattle.scratch.specs.declared.Held.{Held}
 use Rattle.scratch.specs.declared.ScratchAllocator.{ScratchAllocator}
-use Rattle.scratch.specs.declared.Scratch.{Scratch}
-use Rattle.scratch.specs.declared.Taken.{Taken}
+use Rattle.scratch.specs.declared.finding.Scratch.{Scratch}
+use Rattle.scratch.specs.declared.finding.Taken.{Taken}
 use Rattle.scratch.specs.State.{T, F, madeOf, evictedIn, heldOf, evictedOf, cacheIn, allocatorOf, HeldFits, AllFit, owed, Fits, PlaceFits}
 
 -- the lent tables as a step finds or leaves them

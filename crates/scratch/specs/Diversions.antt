@@ -14,7 +14,7 @@ use Rattle.function.specs.Function.{Function}
 use Rattle.rules.specs.Edit.{andThen}
 use Rattle.rules.specs.Scratch as rules
 use Rattle.scratch.specs.declared.ScratchAllocator.{ScratchAllocator}
-use Rattle.scratch.specs.declared.Divert.{Divert}
+use Rattle.scratch.specs.declared.diverting.Divert.{Divert}
 use Rattle.scratch.specs.State.{T, F, PlaceFits}
 use Rattle.scratch.specs.Contracts.{Tables, stateOf, FitsIn}
 

@@ -22,8 +22,8 @@ use Rattle.slots.specs.Stacks.{stacksOf}
 use Rattle.slots.specs.Steps.{Cleared, Begun}
 use Rattle.scratch.specs.declared.Evicted.the-variants.{Nothing}
 use Rattle.scratch.specs.declared.ScratchAllocator.{ScratchAllocator}
-use Rattle.scratch.specs.declared.Scratch.{Scratch}
-use Rattle.scratch.specs.declared.Divert.{Divert}
+use Rattle.scratch.specs.declared.finding.Scratch.{Scratch}
+use Rattle.scratch.specs.declared.diverting.Divert.{Divert}
 use Rattle.scratch.specs.State.{T, F, madeOf, evictedIn, Stacked, owed, PlaceFits, allocatorOf}
 use Rattle.scratch.specs.Contracts.{Tables, tables, stateOf, FitsIn, Brought, Found, Moved, Released}
 use Rattle.scratch.specs.Diversions.{Diversion, Diverting, countAt, allocAt, scratchAt, diversionAt, divertBy, Diverts, Undiverts}

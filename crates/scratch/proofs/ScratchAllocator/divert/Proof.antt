@@ -12,10 +12,10 @@ use Rattle.scratch.proofs.ScratchAllocator.divert.Lts as lts
 use Rattle.entity.proofs.narrow.Reads as narrow-reads
 use Rattle.entity.proofs.wide.Reads as wide-reads
 use Rattle.scratch.proofs.ScratchAllocator.divert_new.Reads as divert-new-reads
-use Rattle.scratch.proofs.first_of.Reads as first-of-reads
-use Rattle.scratch.proofs.note.Reads as note-reads
-use Rattle.scratch.proofs.ref_count.Reads as ref-count-reads
-use Rattle.scratch.proofs.scratch_of.Reads as scratch-of-reads
+use Rattle.scratch.proofs.diverting.first_of.Reads as first-of-reads
+use Rattle.scratch.proofs.diverting.note.Reads as note-reads
+use Rattle.scratch.proofs.diverting.ref_count.Reads as ref-count-reads
+use Rattle.scratch.proofs.diverting.scratch_of.Reads as scratch-of-reads
 
 ref-count-requires : tie.Need-ref-count-requires
 ref-count-requires c κs = let pre = c .before .pre in omega (arith, pre .1, few-values _ _ (pre .0 .function))

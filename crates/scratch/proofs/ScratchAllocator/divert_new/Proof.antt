@@ -14,7 +14,7 @@ use Rattle.function.proofs.value_bank.Reads as value-bank-reads
 use Rattle.reginfo.proofs.top_level_class.Reads as top-level-class-reads
 use Rattle.scratch.proofs.ScratchAllocator.get_scratch_reg.Reads as get-scratch-reg-reads
 use Rattle.scratch.proofs.ScratchAllocator.make_unavailable.Reads as make-unavailable-reads
-use Rattle.scratch.proofs.note.Reads as note-reads
+use Rattle.scratch.proofs.diverting.note.Reads as note-reads
 
 value-bank-requires : tie.Need-value-bank-requires
 value-bank-requires c κs = known-value _ _ (c .pre .0 .function) _ (c .pre .1)

@@ -14,7 +14,7 @@ use Rattle.edit.proofs.push_move.Reads as push-move-reads
 use Rattle.scratch.proofs.ScratchAllocator.mark_ends.Reads as mark-ends-reads
 use Rattle.scratch.proofs.ScratchAllocator.through_scratch.Reads as through-scratch-reads
 use Rattle.scratch.proofs.ScratchAllocator.unevict_for_ends.Reads as unevict-for-ends-reads
-use Rattle.scratch.proofs.both_memory.Reads as both-memory-reads
+use Rattle.scratch.proofs.moving.both_memory.Reads as both-memory-reads
 
 unevict-for-ends-requires : tie.Need-unevict-for-ends-requires
 unevict-for-ends-requires c κs =

@@ -12,8 +12,8 @@ use Rattle.scratch.proofs.ScratchAllocator.end_diversion.Lts as lts
 use Rattle.function.proofs.value_bank.Reads as value-bank-reads
 use Rattle.scratch.proofs.ScratchAllocator.do_move.Reads as do-move-reads
 use Rattle.scratch.proofs.ScratchAllocator.release_place.Reads as release-place-reads
-use Rattle.scratch.proofs.first_of.Reads as first-of-reads
-use Rattle.scratch.proofs.scratch_of.Reads as scratch-of-reads
+use Rattle.scratch.proofs.diverting.first_of.Reads as first-of-reads
+use Rattle.scratch.proofs.diverting.scratch_of.Reads as scratch-of-reads
 
 value-bank-requires : tie.Need-value-bank-requires
 value-bank-requires c κs = known-value _ _ (c .pre .0 .function) _ (c .pre .1)

@@ -10,8 +10,8 @@ use Rattle.scratch.proofs.ScratchAllocator.undivert.Tie as tie
 use Rattle.scratch.proofs.ScratchAllocator.undivert.Reads as reads
 use Rattle.scratch.proofs.ScratchAllocator.undivert.Lts as lts
 use Rattle.scratch.proofs.ScratchAllocator.end_diversion.Reads as end-diversion-reads
-use Rattle.scratch.proofs.ref_count.Reads as ref-count-reads
-use Rattle.scratch.proofs.set_count.Reads as set-count-reads
+use Rattle.scratch.proofs.diverting.ref_count.Reads as ref-count-reads
+use Rattle.scratch.proofs.diverting.set_count.Reads as set-count-reads
 
 ref-count-requires : tie.Need-ref-count-requires
 ref-count-requires c κs = let pre = c .before .pre in omega (arith, pre .1, few-values _ _ (pre .0 .function))

@@ -11,7 +11,7 @@ use Rattle.scratch.proofs.ScratchAllocator.unevict_for_ends.Lts as lts
 use Rattle.scratch.proofs.ScratchAllocator.evicted.Reads as evicted-reads
 use Rattle.scratch.proofs.ScratchAllocator.unevict_all.Reads as unevict-all-reads
 use Rattle.scratch.proofs.ScratchAllocator.unevict_for_reg.Reads as unevict-for-reg-reads
-use Rattle.scratch.proofs.overlaps_end.Reads as overlaps-end-reads
+use Rattle.scratch.proofs.bringing_back.overlaps_end.Reads as overlaps-end-reads
 
 evicted-requires : tie.Need-evicted-requires
 evicted-requires c κs = search needs
