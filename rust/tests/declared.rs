@@ -138,8 +138,10 @@ fn result(after: &str) -> String {
 fn library(function: &str) -> Vec<String> {
     let mut names = Names::new();
     for entry in fs::read_dir(root().join("crates")).unwrap() {
-        let path = entry.unwrap().path().join("src/lib.rt");
-        types(&fs::read_to_string(path).unwrap_or_default(), &mut names);
+        for source in fs::read_dir(entry.unwrap().path().join("src")).unwrap() {
+            let path = source.unwrap().path();
+            types(&fs::read_to_string(path).unwrap(), &mut names);
+        }
     }
     let text = |library: &&str| read(&format!("crates/{library}/src/lib.rt"));
     let text: String = LIBRARIES.iter().map(text).collect();

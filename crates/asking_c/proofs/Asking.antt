@@ -6,9 +6,9 @@ use native.Mathlib.Omega.{arith}
 use Rattle.function.specs.Table.{functionOf}
 use Rattle.rules.specs.Patch.{Answer, refused, resolved}
 use Rattle.slots.specs.Stacks.{stampOf}
-use Rattle.parallel_moves.specs.declared.Asked.the-variants as A
-use Rattle.parallel_moves.specs.declared.Preview.{Preview}
-use Rattle.parallel_moves.specs.declared.TakeAnswer.the-variants as K
+use Rattle.parallel_moves.specs.declared.asking.Asked.the-variants as A
+use Rattle.parallel_moves.specs.declared.asking.Preview.{Preview}
+use Rattle.parallel_moves.specs.declared.asking.TakeAnswer.the-variants as K
 use Rattle.parallel_moves.specs.Answers.{Asks, Takes}
 use Rattle.asking_c.specs.Asked.{AskedAs, TakenAs}
 

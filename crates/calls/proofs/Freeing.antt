@@ -17,8 +17,8 @@ use Rattle.slots.specs.Stacks.{cacheOf}
 use Rattle.rules.specs.Refusals.{withLimit}
 use Rattle.rules.specs.Patch.{Answer}
 use Rattle.entries.specs.Known.{freeIn}
-use Rattle.parallel_moves.specs.declared.Asked as A
-use Rattle.parallel_moves.specs.declared.Asked.{Asked}
+use Rattle.parallel_moves.specs.declared.asking.Asked as A
+use Rattle.parallel_moves.specs.declared.asking.Asked.{Asked}
 use Rattle.parallel_moves.specs.declared.Grant.{Grant}
 use Rattle.parallel_moves.specs.declared.Resolved as R
 use Rattle.parallel_moves.specs.declared.Resolved.{Resolved}

@@ -10,7 +10,7 @@ use Rattle.rules.specs.Patch.{Answer, refused, resolved}
 use Rattle.number.specs.Read as read
 use Rattle.number.specs.Read.{Read}
 use Rattle.parallel_moves.specs.declared.Resolved.the-variants as R
-use Rattle.parallel_moves.specs.declared.TakeAnswer.the-variants as K
+use Rattle.parallel_moves.specs.declared.asking.TakeAnswer.the-variants as K
 use Rattle.job_rules.specs.Job as job
 use Rattle.calls.specs.declared.Opened.the-variants as O
 use Rattle.frame_table.specs.declared.FrameOpened.the-variants as Q

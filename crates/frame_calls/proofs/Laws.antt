@@ -18,14 +18,14 @@ use Rattle.rules.proofs.Steps.{same?}
 use Rattle.frame_rules.proofs.EnoughShare.{grows}
 use Rattle.slots.specs.Stacks.{cacheOf, stampOf}
 use Rattle.slots.specs.Steps.{Committed}
-use Rattle.parallel_moves.specs.declared.Asked as P
-use Rattle.parallel_moves.specs.declared.Asked.{Asked}
-use Rattle.parallel_moves.specs.declared.Preview.{Preview}
+use Rattle.parallel_moves.specs.declared.asking.Asked as P
+use Rattle.parallel_moves.specs.declared.asking.Asked.{Asked}
+use Rattle.parallel_moves.specs.declared.asking.Preview.{Preview}
 use Rattle.parallel_moves.specs.declared.Grant.{Grant}
 use Rattle.parallel_moves.specs.declared.Resolved as R
 use Rattle.parallel_moves.specs.declared.Resolved.{Resolved}
-use Rattle.parallel_moves.specs.declared.TakeAnswer as K
-use Rattle.parallel_moves.specs.declared.TakeAnswer.{TakeAnswer}
+use Rattle.parallel_moves.specs.declared.asking.TakeAnswer as K
+use Rattle.parallel_moves.specs.declared.asking.TakeAnswer.{TakeAnswer}
 use Rattle.parallel_moves.specs.Given.{withMade, GrantOk}
 use Rattle.parallel_moves.specs.Answers.{GivesGranted, CanTake, Asks, Takes}
 use Rattle.calls.specs.Call.{freeRefusal, patchOf, callOf}

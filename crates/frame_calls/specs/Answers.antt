@@ -15,8 +15,8 @@ use Rattle.edit.specs.Word.{wordOf, AllInRange}
 use Rattle.slots.specs.Stacks.{cacheOf, stampOf, raised}
 use Rattle.slots.specs.Steps.{Committed}
 use Rattle.parallel_moves.specs.declared.Resolved.{Resolved}
-use Rattle.parallel_moves.specs.declared.TakeAnswer as K
-use Rattle.parallel_moves.specs.declared.TakeAnswer.{TakeAnswer}
+use Rattle.parallel_moves.specs.declared.asking.TakeAnswer as K
+use Rattle.parallel_moves.specs.declared.asking.TakeAnswer.{TakeAnswer}
 use Rattle.parallel_moves.specs.Given.{withMade}
 use Rattle.parallel_moves.specs.Answers.{numberOf, editsIn, positionIn, CanTake, Pending}
 use Rattle.calls.specs.Call.{callOf}

@@ -13,7 +13,7 @@ use Rattle.rules.specs.Take.{Counted, resolving, asking, taking, answerIn, stam
 use Rattle.rules.proofs.Steps.{same?, updated-same, updated-other}
 use Rattle.slots.specs.Stacks.{cacheOf, stampOf, raised, CacheFits}
 use Rattle.parallel_moves.specs.declared.Resolved.{Resolved}
-use Rattle.parallel_moves.specs.declared.TakeAnswer.{TakeAnswer}
+use Rattle.parallel_moves.specs.declared.asking.TakeAnswer.{TakeAnswer}
 use Rattle.calls.specs.Call.{patchOf}
 use Rattle.frame_rules.specs.Frame.{Inlined, Asked, Formula, Frame, opened, cacheIn, nowIn, resolveIn, takeIn, takenIn, askedOf, madeTo, withCache}
 use Rattle.frame_rules.specs.Frame as frame

@@ -15,8 +15,8 @@ use Rattle.edit.specs.Word.{wordOf, AllInRange}
 use Rattle.slots.specs.Stacks.{cacheOf, stampOf}
 use Rattle.slots.specs.Steps.{Cleared}
 use Rattle.parallel_moves.specs.declared.Resolved.{Resolved}
-use Rattle.parallel_moves.specs.declared.TakeAnswer as K
-use Rattle.parallel_moves.specs.declared.TakeAnswer.{TakeAnswer}
+use Rattle.parallel_moves.specs.declared.asking.TakeAnswer as K
+use Rattle.parallel_moves.specs.declared.asking.TakeAnswer.{TakeAnswer}
 use Rattle.parallel_moves.specs.Answers as told
 use Rattle.calls.specs.Call.{freeRefusal, patchOf}
 use Rattle.frame_rules.specs.Frame.{Inlined, noFormula, openRefusal, firstSlots, Frame, opened, resolveIn, madeTo}

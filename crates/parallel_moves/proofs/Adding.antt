@@ -19,8 +19,8 @@ use Rattle.entries.specs.Known.{EntriesOk}
 use Rattle.entries.specs.Answers.{AddedAs}
 use Rattle.slots.specs.Stacks.{cacheOf}
 use Rattle.parallel_moves.specs.declared.Grant.{Grant}
-use Rattle.parallel_moves.specs.declared.Asked as A
-use Rattle.parallel_moves.specs.declared.Asked.{Asked}
+use Rattle.parallel_moves.specs.declared.asking.Asked as A
+use Rattle.parallel_moves.specs.declared.asking.Asked.{Asked}
 use Rattle.parallel_moves.specs.declared.Resolved as R
 use Rattle.parallel_moves.specs.declared.Resolved.{Resolved}
 use Rattle.parallel_moves.specs.Given.{nothingNamed, entryOf, entriesOf, withMade, Numbered, Built}

@@ -45,10 +45,10 @@ use Rattle.rebuilds.proofs.Known.{same-ok, remats-fit}
 use Rattle.rebuilds.proofs.Handing.{length-last, last-in-range, only-run}
 use Rattle.closing.proofs.Known.{given}
 use Rattle.parallel_moves.specs.declared.Grant.{Grant}
-use Rattle.parallel_moves.specs.declared.Asked as A
-use Rattle.parallel_moves.specs.declared.Asked.{Asked}
-use Rattle.parallel_moves.specs.declared.Preview.{Preview}
-use Rattle.parallel_moves.specs.declared.TakeAnswer as K
+use Rattle.parallel_moves.specs.declared.asking.Asked as A
+use Rattle.parallel_moves.specs.declared.asking.Asked.{Asked}
+use Rattle.parallel_moves.specs.declared.asking.Preview.{Preview}
+use Rattle.parallel_moves.specs.declared.asking.TakeAnswer as K
 use Rattle.parallel_moves.specs.declared.Resolved as R
 use Rattle.parallel_moves.specs.declared.Resolved.{Resolved}
 use Rattle.parallel_moves.specs.Given.{freeOf, withMade, own, gone, GrantOk, CacheOk}

@@ -18,11 +18,11 @@ use Rattle.slots.specs.Steps.{Committed}
 use Rattle.scratch.specs.State.{T}
 use Rattle.entries.specs.Table.{sortedOf}
 use Rattle.parallel_moves.specs.declared.Grant.{Grant}
-use Rattle.parallel_moves.specs.declared.Asked as A
-use Rattle.parallel_moves.specs.declared.Asked.{Asked}
-use Rattle.parallel_moves.specs.declared.Preview.{Preview}
-use Rattle.parallel_moves.specs.declared.TakeAnswer as K
-use Rattle.parallel_moves.specs.declared.TakeAnswer.{TakeAnswer}
+use Rattle.parallel_moves.specs.declared.asking.Asked as A
+use Rattle.parallel_moves.specs.declared.asking.Asked.{Asked}
+use Rattle.parallel_moves.specs.declared.asking.Preview.{Preview}
+use Rattle.parallel_moves.specs.declared.asking.TakeAnswer as K
+use Rattle.parallel_moves.specs.declared.asking.TakeAnswer.{TakeAnswer}
 use Rattle.parallel_moves.specs.declared.Resolved as R
 use Rattle.parallel_moves.specs.declared.Resolved.{Resolved}
 use Rattle.parallel_moves.specs.Given.{Numbered, withMade, gone, GrantOk, CacheOk}

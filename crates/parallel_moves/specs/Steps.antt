@@ -19,8 +19,8 @@ use Rattle.scratch.specs.State.{T, F, madeOf}
 use Rattle.scratch.specs.Contracts.{Tables, stateOf, FitsIn}
 use Rattle.entries.specs.Table.{sortedOf}
 use Rattle.entries.specs.Known.{EntriesOk}
-use Rattle.parallel_moves.specs.declared.Asked as A
-use Rattle.parallel_moves.specs.declared.Asked.{Asked}
+use Rattle.parallel_moves.specs.declared.asking.Asked as A
+use Rattle.parallel_moves.specs.declared.asking.Asked.{Asked}
 use Rattle.parallel_moves.specs.declared.Resolved.{Resolved}
 use Rattle.parallel_moves.specs.Given.{withMade}
 use Rattle.parallel_moves.specs.Answers.{numberOf, editsIn, positionIn}

@@ -16,8 +16,8 @@ use Rattle.rules.specs.Patch.{Answer, refused, resolved}
 use Rattle.rules.specs.Take.{Preview, Counted, Served, fresh, takeAnswer, takenOf, answerIn}
 use Rattle.machine.specs.Enough.{numSizes}
 use Rattle.machine.proofs.EnoughSlots.{never-out}
-use Rattle.parallel_moves.specs.declared.Asked as A
-use Rattle.parallel_moves.specs.declared.TakeAnswer as K
+use Rattle.parallel_moves.specs.declared.asking.Asked as A
+use Rattle.parallel_moves.specs.declared.asking.TakeAnswer as K
 use Rattle.parallel_moves.specs.Answers.{numberOf, Gives, Asks}
 use Rattle.calls.specs.Opening.{opened}
 use Rattle.calls.specs.Claim as calls

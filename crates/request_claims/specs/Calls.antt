@@ -12,10 +12,10 @@ use Rattle.rules.specs.Take as take
 use Rattle.rules.specs.Take.{Served, fresh, Standing, takenOf, answerIn, stampedBy, countsIn}
 use Rattle.group_rules.specs.Requests as rules
 use Rattle.group_rules.specs.Requests.{Request}
-use Rattle.parallel_moves.specs.declared.Asked as A
-use Rattle.parallel_moves.specs.declared.Asked.{Asked}
-use Rattle.parallel_moves.specs.declared.Preview.{Preview}
-use Rattle.parallel_moves.specs.declared.TakeAnswer.{TakeAnswer}
+use Rattle.parallel_moves.specs.declared.asking.Asked as A
+use Rattle.parallel_moves.specs.declared.asking.Asked.{Asked}
+use Rattle.parallel_moves.specs.declared.asking.Preview.{Preview}
+use Rattle.parallel_moves.specs.declared.asking.TakeAnswer.{TakeAnswer}
 use Rattle.calls.specs.Call.{freeRefusal, patchOf, callOf}
 use Rattle.calls.specs.Claim as resolve
 use Rattle.group_calls.specs.Call.{callByGroups}

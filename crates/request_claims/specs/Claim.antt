@@ -13,7 +13,7 @@ use Rattle.rules.specs.Patch.{Answer, refused, resolved}
 use Rattle.rules.specs.Take.{Served, fresh}
 use Rattle.machine.specs.Claim.{Owed}
 use Rattle.slots.specs.Stacks.{cacheOf, stampOf, raised}
-use Rattle.parallel_moves.specs.declared.TakeAnswer as K
+use Rattle.parallel_moves.specs.declared.asking.TakeAnswer as K
 use Rattle.parallel_moves.specs.Given.{CacheOk}
 use Rattle.parallel_moves.specs.Answers.{Gives, CanTake, Asks, Takes}
 use Rattle.calls.specs.declared.Opened.the-variants.{Yes}

@@ -9,8 +9,8 @@ use Rattle.rules.specs.Edit.{Edit}
 use Rattle.rules.specs.Take.{Served, fresh}
 use Rattle.machine.specs.Enough.{numSizes, SizedIn, editsIn, Between}
 use Rattle.slots.specs.Stacks.{cacheOf}
-use Rattle.parallel_moves.specs.declared.Asked as A
-use Rattle.parallel_moves.specs.declared.TakeAnswer as K
+use Rattle.parallel_moves.specs.declared.asking.Asked as A
+use Rattle.parallel_moves.specs.declared.asking.TakeAnswer as K
 use Rattle.parallel_moves.specs.Answers.{numberOf}
 use Rattle.calls.specs.declared.Opened.the-variants.{Yes}
 use Rattle.calls.specs.Opening.{opened, OpenedAs}

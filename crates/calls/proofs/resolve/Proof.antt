@@ -6,7 +6,6 @@ use Rattle.calls.proofs.resolve.Reads as reads
 use Rattle.calls.proofs.resolve.Lts as lts
 use Rattle.calls.proofs.take_given.Reads as take-given-reads
 use Rattle.calls.proofs.some_given.Reads as some-given-reads
-use Rattle.parallel_moves.proofs.resolve_patch.Reads as resolve-patch-reads
 
 take-given-requires : tie.Need-take-given-requires
 take-given-requires c κs = search needs

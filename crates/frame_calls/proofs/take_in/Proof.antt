@@ -9,7 +9,6 @@ use Rattle.frame_calls.proofs.take_in.Reads as reads
 use Rattle.frame_calls.proofs.take_in.Lts as lts
 use Rattle.frame_table.proofs.counter.Reads as counter-reads
 use Rattle.frame_table.proofs.go_on.Reads as go-on-reads
-use Rattle.parallel_moves.proofs.take.Reads as take-reads
 
 counter-requires : tie.Need-counter-requires
 counter-requires c κs = search needs

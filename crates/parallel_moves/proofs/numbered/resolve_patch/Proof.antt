@@ -5,8 +5,8 @@ use Rattle.scratch.specs.State.{T}
 use Rattle.entries.specs.Known.{freeIn}
 use Rattle.parallel_moves.proofs.Resolving.{own-ok, own-resolves-patch}
 use borrow.Author.Needs.{needs}
-use Rattle.parallel_moves.proofs.resolve_patch.Statement.{statement}
-use Rattle.parallel_moves.proofs.resolve_patch.Tie as tie
+use Rattle.parallel_moves.proofs.numbered.resolve_patch.Statement.{statement}
+use Rattle.parallel_moves.proofs.numbered.resolve_patch.Tie as tie
 
 own-grant-requires : tie.Need-own-grant-requires
 own-grant-requires c κs =

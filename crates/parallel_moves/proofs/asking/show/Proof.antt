@@ -2,8 +2,8 @@
 use Rattle.parallel_moves.proofs.Resolving.{too-many-asked, shown}
 use native.Mathlib.Omega.{arith}
 use borrow.Author.Needs.{needs}
-use Rattle.parallel_moves.proofs.show.Statement.{statement}
-use Rattle.parallel_moves.proofs.show.Tie as tie
+use Rattle.parallel_moves.proofs.asking.show.Statement.{statement}
+use Rattle.parallel_moves.proofs.asking.show.Tie as tie
 
 made-requires : tie.Need-made-requires
 made-requires c κs = search needs

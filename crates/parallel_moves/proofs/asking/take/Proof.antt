@@ -3,8 +3,8 @@ use Rattle.parallel_moves.proofs.Resolving.{took, not-taken}
 use native.Mathlib.Omega.{arith}
 use mathlib.Core.Path.{_∙_}
 use borrow.Author.Needs.{needs}
-use Rattle.parallel_moves.proofs.take.Statement.{statement}
-use Rattle.parallel_moves.proofs.take.Tie as tie
+use Rattle.parallel_moves.proofs.asking.take.Statement.{statement}
+use Rattle.parallel_moves.proofs.asking.take.Tie as tie
 
 stamp-requires : tie.Need-stamp-requires
 stamp-requires c κs = search needs

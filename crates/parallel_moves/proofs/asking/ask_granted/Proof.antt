@@ -5,8 +5,8 @@ use Rattle.entries.specs.Known.{freeIn}
 use Rattle.rebuilds.proofs.Known.{remats-fit}
 use Rattle.parallel_moves.proofs.Resolving.{asked-away, remats-room, asks-remats, can-hand-over, asks}
 use borrow.Author.Needs.{needs}
-use Rattle.parallel_moves.proofs.ask_granted.Statement.{statement}
-use Rattle.parallel_moves.proofs.ask_granted.Tie as tie
+use Rattle.parallel_moves.proofs.asking.ask_granted.Statement.{statement}
+use Rattle.parallel_moves.proofs.asking.ask_granted.Tie as tie
 
 refusal-requires : tie.Need-refusal-requires
 refusal-requires c κs = search needs
