@@ -124,6 +124,36 @@ unsafe extern "C" {
         carried: *mut u16,
     ) -> usize;
 
+    #[link_name = "parallel_moves_answer_groups_4"]
+    fn parallel_moves_answer_groups(
+        kept_evictions: u32,
+        job: *const u8,
+        job_len: usize,
+        words: *mut u64,
+        words_len: usize,
+        refusal: *mut u8,
+        target: *mut u16,
+        function: *mut u16,
+        cache: *mut u16,
+        free_units: *mut u8,
+        entries: *mut u16,
+        writers: *mut u16,
+        available: *mut u8,
+        sources: *mut u8,
+        edits: *mut u64,
+        slots: *mut u16,
+        diverted: *mut u16,
+        marks: *mut u8,
+        carried: *mut u16,
+        owners: *mut u8,
+        labels: *mut u8,
+        next: *mut u8,
+        common: *mut u8,
+        work: *mut u16,
+        joined: *mut u64,
+        numbers: *mut u32,
+    ) -> usize;
+
     #[link_name = "parallel_moves_write_4"]
     fn parallel_moves_write(
         numbers: *const u32,
@@ -370,6 +400,7 @@ pub struct GroupMemory {
     common: Vec<u8>,
     work: Vec<u16>,
     joined: Vec<u64>,
+    numbers: Vec<u32>,
 }
 
 impl GroupMemory {
@@ -381,6 +412,7 @@ impl GroupMemory {
             common: vec![0; 512],
             work: vec![0xa5a5; 65_600],
             joined: vec![0; 1024],
+            numbers: vec![0; 512],
         }
     }
 }
@@ -427,6 +459,48 @@ pub extern "C" fn timed_ours_groups(
             groups.common.as_mut_ptr(),
             groups.work.as_mut_ptr(),
             groups.joined.as_mut_ptr(),
+        )
+    };
+    if refusal == 0 { count } else { usize::MAX }
+}
+
+/// Answers a whole job by groups: how many words the answer has.
+#[inline(never)]
+pub fn timed_ours_groups_answer(
+    job: &[u8],
+    memory: &mut Memory,
+    groups: &mut GroupMemory,
+) -> usize {
+    let mut refusal = 0;
+    // SAFETY: each array is as long as the function says, the flags are 0 or 1.
+    let count = unsafe {
+        parallel_moves_answer_groups(
+            KEPT_EVICTIONS,
+            job.as_ptr(),
+            job.len(),
+            memory.words.as_mut_ptr(),
+            memory.words.len(),
+            &mut refusal,
+            memory.tables.target.as_mut_ptr(),
+            memory.tables.function.as_mut_ptr(),
+            memory.tables.cache.as_mut_ptr(),
+            memory.free_units.as_mut_ptr(),
+            memory.entries.as_mut_ptr(),
+            memory.writers.as_mut_ptr(),
+            memory.available.as_mut_ptr(),
+            memory.sources.as_mut_ptr(),
+            memory.edits.as_mut_ptr(),
+            memory.slots.as_mut_ptr(),
+            memory.diverted.as_mut_ptr(),
+            memory.marks.as_mut_ptr(),
+            memory.carried.as_mut_ptr(),
+            groups.owners.as_mut_ptr(),
+            groups.labels.as_mut_ptr(),
+            groups.next.as_mut_ptr(),
+            groups.common.as_mut_ptr(),
+            groups.work.as_mut_ptr(),
+            groups.joined.as_mut_ptr(),
+            groups.numbers.as_mut_ptr(),
         )
     };
     if refusal == 0 { count } else { usize::MAX }
@@ -490,7 +564,11 @@ pub fn timed_ours_drawn(
             memory.carried.as_mut_ptr(),
         )
     };
-    if refusal == 0 { Ok(count) } else { Err(refusal) }
+    if refusal == 0 {
+        Ok(count)
+    } else {
+        Err(refusal)
+    }
 }
 
 /// Tries both settings on drawn patches.

@@ -17,7 +17,7 @@ use Rattle.number.specs.Read.{Read, got, refused, then}
 use Rattle.number.specs.Number.{joined, groups, number}
 use Rattle.reading.specs.Reading.{tested, times, distinct}
 use Rattle.job_target.specs.Target.{bank, reg, class, classes, target}
-use Rattle.job_function.specs.Reads.{rebuilt, value, valued, function}
+use Rattle.job_function.specs.Reads.{rematValue, value, valued, function}
 use Rattle.job_patch.specs.Patches.{unlessGiven, rising, place, entry, entries, patch}
 
 -- a part that was read weighs so much; that and two words for each byte behind it are at most n
@@ -133,7 +133,7 @@ target-less l =
     (λ c x y. part-then x (classes c n m 0 x) _ _ _ (classes-less c n m 0 x) (λ cs z w. omega arith)))))))
 
 value-less : (t : RegInfo) (l : List ℕ) → Less l (value t l)
-unfolding value rebuilt
+unfolding value rematValue
 value-less t l =
     tested-then _ l _ _ _
     (λ b r p. tested-then _ r _ _ _
@@ -173,8 +173,8 @@ module _ (t : RegInfo) (f : Function) where
   longer : {A : Type 0} (l : List A) (x : A) → length (l ++ (x ∷ [])) ≡ length l + 1
   longer l x = length-append l (x ∷ [])
 
-  rebuilt-adds : (a : Sorted) (n : ℕ) (b : Bool) (d : Place) (v : ℕ) → 5 ≤ n → Adds a n (addRemat t f b d v a)
-  rebuilt-adds a n b d v h =
+  remat-adds : (a : Sorted) (n : ℕ) (b : Bool) (d : Place) (v : ℕ) → 5 ≤ n → Adds a n (addRemat t f b d v a)
+  remat-adds a n b d v h =
       pick-adds a n b _ _
       (omega (arith, longer (a .rematsWithScratch) (record { dest = d; value = v })))
       (omega (arith, longer (a .remats) (record { dest = d; value = v })))
@@ -184,8 +184,8 @@ module _ (t : RegInfo) (f : Function) where
 
   entry-adds : (a : Sorted) (e : Entry) → Adds a (twiceBytes e) (add t f e a)
   unfolding add
-  entry-adds a (move s d v) = pick-adds a 8 (becomesRemat t f s d v) _ _ (rebuilt-adds a 8 (needsScratch t f d v) d v (omega arith)) (kept-adds a (dropped t f a s d v) s d v)
-  entry-adds a (remat d v) = rebuilt-adds a 6 (needsScratch t f d v) d v (omega arith)
+  entry-adds a (move s d v) = pick-adds a 8 (becomesRemat t f s d v) _ _ (remat-adds a 8 (needsScratch t f d v) d v (omega arith)) (kept-adds a (dropped t f a s d v) s d v)
+  entry-adds a (remat d v) = remat-adds a 6 (needsScratch t f d v) d v (omega arith)
 
   place-then : {B : Type 0} (l : List ℕ) (g : Place → List ℕ → Read B) (v : B → ℕ) (n : ℕ) → ((x : Place) (r : List ℕ) → 2 + 2 * length r ≤ 2 * length l → Leaves v n (g x r)) → Leaves v n (then (place t f l) g)
   unfolding place

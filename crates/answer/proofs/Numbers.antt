@@ -23,7 +23,7 @@ use Rattle.job_target.specs.Target.{bank, reg, class, target}
 use Rattle.job_function.specs.Reads.{value, function}
 use Rattle.job_patch.specs.Patches.{rising, place, entry, patch}
 use Rattle.job_rules.specs.Job.{opening}
-use Rattle.job_rules.specs.Conditions.{afterGot, inNumber, afterNumber, inTested, afterTested, inTimes, inDistinct, inBank, inReg, inClass, inClasses, inTarget, ofTarget, inRebuilt, inValue, inFunction, inRising, afterResolved, inPlace, inEntry, inEntries, inPatch, ofCall, inPatches, inOpening, jobConditions}
+use Rattle.job_rules.specs.Conditions.{afterGot, inNumber, afterNumber, inTested, afterTested, inTimes, inDistinct, inBank, inReg, inClass, inClasses, inTarget, ofTarget, inRematValue, inValue, inFunction, inRising, afterResolved, inPlace, inEntry, inEntries, inPatch, ofCall, inPatches, inOpening, jobConditions}
 use Rattle.job_rules.proofs.Conditions.{refusals}
 use Rattle.answer.specs.Words.{OfTable, Numbered}
 
@@ -124,13 +124,13 @@ unfolding ofTarget
 of-target t = (refl, (refl, (refl, (refl, tt))))
 
 -- ---- the function
-in-rebuilt : (t : RegInfo) (b : ℕ) (l : List ℕ) → Numbers (inRebuilt t b l)
-unfolding inRebuilt
-in-rebuilt t b l = after-tested _ l _ (λ c r. (refl, tt))
+in-remat-value : (t : RegInfo) (b : ℕ) (l : List ℕ) → Numbers (inRematValue t b l)
+unfolding inRematValue
+in-remat-value t b l = after-tested _ l _ (λ c r. (refl, tt))
 
 in-value : (t : RegInfo) (l : List ℕ) → Numbers (inValue t l)
 unfolding inValue
-in-value t l = after-tested _ l _ (λ b r. after-tested _ r _ (λ cost q. either (eqb cost 0) [] (inRebuilt t b q) tt (in-rebuilt t b q)))
+in-value t l = after-tested _ l _ (λ b r. after-tested _ r _ (λ cost q. either (eqb cost 0) [] (inRematValue t b q) tt (in-remat-value t b q)))
 
 in-function : (t : RegInfo) (l : List ℕ) → Numbers (inFunction t l)
 unfolding inFunction

@@ -156,10 +156,10 @@ in-range w =
     let from = halved (fromIn w) (s .from-small) in
     let saved : InRange (EmergencySpill (toIn w / 2) (fromIn w / 2)) = record { to-small = omega (arith, to); from-small = omega (arith, from); value-small = omega arith } in
     let brought : InRange (EmergencyReload (toIn w / 2) (fromIn w / 2)) = record { to-small = omega (arith, to); from-small = omega (arith, from); value-small = omega arith } in
-    let rebuilt : Small (toIn w) 0 (valueIn w) = record { to-small = s .to-small; from-small = omega arith; value-small = s .value-small } in
+    let rematted : Small (toIn w) 0 (valueIn w) = record { to-small = s .to-small; from-small = omega arith; value-small = s .value-small } in
     let nothing : Fits none = record { to-small = omega arith; from-small = omega arith; value-small = omega arith } in
     either (eqb (kindIn w) 1) (some (Move (placeAt (toIn w)) (placeAt (fromIn w)) (valueIn w))) _ (move-range (toIn w) (fromIn w) (valueIn w) s)
-    (either (eqb (kindIn w) 2) (some (Rematerialize (placeAt (toIn w)) (valueIn w))) _ (remat-range (toIn w) (valueIn w) rebuilt)
+    (either (eqb (kindIn w) 2) (some (Rematerialize (placeAt (toIn w)) (valueIn w))) _ (remat-range (toIn w) (valueIn w) rematted)
     (either (and (eqb (kindIn w) 3) (and (isSlot (toIn w)) (isReg (fromIn w)))) (some (EmergencySpill (toIn w / 2) (fromIn w / 2))) _ saved
     (either (and (eqb (kindIn w) 4) (and (isReg (toIn w)) (isSlot (fromIn w)))) (some (EmergencyReload (toIn w / 2) (fromIn w / 2))) none brought nothing)))
 

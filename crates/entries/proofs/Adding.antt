@@ -21,10 +21,10 @@ use Rattle.rules.specs.Patch.{Entry, move, remat, Sorted, destinations, needsSc
 use Rattle.rules.specs.Sorted.{SortedOk}
 use Rattle.rules.proofs.Accepted.{same-self, same-is, sorted-add}
 use Rattle.sparse.specs.Map.{mapOf, known, Same}
-use Rattle.entries.specs.Table.{moveAt, sortedOf, isMoveOf, keptMove, rebuiltAs, withMove, withRemat, withDropped}
+use Rattle.entries.specs.Table.{moveAt, sortedOf, isMoveOf, keptMove, rematAs, withMove, withRemat, withDropped}
 use Rattle.function.specs.Known.{Checked}
-use Rattle.entries.specs.Known.{Writable, NamedRemat, NamedMove, isWritten, Roomy, orRebuilt, writerOf, SameIndex, Tracked, PassedMove, EntriesOk}
-use Rattle.entries.specs.Answers.{NotedNew, IndexedAs, KeptAs, AddedAs, RebuiltAs}
+use Rattle.entries.specs.Known.{Writable, NamedRemat, NamedMove, isWritten, Roomy, orRemat, writerOf, SameIndex, Tracked, PassedMove, EntriesOk}
+use Rattle.entries.specs.Answers.{NotedNew, IndexedAs, KeptAs, AddedAs, RemattedAs}
 use Rattle.entries.proofs.Lists.{both-ways, pick-none, any-true, any-where, any-only, meets-any}
 use Rattle.entries.proofs.Table.{kept-count, remats-count, scratch-count, entries-count, kept-is, low-same}
 use Rattle.entries.proofs.Writers.{known-none, known-from, overlaps-written, tracked-same, tracked-move, tracked-remat}
@@ -47,9 +47,9 @@ and-end : (b : Bool) → and b true ≡ b
 and-end true = refl
 and-end false = refl
 
-rebuilt-added : (t : RegInfo) (f : Function) (b : Bool) (d : Place) (v : ℕ) (a : Sorted) → addRemat t f b d v a ≡ withRemat b (record { dest = d; value = v }) a
-rebuilt-added t f true d v a = refl
-rebuilt-added t f false d v a = refl
+remat-added : (t : RegInfo) (f : Function) (b : Bool) (d : Place) (v : ℕ) (a : Sorted) → addRemat t f b d v a ≡ withRemat b (record { dest = d; value = v }) a
+remat-added t f true d v a = refl
+remat-added t f false d v a = refl
 
 -- room for one entry more
 pub roomy : (t f e w : List ℕ) → EntriesOk t f e w → getD e 1027 0 < 128 → Roomy e w
@@ -77,11 +77,11 @@ noted-not w w′ us x r n q = no-false (any (isWritten w) us) (sym (n .is) ∙ q
 pub noted-new : (w w′ us : List ℕ) (x : ℕ) (r : Bool) → NotedNew w w′ us x r → r ≡ true → any (isWritten w) us ≡ false
 noted-new w w′ us x r n q = no-true (any (isWritten w) us) (sym (n .is) ∙ q)
 
-pub rebuild-refused : (e w w′ us : List ℕ) (b : Bool) (x : Remat) (r : Bool) → NotedNew w w′ us 128 r → r ≡ false → RebuiltAs e w e w′ us b x (some 12)
-rebuild-refused e w w′ us b x r n h = record { is = rw (noted-not w w′ us 128 r n h); yes = λ q. (let z : _≡_ {A = ℕ} 0 1 = cc in absurd (omega arith)); no = λ m q. (refl, n .no h) }
+pub new-remat-refused : (e w w′ us : List ℕ) (b : Bool) (x : Remat) (r : Bool) → NotedNew w w′ us 128 r → r ≡ false → RemattedAs e w e w′ us b x (some 12)
+new-remat-refused e w w′ us b x r n h = record { is = rw (noted-not w w′ us 128 r n h); yes = λ q. (let z : _≡_ {A = ℕ} 0 1 = cc in absurd (omega arith)); no = λ m q. (refl, n .no h) }
 
-pub rebuild-taken : (e w e′ w′ us : List ℕ) (b : Bool) (x : Remat) (r : Bool) → NotedNew w w′ us 128 r → r ≡ true → (sortedOf e′ ≡ withRemat b x (sortedOf e)) × SameIndex e e′ → RebuiltAs e w e′ w′ us b x none
-rebuild-taken e w e′ w′ us b x r n h q = record { is = rw (noted-new w w′ us 128 r n h); yes = λ z. (q .0, n .yes h, q .1); no = λ m z. (let y : _≡_ {A = ℕ} 0 1 = cc in absurd (omega arith)) }
+pub new-remat-taken : (e w e′ w′ us : List ℕ) (b : Bool) (x : Remat) (r : Bool) → NotedNew w w′ us 128 r → r ≡ true → (sortedOf e′ ≡ withRemat b x (sortedOf e)) × SameIndex e e′ → RemattedAs e w e′ w′ us b x none
+new-remat-taken e w e′ w′ us b x r n h q = record { is = rw (noted-new w w′ us 128 r n h); yes = λ z. (q .0, n .yes h, q .1); no = λ m z. (let y : _≡_ {A = ℕ} 0 1 = cc in absurd (omega arith)) }
 
 module _ (t : RegInfo) (f : Function) where
   -- the kept move that writes a unit
@@ -177,7 +177,7 @@ module _ (t f e w : List ℕ) (ok : Checked t f) (kept : EntriesOk t f e w) wher
     unfolding first
     first-has = has-getD (placeUnits T (placeAt d)) 0 (writes .some)
 
-    at-writer : (o : Option ℕ) (b : Bool) → writerFrom T F (a .moves) 0 (a .moves) first ≡ o → any (sameMove T F (placeAt s) (placeAt d) v) (a .moves) ≡ isMoveOf e (orRebuilt o b) s d v
+    at-writer : (o : Option ℕ) (b : Bool) → writerFrom T F (a .moves) 0 (a .moves) first ≡ o → any (sameMove T F (placeAt s) (placeAt d) v) (a .moves) ≡ isMoveOf e (orRemat o b) s d v
     unfolding moveAt
     at-writer none true q = same-none T F a (kept .sorted) (placeAt s) (placeAt d) v first first-has q
     at-writer none false q = same-none T F a (kept .sorted) (placeAt s) (placeAt d) v first first-has q
@@ -231,9 +231,9 @@ module _ (t f e w : List ℕ) (ok : Checked t f) (kept : EntriesOk t f e w) wher
     unfolding entryConditions firstOf
     foreign-remat h = refused-by (remat d v) 9 (rw (lt-leb 128 (a .count) (n .less), n .dest-named, lt-ltb v (numValues F) (n .value-named), h))
 
-    pub not-rebuilt : ofBank T (valueBank F v) d ≡ true → canRematerialize F v ≡ false → AddedAs t f e w e w (remat d v) (some 11)
+    pub not-remat : ofBank T (valueBank F v) d ≡ true → canRematerialize F v ≡ false → AddedAs t f e w e w (remat d v) (some 11)
     unfolding entryConditions firstOf
-    not-rebuilt g h = refused-by (remat d v) 11 (rw (lt-leb 128 (a .count) (n .less), n .dest-named, lt-ltb v (numValues F) (n .value-named), g, h))
+    not-remat g h = refused-by (remat d v) 11 (rw (lt-leb 128 (a .count) (n .less), n .dest-named, lt-ltb v (numValues F) (n .value-named), g, h))
 
   taken : (x : Entry) (e′ w′ : List ℕ) → firstOf (entryConditions T F a x) ≡ none → sortedOf e′ ≡ add T F x a → (SortedOk T F (add T F x a) → Tracked T F (add T F x a) e′ w′) → AddedAs t f e w e′ w′ x none
   taken x e′ w′ h q g = record { is = sym h; yes = λ z. (q, rw q (g (sorted-add T F x a (kept .sorted) h))); no = λ n z. (let y : _≡_ {A = ℕ} 0 1 = cc in absurd (omega arith)) }
@@ -243,9 +243,9 @@ module _ (t f e w : List ℕ) (ok : Checked t f) (kept : EntriesOk t f e w) wher
   or-else-pick true n = refl
   or-else-pick false n = refl
 
-  added-rebuilt : (x : Entry) (b : Bool) (d v : ℕ) → firstOf (entryConditions T F a x) ≡ orElse (overlapsEarlier T F a (placeAt d)) 12 none → add T F x a ≡ withRemat b (rebuiltAs d v) a → Writable T (placeAt d) → a .count < 128
-      → (e′ w′ : List ℕ) (r : Option ℕ) → RebuiltAs e w e′ w′ (placeUnits T (placeAt d)) b (rebuiltAs d v) r → AddedAs t f e w e′ w′ x r
-  added-rebuilt x b d v h q writes less e′ w′ r done =
+  added-as-remat : (x : Entry) (b : Bool) (d v : ℕ) → firstOf (entryConditions T F a x) ≡ orElse (overlapsEarlier T F a (placeAt d)) 12 none → add T F x a ≡ withRemat b (rematAs d v) a → Writable T (placeAt d) → a .count < 128
+      → (e′ w′ : List ℕ) (r : Option ℕ) → RemattedAs e w e′ w′ (placeUnits T (placeAt d)) b (rematAs d v) r → AddedAs t f e w e′ w′ x r
+  added-as-remat x b d v h q writes less e′ w′ r done =
       let given : firstOf (entryConditions T F a x) ≡ pick (any (isWritten w) (placeUnits T (placeAt d))) (some 12) none = h ∙ ap (λ (c : Bool). orElse c 12 none) (overlaps-is (placeAt d)) ∙ or-else-pick (any (isWritten w) (placeUnits T (placeAt d))) 12 in
       record {
         is = done .is ∙ sym given;
@@ -258,11 +258,11 @@ module _ (t f e w : List ℕ) (ok : Checked t f) (kept : EntriesOk t f e w) wher
 
   -- an entry that asks for a rebuild
   pub added-remat : (c d v : ℕ) → NamedRemat T F a (placeAt d) v → ofBank T (valueBank F v) (placeAt d) ≡ true → canRematerialize F v ≡ true → rematClass F v ≡ c
-      → (e′ w′ : List ℕ) (r : Option ℕ) → RebuiltAs e w e′ w′ (placeUnits T (placeAt d)) (no (inClass T c (placeAt d))) (rebuiltAs d v) r → AddedAs t f e w e′ w′ (remat (placeAt d) v) r
+      → (e′ w′ : List ℕ) (r : Option ℕ) → RemattedAs e w e′ w′ (placeUnits T (placeAt d)) (no (inClass T c (placeAt d))) (rematAs d v) r → AddedAs t f e w e′ w′ (remat (placeAt d) v) r
   unfolding add
   added-remat c d v n b can is e′ w′ r done =
-      added-rebuilt (remat (placeAt d) v) (no (inClass T c (placeAt d))) d v (remat-conditions T F a (placeAt d) v (n .less) (n .dest-named) (n .value-named) b can)
-      (rw is (rebuilt-added T F (no (inClass T c (placeAt d))) (placeAt d) v a)) (writable t f ok (placeAt d) (n .dest-named)) (n .less) e′ w′ r done
+      added-as-remat (remat (placeAt d) v) (no (inClass T c (placeAt d))) d v (remat-conditions T F a (placeAt d) v (n .less) (n .dest-named) (n .value-named) b can)
+      (rw is (remat-added T F (no (inClass T c (placeAt d))) (placeAt d) v a)) (writable t f ok (placeAt d) (n .dest-named)) (n .less) e′ w′ r done
 
   -- a move
   module _ (s d v : ℕ) (p : PassedMove T F a (placeAt s) (placeAt d) v) where
@@ -317,10 +317,10 @@ module _ (t f e w : List ℕ) (ok : Checked t f) (kept : EntriesOk t f e w) wher
           (indexed-kept T F e w e′ w′ s d v (omega (arith, kept .few, p .less)) (kept .indexed) done (rw is at o))))
 
     -- a move that is rebuilt
-    pub added-instead : (b : Bool) → becomesRemat T F (placeAt s) (placeAt d) v ≡ true → needsScratch T F (placeAt d) v ≡ b → (e′ w′ : List ℕ) (r : Option ℕ) → RebuiltAs e w e′ w′ (placeUnits T (placeAt d)) b (rebuiltAs d v) r
+    pub added-instead : (b : Bool) → becomesRemat T F (placeAt s) (placeAt d) v ≡ true → needsScratch T F (placeAt d) v ≡ b → (e′ w′ : List ℕ) (r : Option ℕ) → RemattedAs e w e′ w′ (placeUnits T (placeAt d)) b (rematAs d v) r
         → AddedAs t f e w e′ w′ (move (placeAt s) (placeAt d) v) r
     unfolding add
     added-instead b q n e′ w′ r done =
-        added-rebuilt (move (placeAt s) (placeAt d) v) b d v
+        added-as-remat (move (placeAt s) (placeAt d) v) b d v
         (move-conditions T F a (placeAt s) (placeAt d) v p ∙ rw q (ap (λ (c : Bool). orElse c 12 none) (and-end (overlapsEarlier T F a (placeAt d)))))
-        (rw (q, n) (rebuilt-added T F b (placeAt d) v a)) dest-writable (p .less) e′ w′ r done
+        (rw (q, n) (remat-added T F b (placeAt d) v a)) dest-writable (p .less) e′ w′ r done

@@ -18,8 +18,8 @@ use Rattle.reginfo.proofs.Accepted.{regs-fit, width-fits, unit-low, units-once,
 use Rattle.function.specs.Function.{Function, numValues, rematCost}
 use Rattle.function.specs.Known.{KnownValue}
 use Rattle.function.specs.Table.{functionOf}
-use Rattle.function.specs.Answers.{Rebuild, rematerialize}
-use Rattle.function.proofs.Laws.{few-values, few-slots, known-value, cost-there, class-there, never-rebuilt, rebuilt}
+use Rattle.function.specs.Answers.{RematData, rematerialize}
+use Rattle.function.proofs.Laws.{few-values, few-slots, known-value, cost-there, class-there, never-remat, remat-known}
 use Rattle.rules.specs.Patch.{namesPlace, needsScratch, becomesRemat}
 use Rattle.function.specs.Known.{Checked}
 use Rattle.entries.specs.Known.{Writable}
@@ -91,21 +91,21 @@ module _ (t f : List ℕ) (ok : Checked t f) where
     pub value-known : KnownValue F v × (rematCost F v ≤ 2)
     value-known = (known-value T F (ok .function) v h, cost-there T F (ok .function) v h)
 
-    pub class-low : (x : Rebuild) → some x ≡ rematerialize F v → x .class < numClasses T
-    class-low x e = let q = rebuilt F v x e in rw (← q .2) (class-there T F (ok .function) v h (q .0))
+    pub class-low : (x : RematData) → some x ≡ rematerialize F v → x .class < numClasses T
+    class-low x e = let q = remat-known F v x e in rw (← q .2) (class-there T F (ok .function) v h (q .0))
 
-    pub class-known : (x : Rebuild) → some x ≡ rematerialize F v → KnownMembers t (x .class)
+    pub class-known : (x : RematData) → some x ≡ rematerialize F v → KnownMembers t (x .class)
     class-known x e = known-members t (ok .target) (ok .indexed) (x .class) (class-low x e)
 
     abbrev fate : Place → Place → Option Bool
     fate s d = pick (becomesRemat T F s d v) (some (needsScratch T F d v)) none
 
     pub fate-never : none ≡ rematerialize F v → (s d : Place) → none ≡ fate s d
-    fate-never e s d = rw (never-rebuilt F v e)
+    fate-never e s d = rw (never-remat F v e)
 
     -- cheaper than a move
     pub fate-cheap : (c : ℕ) → some (record { cost = 1; class = c }) ≡ rematerialize F v → (s d : Place) (m b : Bool) → m ≡ isMemory T s → b ≡ inClass T c d → pick (or m b) (some (no b)) none ≡ fate s d
-    fate-cheap c e s d m b p q = let x = rebuilt F v (record { cost = 1; class = c }) e in rw (x .0, x .1, x .2, ← p, ← q) (go m b)
+    fate-cheap c e s d m b p q = let x = remat-known F v (record { cost = 1; class = c }) e in rw (x .0, x .1, x .2, ← p, ← q) (go m b)
       where
         go : (m b : Bool) → pick (or m b) (some (no b)) none ≡ pick (or m (no (no b))) (some (no b)) none
         go true b = refl
@@ -117,7 +117,7 @@ module _ (t f : List ℕ) (ok : Checked t f) where
 
     -- cheaper than a load
     pub fate-load : (c : ℕ) → some (record { cost = 2; class = c }) ≡ rematerialize F v → (s d : Place) (m b : Bool) → m ≡ isMemory T s → b ≡ inClass T c d → pick m (some (no b)) none ≡ fate s d
-    fate-load c e s d m b p q = let x = rebuilt F v (record { cost = 2; class = c }) e in rw (x .0, x .1, x .2, ← p, ← q) (go m)
+    fate-load c e s d m b p q = let x = remat-known F v (record { cost = 2; class = c }) e in rw (x .0, x .1, x .2, ← p, ← q) (go m)
       where
         go : (m : Bool) → pick m (some (no b)) none ≡ pick (or m false) (some (no b)) none
         go true = refl
@@ -128,6 +128,6 @@ module _ (t f : List ℕ) (s d v : ℕ) where
   pub fate-kept : none ≡ pick (becomesRemat (regInfoOf t) (functionOf f) (placeAt s) (placeAt d) v) (some (needsScratch (regInfoOf t) (functionOf f) (placeAt d) v)) none → becomesRemat (regInfoOf t) (functionOf f) (placeAt s) (placeAt d) v ≡ false
   fate-kept = pick-none (becomesRemat (regInfoOf t) (functionOf f) (placeAt s) (placeAt d) v) (needsScratch (regInfoOf t) (functionOf f) (placeAt d) v)
 
-  pub fate-rebuilt : (b : Bool) → some b ≡ pick (becomesRemat (regInfoOf t) (functionOf f) (placeAt s) (placeAt d) v) (some (needsScratch (regInfoOf t) (functionOf f) (placeAt d) v)) none
+  pub fate-remat : (b : Bool) → some b ≡ pick (becomesRemat (regInfoOf t) (functionOf f) (placeAt s) (placeAt d) v) (some (needsScratch (regInfoOf t) (functionOf f) (placeAt d) v)) none
       → (becomesRemat (regInfoOf t) (functionOf f) (placeAt s) (placeAt d) v ≡ true) × (needsScratch (regInfoOf t) (functionOf f) (placeAt d) v ≡ b)
-  fate-rebuilt b = pick-some (becomesRemat (regInfoOf t) (functionOf f) (placeAt s) (placeAt d) v) b (needsScratch (regInfoOf t) (functionOf f) (placeAt d) v)
+  fate-remat b = pick-some (becomesRemat (regInfoOf t) (functionOf f) (placeAt s) (placeAt d) v) b (needsScratch (regInfoOf t) (functionOf f) (placeAt d) v)

@@ -12,7 +12,7 @@ use Rattle.entity.proofs.Laws.{length-built, getD-built}
 use Rattle.rules.specs.Order.{KeptMove, Remat, noMove}
 use Rattle.rules.specs.Patch.{Sorted, nothingSorted}
 use Rattle.entries.specs.Known.{SameIndex}
-use Rattle.entries.specs.Table.{moveAt, rematAt, sortedOf, keptMove, rebuiltAs, countedOne, storedMove, storedRemat, withMove, withRemat, withDropped}
+use Rattle.entries.specs.Table.{moveAt, rematAt, sortedOf, keptMove, rematAs, countedOne, storedMove, storedRemat, withMove, withRemat, withDropped}
 
 -- lists made by index
 built-same : {A : Type 0} (f g : ℕ → A) (i n : ℕ) → ((k : ℕ) → k < i + n → f k ≡ g k) → map f (indices i n) ≡ map g (indices i n)
@@ -201,19 +201,19 @@ module _ (e : List ℕ) (long : length e ≡ 1541) (few : getD e 1024 0 ≤ 128)
         ∙ ap (λ (n : ℕ). n + 1) (remat-count e base counter d v high below less)
         ∙ add-one (getD e 1027 0)
 
-    remat-new : rematAt base (countedOne third) i ≡ rebuiltAs d v
+    remat-new : rematAt base (countedOne third) i ≡ rematAs d v
     unfolding rematAt
     remat-new =
         let a : getD (countedOne third) (base + i * 2) 0 ≡ d = getD-set-other third 1027 (base + i * 2) _ 0 (λ q. omega arith) ∙ getD-set-other second counter (base + i * 2) (i + 1) 0 (λ q. omega arith) ∙ getD-set-other first (base + 1 + i * 2) (base + i * 2) v 0 (λ q. omega arith) ∙ getD-set-same e (base + i * 2) d 0 (omega arith) in
         let b : getD (countedOne third) (base + 1 + i * 2) 0 ≡ v = getD-set-other third 1027 (base + 1 + i * 2) _ 0 (λ q. omega arith) ∙ getD-set-other second counter (base + 1 + i * 2) (i + 1) 0 (λ q. omega arith) ∙ getD-set-same first (base + 1 + i * 2) v 0 (simp length-set (omega arith)) in
         rw (a, b)
 
-    remats-more : map (rematAt base (countedOne third)) (indices 0 (getD (countedOne third) counter 0)) ≡ map (rematAt base e) (indices 0 i) ++ (rebuiltAs d v ∷ [])
+    remats-more : map (rematAt base (countedOne third)) (indices 0 (getD (countedOne third) counter 0)) ≡ map (rematAt base e) (indices 0 i) ++ (rematAs d v ∷ [])
     remats-more = built-more (rematAt base (countedOne third)) (rematAt base e) i (getD (countedOne third) counter 0) _ third-counter (λ k l. remat-same base (countedOne third) e k (λ x a h. third-other x (λ q. omega arith) (λ q. omega arith) (λ q. omega arith) (λ q. omega arith))) remat-new
 
-  rebuilt-one : (d v : ℕ) → getD e 1025 0 < 128 → sortedOf (countedOne (storedRemat e 512 1025 (getD e 1025 0) d v)) ≡ withRemat false (rebuiltAs d v) (sortedOf e)
+  remat-one : (d v : ℕ) → getD e 1025 0 < 128 → sortedOf (countedOne (storedRemat e 512 1025 (getD e 1025 0) d v)) ≡ withRemat false (rematAs d v) (sortedOf e)
   unfolding sortedOf
-  rebuilt-one d v less =
+  remat-one d v less =
       let u = countedOne (storedRemat e 512 1025 (getD e 1025 0) d v) in
       let other : (x : ℕ) → (x ≡ 512 + getD e 1025 0 * 2 → ⊥) → (x ≡ 512 + 1 + getD e 1025 0 * 2 → ⊥) → (x ≡ 1025 → ⊥) → (x ≡ 1027 → ⊥) → getD u x 0 ≡ getD e x 0 = third-other 512 1025 d v (omega arith) (omega arith) (omega arith) (omega arith) less in
       sorted-same
@@ -222,9 +222,9 @@ module _ (e : List ℕ) (long : length e ≡ 1541) (few : getD e 1024 0 ≤ 128)
       (built-kept (rematAt 768 u) (rematAt 768 e) (getD e 1026 0) (getD u 1026 0) (other 1026 (λ q. omega arith) (λ q. omega arith) (λ q. omega arith) (λ q. omega arith)) (λ k l. remat-same 768 u e k (λ x a h. other x (λ q. omega arith) (λ q. omega arith) (λ q. omega arith) (λ q. omega arith))))
       (third-all 512 1025 d v (omega arith) (omega arith) (omega arith) (omega arith) less)
 
-  rebuilt-with-scratch : (d v : ℕ) → getD e 1026 0 < 128 → sortedOf (countedOne (storedRemat e 768 1026 (getD e 1026 0) d v)) ≡ withRemat true (rebuiltAs d v) (sortedOf e)
+  remat-with-scratch : (d v : ℕ) → getD e 1026 0 < 128 → sortedOf (countedOne (storedRemat e 768 1026 (getD e 1026 0) d v)) ≡ withRemat true (rematAs d v) (sortedOf e)
   unfolding sortedOf
-  rebuilt-with-scratch d v less =
+  remat-with-scratch d v less =
       let u = countedOne (storedRemat e 768 1026 (getD e 1026 0) d v) in
       let other : (x : ℕ) → (x ≡ 768 + getD e 1026 0 * 2 → ⊥) → (x ≡ 768 + 1 + getD e 1026 0 * 2 → ⊥) → (x ≡ 1026 → ⊥) → (x ≡ 1027 → ⊥) → getD u x 0 ≡ getD e x 0 = third-other 768 1026 d v (omega arith) (omega arith) (omega arith) (omega arith) less in
       sorted-same
@@ -262,15 +262,15 @@ module _ (e : List ℕ) (few : getD e 1024 0 + (getD e 1025 0 + getD e 1026 0) <
       let l : length e ≡ 1541 = simp length-set at (rw p at long) in
       rw (counted, p) (kept-one e l (omega arith) (omega arith) (omega arith) s d v (omega arith))
 
-  pub rebuilt-done : (d v : ℕ) → e₁ ≡ storedRemat e 512 1025 (getD e 1025 0) d v → sortedOf e₂ ≡ withRemat false (rebuiltAs d v) (sortedOf e)
-  rebuilt-done d v p =
+  pub remat-done : (d v : ℕ) → e₁ ≡ storedRemat e 512 1025 (getD e 1025 0) d v → sortedOf e₂ ≡ withRemat false (rematAs d v) (sortedOf e)
+  remat-done d v p =
       let l : length e ≡ 1541 = simp length-set at (rw p at long) in
-      rw (counted, p) (rebuilt-one e l (omega arith) (omega arith) (omega arith) d v (omega arith))
+      rw (counted, p) (remat-one e l (omega arith) (omega arith) (omega arith) d v (omega arith))
 
-  pub scratch-done : (d v : ℕ) → e₁ ≡ storedRemat e 768 1026 (getD e 1026 0) d v → sortedOf e₂ ≡ withRemat true (rebuiltAs d v) (sortedOf e)
+  pub scratch-done : (d v : ℕ) → e₁ ≡ storedRemat e 768 1026 (getD e 1026 0) d v → sortedOf e₂ ≡ withRemat true (rematAs d v) (sortedOf e)
   scratch-done d v p =
       let l : length e ≡ 1541 = simp length-set at (rw p at long) in
-      rw (counted, p) (rebuilt-with-scratch e l (omega arith) (omega arith) (omega arith) d v (omega arith))
+      rw (counted, p) (remat-with-scratch e l (omega arith) (omega arith) (omega arith) d v (omega arith))
 
 pub dropped-done : (e : List ℕ) → getD e 1024 0 + (getD e 1025 0 + getD e 1026 0) < 128 → (e₂ : List ℕ) → length e ≡ 1541 → e₂ ≡ countedOne e → sortedOf e₂ ≡ withDropped (sortedOf e)
 dropped-done e few e₂ long counted = rw counted (dropped-one e long (omega arith) (omega arith) (omega arith))

@@ -19,7 +19,7 @@ use Rattle.rules.specs.Sorted.{SortedOk}
 use Rattle.sparse.specs.Map.{mapOf, known, updated, foundOf, emptyMap, Emptied, Same}
 use Rattle.sparse.specs.declared.Found.{Found}
 use Rattle.entries.specs.Table.{withMove, withRemat}
-use Rattle.entries.specs.Known.{noted, Noted, orRebuilt, rebuilds, writerOf, places, Indexed, SameIndex, Tracked}
+use Rattle.entries.specs.Known.{noted, Noted, orRemat, rematWrites, writerOf, places, Indexed, SameIndex, Tracked}
 use Rattle.entries.proofs.Lists.{or-none, or-right, or-assoc, any-append, any-end, any-step, twice-at, any-map, any-same, any-swap, meets-any}
 use Rattle.entries.proofs.Sources.{indexed-same}
 
@@ -48,23 +48,23 @@ known-pick : (b : Bool) (x : ℕ) (o : Option ℕ) → known (pick b (some x) o)
 known-pick true x o = refl
 known-pick false x o = refl
 
-known-rebuilt : (o : Option ℕ) (b : Bool) → known (orRebuilt o b) ≡ or (known o) b
-known-rebuilt none true = refl
-known-rebuilt none false = refl
-known-rebuilt (some m) b = refl
+known-remat : (o : Option ℕ) (b : Bool) → known (orRemat o b) ≡ or (known o) b
+known-remat none true = refl
+known-remat none false = refl
+known-remat (some m) b = refl
 
 pub known-none : (o : Option ℕ) → known o ≡ false → o ≡ none
 known-none none e = refl
 known-none (some m) e = absurd (true≢false e)
 
 -- a unit that had no writer gets one
-by-move : (o : Option ℕ) (b r : Bool) (k n : ℕ) → k ≡ n → (b ≡ true → orRebuilt o r ≡ none) → orRebuilt (orSome o (pick b (some k) none)) r ≡ pick b (some n) (orRebuilt o r)
+by-move : (o : Option ℕ) (b r : Bool) (k n : ℕ) → k ≡ n → (b ≡ true → orRemat o r ≡ none) → orRemat (orSome o (pick b (some k) none)) r ≡ pick b (some n) (orRemat o r)
 by-move none true r k n e h = ap some e
 by-move (some x) true r k n e h = let z : _≡_ {A = Option ℕ} (some x) none = h refl in let y : _≡_ {A = ℕ} 0 1 = cc in absurd (omega arith)
 by-move none false r k n e h = refl
 by-move (some x) false r k n e h = refl
 
-by-remat : (o : Option ℕ) (b r r′ : Bool) → r′ ≡ or r b → (b ≡ true → orRebuilt o r ≡ none) → orRebuilt o r′ ≡ pick b (some 128) (orRebuilt o r)
+by-remat : (o : Option ℕ) (b r r′ : Bool) → r′ ≡ or r b → (b ≡ true → orRemat o r ≡ none) → orRemat o r′ ≡ pick b (some 128) (orRemat o r)
 by-remat none true r r′ e h = rw (e, or-right r true refl)
 by-remat (some x) true r r′ e h = let z : _≡_ {A = Option ℕ} (some x) none = h refl in let y : _≡_ {A = ℕ} 0 1 = cc in absurd (omega arith)
 by-remat o false r r′ e h = rw (e, or-none r)
@@ -104,7 +104,7 @@ module _ (t : RegInfo) (f : Function) where
       let kept = map (λ (m : KeptMove). m .dest) (a .moves) in
       let direct = map (λ (r : Remat). r .dest) (a .remats) in
       let scratch = map (λ (r : Remat). r .dest) (a .rematsWithScratch) in
-      known-rebuilt (writerFrom t f (a .moves) 0 (a .moves) u) _
+      known-remat (writerFrom t f (a .moves) 0 (a .moves) u) _
       ∙ sym (any-append (unitOf u) kept (direct ++ scratch) ∙ rw (any-append (unitOf u) direct scratch, any-map (unitOf u) (λ (m : KeptMove). m .dest) (a .moves), any-map (unitOf u) (λ (r : Remat). r .dest) (a .remats), any-map (unitOf u) (λ (r : Remat). r .dest) (a .rematsWithScratch), known-from (a .moves) 0 (a .moves) u))
 
   -- 12: a destination overlaps an earlier one where one of its units has a writer
@@ -129,11 +129,11 @@ module _ (t : RegInfo) (f : Function) where
     unfolding writerOf
     writer-remat true v u =
         by-remat (writerFrom t f (a .moves) 0 (a .moves) u) (unitOf u d) _ _
-        (ap (or (rebuilds t f u (a .remats))) (any-end (λ (r : Remat). unitOf u (r .dest)) (a .rematsWithScratch) (record { dest = d; value = v })) ∙ or-assoc (rebuilds t f u (a .remats)) (rebuilds t f u (a .rematsWithScratch)) (unitOf u d))
+        (ap (or (rematWrites t f u (a .remats))) (any-end (λ (r : Remat). unitOf u (r .dest)) (a .rematsWithScratch) (record { dest = d; value = v })) ∙ or-assoc (rematWrites t f u (a .remats)) (rematWrites t f u (a .rematsWithScratch)) (unitOf u d))
         (unwritten u)
     writer-remat false v u =
         by-remat (writerFrom t f (a .moves) 0 (a .moves) u) (unitOf u d) _ _
-        (ap (λ (b : Bool). or b (rebuilds t f u (a .rematsWithScratch))) (any-end (λ (r : Remat). unitOf u (r .dest)) (a .remats) (record { dest = d; value = v })) ∙ or-last (rebuilds t f u (a .remats)) (unitOf u d) (rebuilds t f u (a .rematsWithScratch)))
+        (ap (λ (b : Bool). or b (rematWrites t f u (a .rematsWithScratch))) (any-end (λ (r : Remat). unitOf u (r .dest)) (a .remats) (record { dest = d; value = v })) ∙ or-last (rematWrites t f u (a .remats)) (unitOf u d) (rematWrites t f u (a .rematsWithScratch)))
         (unwritten u)
 
     -- what is known of the table and the map, with that entry

@@ -27,9 +27,9 @@ addedOf A.the-variants.Yes = none
 addedOf (A.the-variants.Refused n) = some n
 
 -- rebuilt, with scratch or without, or not
-abbrev pub rebuiltOf : Fate → Option Bool
-rebuiltOf F.the-variants.Kept = none
-rebuiltOf (F.the-variants.Rebuilt b) = some b
+abbrev pub fateOf : Fate → Option Bool
+fateOf F.the-variants.Kept = none
+fateOf (F.the-variants.Remat b) = some b
 
 -- an entry added to the table e and the map w, or refused
 pub record AddedAs (t f e w e′ w′ : List ℕ) (x : Entry) (r : Option ℕ) : Type 0 where
@@ -60,7 +60,7 @@ pub record KeptAs (t : RegInfo) (e w e′ w′ : List ℕ) (s d v : ℕ) : Type 
   pub others : (u : ℕ) → u < 512 → has u (placeUnits t (placeAt s)) ≡ false → getD e′ (1028 + u) 0 ≡ getD e (1028 + u) 0
 
 -- a rebuild added, unless one of the units us is written already
-pub record RebuiltAs (e w e′ w′ us : List ℕ) (b : Bool) (x : Remat) (r : Option ℕ) : Type 0 where
+pub record RemattedAs (e w e′ w′ us : List ℕ) (b : Bool) (x : Remat) (r : Option ℕ) : Type 0 where
   pub is : r ≡ pick (any (isWritten w) us) (some 12) none
   pub yes : r ≡ none → (sortedOf e′ ≡ withRemat b x (sortedOf e)) × Noted w w′ us 128 × SameIndex e e′
   pub no : (n : ℕ) → r ≡ some n → (e′ ≡ e) × Same w w′

@@ -102,17 +102,17 @@ abbrev pub SameIndex : List ℕ → List ℕ → Type 0
 SameIndex e e′ = (x : ℕ) → 1028 ≤ x → getD e′ x 0 ≡ getD e x 0
 
 -- a kept move, else 128 where a rebuild writes the unit
-abbrev pub orRebuilt : Option ℕ → Bool → Option ℕ
-orRebuilt (some m) b = some m
-orRebuilt none b = pick b (some 128) none
+abbrev pub orRemat : Option ℕ → Bool → Option ℕ
+orRemat (some m) b = some m
+orRemat none b = pick b (some 128) none
 
 module _ (t : RegInfo) (f : Function) where
-  abbrev pub rebuilds : ℕ → List Remat → Bool
-  rebuilds u l = any (λ (r : Remat). has u (placeUnits t (r .dest))) l
+  abbrev pub rematWrites : ℕ → List Remat → Bool
+  rematWrites u l = any (λ (r : Remat). has u (placeUnits t (r .dest))) l
 
   -- the writer of a unit
   unfoldable pub writerOf : Sorted → ℕ → Option ℕ
-  writerOf a u = orRebuilt (writerFrom t f (a .moves) 0 (a .moves) u) (or (rebuilds u (a .remats)) (rebuilds u (a .rematsWithScratch)))
+  writerOf a u = orRemat (writerFrom t f (a .moves) 0 (a .moves) u) (or (rematWrites u (a .remats)) (rematWrites u (a .rematsWithScratch)))
 
   abbrev pub places : Sorted → ℕ
   places a = length (a .moves) + (length (a .remats) + length (a .rematsWithScratch))

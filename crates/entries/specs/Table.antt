@@ -68,8 +68,8 @@ isMoveOf e (some m) s d v = isMove e m s d v
 abbrev pub keptMove : ℕ → ℕ → ℕ → KeptMove
 keptMove s d v = record { source = placeAt s; dest = placeAt d; value = v }
 
-abbrev pub rebuiltAs : ℕ → ℕ → Remat
-rebuiltAs d v = record { dest = placeAt d; value = v }
+abbrev pub rematAs : ℕ → ℕ → Remat
+rematAs d v = record { dest = placeAt d; value = v }
 
 -- one entry more, kept, rebuilt or dropped
 abbrev pub withMove : KeptMove → Sorted → Sorted

@@ -39,10 +39,10 @@ ghost use Rattle.reginfo.specs.Table.{regInfoOf};
 ghost use Rattle.function.specs.Function.{numValues};
 ghost use Rattle.function.specs.Table.{functionOf};
 ghost use Rattle.rules.specs.Patch.{move, remat, namesPlace, becomesRemat, needsScratch, nothingSorted};
-ghost use Rattle.entries.specs.Table.{sortedOf, rebuiltAs};
+ghost use Rattle.entries.specs.Table.{sortedOf, rematAs};
 ghost use Rattle.function.specs.Known.{Checked};
 ghost use Rattle.entries.specs.Known.{Writable, Roomy, NamedRemat, NamedMove, PassedMove, EntriesOk};
-ghost use Rattle.entries.specs.Answers.{addedOf, rebuiltOf, AddedAs, RebuiltAs};
+ghost use Rattle.entries.specs.Answers.{addedOf, fateOf, AddedAs, RemattedAs};
 
 pub type Entries = [u16; 1541];
 
@@ -55,7 +55,7 @@ pub enum Added {
 // A move is kept, unless it is rebuilt, with scratch or without.
 enum Fate {
     Kept,
-    Rebuilt(bool),
+    Remat(bool),
 }
 
 // It does nothing: a call tells the length of the table that is passed.
@@ -80,7 +80,7 @@ pub fn new_parallel_move(e: &mut Entries, w: &mut SparseMap)
 }
 
 // Rebuilds a value, with scratch or without, unless a unit of the destination is written already.
-fn rebuild(
+fn new_remat(
     t: &RegInfo,
     e: &mut Entries,
     w: &mut SparseMap,
@@ -89,7 +89,7 @@ fn rebuild(
     v: Value,
 ) -> Added
     requires { ⌜ Roomy (now e) (now w) × Writable (regInfoOf (now t)) (placeAt (dest .0)) ⌝ }
-    ensures { λ r. ⌜ RebuiltAs (now (e .entry)) (now (w .entry)) (now (e .exit)) (now (w .exit)) (placeUnits (regInfoOf (now (t .entry))) (placeAt (dest .0))) scratch (rebuiltAs (dest .0) (v .0)) (addedOf r) ⌝ }
+    ensures { λ r. ⌜ RemattedAs (now (e .entry)) (now (w .entry)) (now (e .exit)) (now (w .exit)) (placeUnits (regInfoOf (now (t .entry))) (placeAt (dest .0))) scratch (rematAs (dest .0) (v .0)) (addedOf r) ⌝ }
 {
     if note_writes(t, w, dest, 128) {
         put_remat(e, scratch, dest, v);
@@ -101,17 +101,17 @@ fn rebuild(
 // What becomes of a move.
 fn move_fate(t: &RegInfo, f: &Function, source: Allocation, dest: Allocation, v: Value) -> Fate
     requires { ⌜ Checked (now t) (now f) × (v .0 < numValues (functionOf (now f))) × Writable (regInfoOf (now t)) (placeAt (source .0)) × Writable (regInfoOf (now t)) (placeAt (dest .0)) ⌝ }
-    ensures { λ r. ⌜ rebuiltOf r ≡ pick (becomesRemat (regInfoOf (now (t .entry))) (functionOf (now (f .entry))) (placeAt (source .0)) (placeAt (dest .0)) (v .0)) (some (needsScratch (regInfoOf (now (t .entry))) (functionOf (now (f .entry))) (placeAt (dest .0)) (v .0))) none ⌝ }
+    ensures { λ r. ⌜ fateOf r ≡ pick (becomesRemat (regInfoOf (now (t .entry))) (functionOf (now (f .entry))) (placeAt (source .0)) (placeAt (dest .0)) (v .0)) (some (needsScratch (regInfoOf (now (t .entry))) (functionOf (now (f .entry))) (placeAt (dest .0)) (v .0))) none ⌝ }
 {
     match function::can_rematerialize(f, v) {
         Remat::Never => Fate::Kept,
         Remat::CheaperThanMove(c) => {
             let direct = reginfo::class_has(t, c, dest);
             if direct {
-                return Fate::Rebuilt(false);
+                return Fate::Remat(false);
             }
             if reginfo::is_memory(t, source) {
-                return Fate::Rebuilt(true);
+                return Fate::Remat(true);
             }
             Fate::Kept
         }
@@ -119,7 +119,7 @@ fn move_fate(t: &RegInfo, f: &Function, source: Allocation, dest: Allocation, v:
             let memory = reginfo::is_memory(t, source);
             if memory {
                 let direct = reginfo::class_has(t, c, dest);
-                return Fate::Rebuilt(!direct);
+                return Fate::Remat(!direct);
             }
             Fate::Kept
         }
@@ -171,7 +171,7 @@ fn place_move(
 {
     match move_fate(t, f, source, dest, v) {
         Fate::Kept => place_kept(t, f, e, w, source, dest, v),
-        Fate::Rebuilt(scratch) => rebuild(t, e, w, scratch, dest, v),
+        Fate::Remat(scratch) => new_remat(t, e, w, scratch, dest, v),
     }
 }
 
@@ -267,7 +267,7 @@ pub fn add_move(
 }
 
 // Rebuilds a value of the class.
-fn rebuild_in(
+fn new_remat_in(
     t: &RegInfo,
     e: &mut Entries,
     w: &mut SparseMap,
@@ -276,10 +276,10 @@ fn rebuild_in(
     v: Value,
 ) -> Added
     requires { ⌜ Roomy (now e) (now w) × Writable (regInfoOf (now t)) (placeAt (dest .0)) × KnownMembers (now t) (c .0) ⌝ }
-    ensures { λ r. ⌜ RebuiltAs (now (e .entry)) (now (w .entry)) (now (e .exit)) (now (w .exit)) (placeUnits (regInfoOf (now (t .entry))) (placeAt (dest .0))) (no (inClass (regInfoOf (now (t .entry))) (c .0) (placeAt (dest .0)))) (rebuiltAs (dest .0) (v .0)) (addedOf r) ⌝ }
+    ensures { λ r. ⌜ RemattedAs (now (e .entry)) (now (w .entry)) (now (e .exit)) (now (w .exit)) (placeUnits (regInfoOf (now (t .entry))) (placeAt (dest .0))) (no (inClass (regInfoOf (now (t .entry))) (c .0) (placeAt (dest .0)))) (rematAs (dest .0) (v .0)) (addedOf r) ⌝ }
 {
     let direct = reginfo::class_has(t, c, dest);
-    rebuild(t, e, w, !direct, dest, v)
+    new_remat(t, e, w, !direct, dest, v)
 }
 
 // Tests a rebuild from 9 on, and adds it.
@@ -300,8 +300,8 @@ fn add_named_remat(
     }
     match function::can_rematerialize(f, v) {
         Remat::Never => Added::Refused(11),
-        Remat::CheaperThanMove(c) => rebuild_in(t, e, w, c, dest, v),
-        Remat::CheaperThanLoad(c) => rebuild_in(t, e, w, c, dest, v),
+        Remat::CheaperThanMove(c) => new_remat_in(t, e, w, c, dest, v),
+        Remat::CheaperThanLoad(c) => new_remat_in(t, e, w, c, dest, v),
     }
 }
 

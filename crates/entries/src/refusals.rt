@@ -28,7 +28,7 @@ ghost use Rattle.rules.specs.Patch.{bound, lastOverlaps, patchConditions, Patch
 ghost use Rattle.rules.specs.Sorted.{RematOk, SortedOk};
 ghost use Rattle.small_set.specs.Set.{setOf};
 ghost use Rattle.sparse.specs.Map.{keysOf, Linked};
-ghost use Rattle.entries.specs.Table.{sortedOf, rebuiltAs};
+ghost use Rattle.entries.specs.Table.{sortedOf, rematAs};
 ghost use Rattle.function.specs.Known.{Checked};
 ghost use Rattle.entries.specs.Known.{freeIn, isFree, lastClashes, EntriesOk};
 ghost use Rattle.entries.specs.Answers.{addedOf};
@@ -74,7 +74,7 @@ fn last_clashes(t: &RegInfo, c: RegClass, dest: Allocation) -> bool
 }
 
 fn remat_clashes(t: &RegInfo, f: &Function, dest: Allocation, v: Value) -> bool
-    requires { ⌜ Checked (now t) (now f) × RematOk (regInfoOf (now t)) (functionOf (now f)) false (rebuiltAs (dest .0) (v .0)) ⌝ }
+    requires { ⌜ Checked (now t) (now f) × RematOk (regInfoOf (now t)) (functionOf (now f)) false (rematAs (dest .0) (v .0)) ⌝ }
     ensures { λ r. ⌜ r ≡ lastClashes (regInfoOf (now (t .entry))) (rematClass (functionOf (now (f .entry))) (v .0)) (placeAt (dest .0)) ⌝ }
 {
     match function::can_rematerialize(f, v) {

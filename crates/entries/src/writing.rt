@@ -16,7 +16,7 @@ ghost use Rattle.entity.specs.Place.{placeAt};
 ghost use Rattle.reginfo.specs.RegInfo.{placeUnits};
 ghost use Rattle.reginfo.specs.Table.{regInfoOf};
 ghost use Rattle.sparse.specs.Map.{mapOf, keysOf, Linked};
-ghost use Rattle.entries.specs.Table.{sortedOf, countedOne, storedMove, storedRemat, isMove, isMoveOf, rebuiltAs, withRemat};
+ghost use Rattle.entries.specs.Table.{sortedOf, countedOne, storedMove, storedRemat, isMove, isMoveOf, rematAs, withRemat};
 ghost use Rattle.entries.specs.Known.{Writable, isWritten, SameIndex};
 ghost use Rattle.entries.specs.Answers.{NotedNew};
 
@@ -130,7 +130,7 @@ pub(crate) fn keep(e: &mut Entries, source: Allocation, dest: Allocation, v: Val
 // Puts a rebuild into the table.
 pub(crate) fn put_remat(e: &mut Entries, scratch: bool, dest: Allocation, v: Value)
     requires { ⌜ (getD (now e) 1024 0 + (getD (now e) 1025 0 + getD (now e) 1026 0) < 128) × (getD (now e) 1027 0 < 128) ⌝ }
-    ensures { λ _. ⌜ (sortedOf (now (e .exit)) ≡ withRemat scratch (rebuiltAs (dest .0) (v .0)) (sortedOf (now (e .entry)))) × SameIndex (now (e .entry)) (now (e .exit)) ⌝ }
+    ensures { λ _. ⌜ (sortedOf (now (e .exit)) ≡ withRemat scratch (rematAs (dest .0) (v .0)) (sortedOf (now (e .entry)))) × SameIndex (now (e .entry)) (now (e .exit)) ⌝ }
 {
     if scratch {
         store_remat(e, 768, 1026, dest, v);

@@ -16,9 +16,9 @@ use Rattle.function.specs.Function.{Function, numValues}
 use Rattle.function.specs.Known.{Checked}
 use Rattle.function.specs.Table.{functionOf}
 use Rattle.function.proofs.Laws.{few-slots}
-use Rattle.rules.specs.Order.{KeptMove, Remat, noMove}
+use Rattle.rules.specs.Order.{KeptMove, Remat, noMove, noRemat}
 use Rattle.rules.specs.Patch.{Sorted, namesPlace}
-use Rattle.rules.specs.Sorted.{SortedOk, MoveOk, RematOk, noRemat}
+use Rattle.rules.specs.Sorted.{SortedOk, MoveOk, RematOk}
 use Rattle.machine.specs.Machine.{Memory}
 use Rattle.entries.specs.Table.{moveAt, rematAt, sortedOf}
 use Rattle.entries.proofs.Table.{kept-count, kept-is}
@@ -120,8 +120,8 @@ module _ (t : RegInfo) (f : Function) (g : ℕ → List ℕ) (m : Memory) (e : L
     unfolding rematAt
     remats-step i h =
         let l : i < length (rematsAt e base counter) = omega (arith, count-is) in
-        any-step (λ (x : Remat). wrongly t f g m (x .dest) (x .value)) (rematsAt e base counter) i (noRemat t f) l
-        ∙ ap (λ (x : Remat). or (wrongly t f g m (x .dest) (x .value)) (rematsWrong t f g m (drop (i + 1) (rematsAt e base counter)))) (getD-built (rematAt base e) 0 (getD e counter 0) i (noRemat t f) h ∙ ap (rematAt base e) (omega arith))
+        any-step (λ (x : Remat). wrongly t f g m (x .dest) (x .value)) (rematsAt e base counter) i noRemat l
+        ∙ ap (λ (x : Remat). or (wrongly t f g m (x .dest) (x .value)) (rematsWrong t f g m (drop (i + 1) (rematsAt e base counter)))) (getD-built (rematAt base e) 0 (getD e counter 0) i noRemat h ∙ ap (rematAt base e) (omega arith))
 
     pub remats-end : (i : ℕ) → getD e counter 0 ≤ i → rematsWrong t f g m (drop i (rematsAt e base counter)) ≡ false
     unfolding any
@@ -149,7 +149,7 @@ module _ (t f : List ℕ) (ok : Checked t f) (e : List ℕ) (s : SortedOk (regIn
   unfolding rematAt
   remats-ending i h =
       let l : i < length (sortedOf e .remats) = omega (arith, ap length (remats-are e) ∙ count-is T F (λ v. []) (memoryOf []) e 512 1025) in
-      let q : getD (sortedOf e .remats) i (noRemat T F) ≡ rematAt 512 e i = ap (λ (r : List Remat). getD r i (noRemat T F)) (remats-are e) ∙ getD-built (rematAt 512 e) 0 (getD e 1025 0) i (noRemat T F) h ∙ ap (rematAt 512 e) (omega arith) in
+      let q : getD (sortedOf e .remats) i noRemat ≡ rematAt 512 e i = ap (λ (r : List Remat). getD r i noRemat) (remats-are e) ∙ getD-built (rematAt 512 e) 0 (getD e 1025 0) i noRemat h ∙ ap (rematAt 512 e) (omega arith) in
       let k = subst (RematOk T F true) q (s .remats i l) in
       there _ _ (k .dest-named) (k .value-named)
 
@@ -157,6 +157,6 @@ module _ (t f : List ℕ) (ok : Checked t f) (e : List ℕ) (s : SortedOk (regIn
   unfolding rematAt
   scratch-ending i h =
       let l : i < length (sortedOf e .rematsWithScratch) = omega (arith, ap length (scratch-are e) ∙ count-is T F (λ v. []) (memoryOf []) e 768 1026) in
-      let q : getD (sortedOf e .rematsWithScratch) i (noRemat T F) ≡ rematAt 768 e i = ap (λ (r : List Remat). getD r i (noRemat T F)) (scratch-are e) ∙ getD-built (rematAt 768 e) 0 (getD e 1026 0) i (noRemat T F) h ∙ ap (rematAt 768 e) (omega arith) in
+      let q : getD (sortedOf e .rematsWithScratch) i noRemat ≡ rematAt 768 e i = ap (λ (r : List Remat). getD r i noRemat) (scratch-are e) ∙ getD-built (rematAt 768 e) 0 (getD e 1026 0) i noRemat h ∙ ap (rematAt 768 e) (omega arith) in
       let k = subst (RematOk T F false) q (s .rematsWithScratch i l) in
       there _ _ (k .dest-named) (k .value-named)

@@ -19,10 +19,10 @@ use Rattle.function.specs.Refused as function
 use Rattle.function.proofs.Laws.{bank-there, class-there, low-limit}
 use Rattle.rules.specs.Edit.{Edit, Move, Rematerialize, EmergencySpill, EmergencyReload}
 use Rattle.rules.specs.Scratch.{Cache, ScratchAllocator}
-use Rattle.rules.specs.Order.{noMove}
+use Rattle.rules.specs.Order.{noMove, noRemat}
 use Rattle.rules.specs.Patch.{Patch, Sorted, sorted, Answer, refused, resolved, run, resolve, cacheAfter}
 use Rattle.rules.specs.Refusals.{withLimit}
-use Rattle.rules.specs.Sorted.{SortedOk, noRemat}
+use Rattle.rules.specs.Sorted.{SortedOk}
 use Rattle.rules.specs.Take as take
 use Rattle.rules.specs.Take.{resolving, asking, taking, Preview, Served, fresh, Standing, takenOf, takeAnswer, stampedBy}
 use Rattle.rules.proofs.Accepted.{accepted}
@@ -120,9 +120,9 @@ module _ (t : RegInfo) (f : Function) where
         let up : (q : Place) → names (numRegs t) (f .slots) q ≡ true → names (numRegs t) (f .slots + n) q ≡ true = λ q. names-more (numRegs t) (f .slots) (f .slots + n) q (omega arith) in
         let all = run-named t F ta (banks n) n (omega arith) p a c
         (λ i h. let m = ok .moves i h in (up (getD (a .moves) i noMove .source) (m .source-named), up (getD (a .moves) i noMove .dest) (m .dest-named), m .value-named))
-        (every-getD (RematThere t F ta (banks n) n (omega arith)) (noRemat t f) (a .remats) (λ i h. let r = ok .remats i h in (up (getD (a .remats) i (noRemat t f) .dest) (r .dest-named), r .value-named)))
-        (every-getD (ScratchThere t F ta (banks n) n (omega arith)) (noRemat t f) (a .rematsWithScratch)
-        (λ i h. let r = ok .rematsWithScratch i h in let v : ℕ = getD (a .rematsWithScratch) i (noRemat t f) .value in (up (getD (a .rematsWithScratch) i (noRemat t f) .dest) (r .dest-named), r .value-named, class-same n v (class-there t f fa v (r .value-named) (r .can)))))
+        (every-getD (RematThere t F ta (banks n) n (omega arith)) noRemat (a .remats) (λ i h. let r = ok .remats i h in (up (getD (a .remats) i noRemat .dest) (r .dest-named), r .value-named)))
+        (every-getD (ScratchThere t F ta (banks n) n (omega arith)) noRemat (a .rematsWithScratch)
+        (λ i h. let r = ok .rematsWithScratch i h in let v : ℕ = getD (a .rematsWithScratch) i noRemat .value in (up (getD (a .rematsWithScratch) i noRemat .dest) (r .dest-named), r .value-named, class-same n v (class-there t f fa v (r .value-named) (r .can)))))
         (λ z. has-every (λ s. s < f .slots + n) (c .stacks z) (λ s h. omega (arith, grows p a c k e, low z s h))) in
         every-map (λ x. named t F n x ≡ true) (λ x. named t f n x ≡ true) (λ x. named-same n n x) (k .edits) (subst (All (λ k. Every (λ x. named t F n x ≡ true) (k .edits) × Low t F ta (banks n) n (omega arith) (k .cache .stacks))) (lifted n p a c k e (omega arith)) all .0)
 

@@ -7,7 +7,7 @@ use Rattle.reginfo.specs.RegInfo.{RegInfo}
 use Rattle.function.specs.Function.{Function}
 use Rattle.rules.specs.Edit.{Edit, Move, Rematerialize, EmergencySpill, EmergencyReload}
 use Rattle.rules.specs.Patch.{move, remat, Patch}
-use Rattle.rules.specs.Trials.{single, three, halves, fixed, over, plain, rebuildable, patch, swap}
+use Rattle.rules.specs.Trials.{single, three, halves, fixed, over, plain, rematerializable, patch, swap}
 use Rattle.edit.specs.Word.{wordOf, packed}
 use Rattle.examine_rules.specs.Examine.{Verdict, Yes, No, Refused}
 use Rattle.examine_rules.specs.Words.{examinePatch}
@@ -52,7 +52,7 @@ parked =
 
 -- what is said of one word for `one`, which no word alone but M r1 r0 0 does
 abbrev pub ofWord : ℕ → Verdict
-ofWord w = examinePatch three (rebuildable 1 1) (one []) 1 (w ∷ [])
+ofWord w = examinePatch three (rematerializable 1 1) (one []) 1 (w ∷ [])
 
 pub record ExamineTrials : Type 0 where
   pub ours : says three (plain 0 1) (patch [] swap) (Move (slot 0) (reg 1) 1 ∷ Move (reg 1) (reg 0) 0 ∷ Move (reg 0) (slot 0) 1 ∷ []) ≡ Yes
@@ -75,11 +75,11 @@ pub record ExamineTrials : Type 0 where
   -- in a shared frame N plus its limit counts
   pub in-a-frame : examinePatch three (plain 1 1) (one []) 2 (map wordOf (Move (reg 1) (reg 0) 0 ∷ EmergencySpill 2 2 ∷ [])) ≡ Yes
   pub cannot-rebuild : says three (plain 0 1) (one []) (Rematerialize (reg 1) 0 ∷ []) ≡ No
-  pub rebuilt : says three (rebuildable 0 1) (one []) (Rematerialize (reg 1) 0 ∷ []) ≡ Yes
-  pub rebuilt-elsewhere : says three (rebuildable 1 1) (patch (2 ∷ []) (remat (reg 1) 0 ∷ [])) (Rematerialize (reg 2) 0 ∷ Move (reg 1) (reg 2) 0 ∷ []) ≡ Yes
-  pub not-free : says three (rebuildable 1 1) (patch [] (remat (reg 1) 0 ∷ [])) (Rematerialize (reg 2) 0 ∷ Move (reg 1) (reg 2) 0 ∷ []) ≡ No
-  pub nothing-rebuilt : says three (rebuildable 0 1) (patch [] (remat (reg 1) 0 ∷ [])) [] ≡ No
-  pub same-again : says three (rebuildable 0 1) (one []) (Rematerialize (reg 0) 0 ∷ Move (reg 1) (reg 0) 0 ∷ []) ≡ Yes
+  pub rebuilt : says three (rematerializable 0 1) (one []) (Rematerialize (reg 1) 0 ∷ []) ≡ Yes
+  pub rebuilt-elsewhere : says three (rematerializable 1 1) (patch (2 ∷ []) (remat (reg 1) 0 ∷ [])) (Rematerialize (reg 2) 0 ∷ Move (reg 1) (reg 2) 0 ∷ []) ≡ Yes
+  pub not-free : says three (rematerializable 1 1) (patch [] (remat (reg 1) 0 ∷ [])) (Rematerialize (reg 2) 0 ∷ Move (reg 1) (reg 2) 0 ∷ []) ≡ No
+  pub nothing-rebuilt : says three (rematerializable 0 1) (patch [] (remat (reg 1) 0 ∷ [])) [] ≡ No
+  pub same-again : says three (rematerializable 0 1) (one []) (Rematerialize (reg 0) 0 ∷ Move (reg 1) (reg 0) 0 ∷ []) ≡ Yes
   pub between-slots : says three (plain 2 1) (patch [] (move (slot 0) (slot 1) 0 ∷ [])) (Move (slot 1) (slot 0) 0 ∷ []) ≡ No
   -- "With no such start the answer is yes", but 24 comes before it, and the patch's number before that
   pub no-start : says halves (over (fixed 0 ∷ fixed 1 ∷ []) 2 1) slotTwice (Move (slot 0) (slot 1) 0 ∷ []) ≡ Yes

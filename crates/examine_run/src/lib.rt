@@ -111,7 +111,7 @@ fn do_move(t: &RegInfo, c: &mut Cells, b: &mut Words, to: Allocation, from: Allo
 }
 
 // Whether the value is rebuilt by a class that has the place.
-fn can_rebuild(t: &RegInfo, f: &Function, to: Allocation, v: Value) -> bool
+fn can_remat(t: &RegInfo, f: &Function, to: Allocation, v: Value) -> bool
     requires { ⌜ Checked (now t) (now f) × KnownPlace (regInfoOf (now t)) (placeAt (to .0)) × (v .0 < numValues (functionOf (now f))) ⌝ }
     ensures { λ r. ⌜ r ≡ and (canRematerialize (functionOf (now (f .entry))) (v .0)) (inClass (regInfoOf (now (t .entry))) (rematClass (functionOf (now (f .entry))) (v .0)) (placeAt (to .0))) ⌝ }
 {
@@ -135,7 +135,7 @@ fn do_remat(
     requires { ⌜ Checked (now t) (now f) × Tied (now e) (now x) × Short (now c) × Celled (regInfoOf (now t)) (placeAt (to .0)) × (v .0 < numValues (functionOf (now f))) ⌝ }
     ensures { λ r. ⌜ (stepped (regInfoOf (now (t .entry))) (functionOf (now (f .entry))) (genericContent (regInfoOf (now (t .entry))) (functionOf (now (f .entry))) (sortedOf (now (e .entry)) .moves)) (rule.Rematerialize (placeAt (to .0)) (v .0)) (memoryOf (now (c .entry))) ≡ if r (memoryOf (now (c .exit)))) × Short (now (c .exit)) × Anything (now (b .exit)) ⌝ }
 {
-    if !can_rebuild(t, f, to, v) {
+    if !can_remat(t, f, to, v) {
         return false;
     }
     content(t, f, e, x, v, b);

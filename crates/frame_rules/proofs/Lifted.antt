@@ -16,7 +16,8 @@ use Rattle.function.specs.Function.{Function, valueBank, rematCost, rematClass}
 use Rattle.rules.specs.Scratch.{Cache, ScratchAllocator}
 use Rattle.rules.specs.Patch.{Entry, move, remat, Patch, Sorted, nothingSorted, Answer, refused, resolved, answerOf, namesPlace, add, sortedFrom, sorted, destinations, entryConditions, patchConditions, run, resolveSorted, resolveFrom, resolve}
 use Rattle.rules.specs.Refusals.{withLimit}
-use Rattle.rules.specs.Sorted.{noRemat, SortedOk}
+use Rattle.rules.specs.Order.{noRemat}
+use Rattle.rules.specs.Sorted.{SortedOk}
 use Rattle.rules.proofs.Accepted.{sorted-add}
 use Rattle.rules.proofs.Limit.{by-limit, made-within}
 use Rattle.rules.proofs.Steps.{every-getD}
@@ -117,5 +118,5 @@ module _ (t : RegInfo) (f : Function) where
           like : SortedOk t f (sorted t f p) → rename.Like t (W l) ρ (c .made) d (rename.ren t (W l) ρ (c .made) d) (rename.ofKeeper t (W l) ρ (c .made) d later apart) (run t (W l) p (sorted t f p) c) (run t (W (l + d)) p (sorted t f p) (renCache ρ d c))
           like ok =
               run-like t (W l) ρ (c .made) d later apart p (sorted t f p) (λ i h. named-stays _ (ok .moves i h .source-named)) (λ i h. named-stays _ (ok .moves i h .dest-named))
-              (every-getD _ (noRemat t f) (sorted t f p .remats) (λ i h. named-stays _ (ok .remats i h .dest-named)))
-              (every-getD _ (noRemat t f) (sorted t f p .rematsWithScratch) (λ i h. named-stays _ (ok .rematsWithScratch i h .dest-named))) c (omega arith)
+              (every-getD _ noRemat (sorted t f p .remats) (λ i h. named-stays _ (ok .remats i h .dest-named)))
+              (every-getD _ noRemat (sorted t f p .rematsWithScratch) (λ i h. named-stays _ (ok .rematsWithScratch i h .dest-named))) c (omega arith)

@@ -14,7 +14,7 @@ use Rattle.reginfo.specs.Refused.{orElse}
 use Rattle.function.specs.Function.{Function, numValues, valueBank, rematCost, rematClass, isSetting, canRematerialize}
 use Rattle.function.specs.Known.{KnownValue}
 use Rattle.function.specs.Refused.{countsFit, valueFits, foreignClass, valuesRefusal, functionRefusal, Accepted}
-use Rattle.function.specs.Answers.{Rebuild, rematerialize}
+use Rattle.function.specs.Answers.{RematData, rematerialize}
 
 -- tests
 clash : false ≡ true → ⊥
@@ -152,12 +152,12 @@ some-picked true x y e = (refl, cc)
 some-picked false x y e = absurd (let z : _≡_ {A = ℕ} 0 1 = cc in omega arith)
 
 module _ (f : Function) (v : ℕ) where
-  pub never-rebuilt : none ≡ rematerialize f v → canRematerialize f v ≡ false
+  pub never-remat : none ≡ rematerialize f v → canRematerialize f v ≡ false
   unfolding rematerialize
-  never-rebuilt e = none-picked (canRematerialize f v) _ e
+  never-remat e = none-picked (canRematerialize f v) _ e
 
-  pub rebuilt : (x : Rebuild) → some x ≡ rematerialize f v → (canRematerialize f v ≡ true) × (rematCost f v ≡ x .cost) × (rematClass f v ≡ x .class)
+  pub remat-known : (x : RematData) → some x ≡ rematerialize f v → (canRematerialize f v ≡ true) × (rematCost f v ≡ x .cost) × (rematClass f v ≡ x .class)
   unfolding rematerialize
-  rebuilt x e =
+  remat-known x e =
       let p = some-picked (canRematerialize f v) x _ e in
-      (p .0, ap (λ (y : Rebuild). y .cost) (p .1), ap (λ (y : Rebuild). y .class) (p .1))
+      (p .0, ap (λ (y : RematData). y .cost) (p .1), ap (λ (y : RematData). y .class) (p .1))

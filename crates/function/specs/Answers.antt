@@ -9,17 +9,17 @@ use Rattle.function.specs.declared.FunctionCheck.{FunctionCheck}
 use Rattle.function.specs.declared.FunctionCheck.the-variants.{Accepted, OtherSetting, OutsideLimits, ForeignClass}
 
 -- 01's code and the class
-pub record Rebuild : Type 0 where
+pub record RematData : Type 0 where
   pub cost : ℕ
   pub class : ℕ
 
-abbrev pub rematOf : Remat → Option Rebuild
+abbrev pub rematOf : Remat → Option RematData
 rematOf Never = none
 rematOf (CheaperThanMove c) = some (record { cost = 1; class = c .0 })
 rematOf (CheaperThanLoad c) = some (record { cost = 2; class = c .0 })
 
 -- how a value is rebuilt, if it can be
-unfoldable pub rematerialize : Function → ℕ → Option Rebuild
+unfoldable pub rematerialize : Function → ℕ → Option RematData
 rematerialize f v = pick (canRematerialize f v) (some (record { cost = rematCost f v; class = rematClass f v })) none
 
 -- the number by which a function is refused

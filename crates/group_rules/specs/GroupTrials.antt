@@ -9,7 +9,7 @@ use Rattle.function.specs.Function.{Function}
 use Rattle.rules.specs.Edit.{Move, Rematerialize, EmergencySpill, EmergencyReload}
 use Rattle.rules.specs.Scratch.{emptyCache}
 use Rattle.rules.specs.Patch.{Entry, move, Answer, refused, resolved, cacheAfter}
-use Rattle.rules.specs.Trials.{three, single, fixed, over, patch, rebuildable, Gives}
+use Rattle.rules.specs.Trials.{three, single, fixed, over, patch, rematerializable, Gives}
 use Rattle.group_rules.specs.Groups.{labelsOf, parts, resolveByGroups}
 
 unfoldable pub four : RegInfo
@@ -82,11 +82,11 @@ pub record GroupTrials : Type 0 where
   pub linked-labels : labelsOf four (patch [] linking) ≡ 0 ∷ 0 ∷ 0 ∷ []
   -- the source of a move that becomes a rebuild links too
   pub rebuilt-source :
-      Gives (onThree (rebuildable 1 1) [] (move (slot 0) (reg 1) 0 ∷ move (slot 0) (reg 2) 1 ∷ []) 9) (Move (reg 2) (slot 0) 1 ∷ Rematerialize (reg 1) 0 ∷ []) 0
+      Gives (onThree (rematerializable 1 1) [] (move (slot 0) (reg 1) 0 ∷ move (slot 0) (reg 2) 1 ∷ []) 9) (Move (reg 2) (slot 0) 1 ∷ Rematerialize (reg 1) 0 ∷ []) 0
       []
   -- a group's own sources stay free for it
   pub own-source :
-      Gives (onThree (rebuildable 2 1) (2 ∷ []) (move (reg 2) (slot 0) 1 ∷ move (slot 0) (slot 1) 0 ∷ []) 13)
+      Gives (onThree (rematerializable 2 1) (2 ∷ []) (move (reg 2) (slot 0) 1 ∷ move (slot 0) (slot 1) 0 ∷ []) 13)
       (Move (slot 0) (reg 2) 1 ∷ Rematerialize (reg 2) 0 ∷ Move (slot 1) (reg 2) 0 ∷ []) 0 []
   -- a slot goes on to the next group
   pub slot-handed-on :

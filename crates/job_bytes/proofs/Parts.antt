@@ -94,9 +94,9 @@ module _ (f : List ℕ) (v : ℕ) where
   unfolding valueAt
   plain-bytes e = rw (eq-eqb (getD f (1 + v * 4) 0) 0 e)
 
-  pub rebuilt-bytes : (getD f (1 + v * 4) 0 ≡ 0 → ⊥) → bytesOf (valueNumbers (valueAt f v)) ≡ firstTwo ++ encoded (getD f (2 + v * 4) 0)
+  pub remat-bytes : (getD f (1 + v * 4) 0 ≡ 0 → ⊥) → bytesOf (valueNumbers (valueAt f v)) ≡ firstTwo ++ encoded (getD f (2 + v * 4) 0)
   unfolding valueAt
-  rebuilt-bytes n =
+  remat-bytes n =
       rw (ne-eqb (getD f (1 + v * 4) 0) 0 n)
       (bytes-append (getD f (v * 4) 0 ∷ getD f (1 + v * 4) 0 ∷ []) (getD f (2 + v * 4) 0 ∷ []) ∙ rw (bytes-one (getD f (2 + v * 4) 0)))
 

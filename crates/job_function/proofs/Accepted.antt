@@ -22,7 +22,7 @@ use Rattle.reading.specs.Answer.{NextAt}
 use Rattle.reading.specs.declared.Next as X
 use Rattle.reading.specs.declared.Next.{Next}
 use Rattle.job_function.specs.Answer.{FunctionRead}
-use Rattle.job_function.specs.Reads.{rebuilt, value, valued, function, functionWithin, ReadWithin, ReadAccepted}
+use Rattle.job_function.specs.Reads.{rematValue, value, valued, function, functionWithin, ReadWithin, ReadAccepted}
 
 -- ---- what was read, of what its parts read
 pub then-got : {A B : Type 0} (x : Read A) (g : A → List ℕ → Read B) (b : B) (r : List ℕ) → then x g ≡ got b r → (a : A) × (l : List ℕ) × (x ≡ got a l) × (g a l ≡ got b r)
@@ -69,13 +69,13 @@ pub record Sound (t : RegInfo) (x : ValueData) : Type 0 where
 
 module _ (t : RegInfo) where
   value-sound : (l : List ℕ) (x : ValueData) (r : List ℕ) → value t l ≡ got x r → Sound t x
-  unfolding value rebuilt
+  unfolding value rematValue
   value-sound l x r e =
-      let p = then-got (below (numBanks t) l) (λ b r. then (below 3 r) (λ cost q. pick (eqb cost 0) (got (record { bank = b; cost = 0; class = 0 }) q) (rebuilt t b cost q))) x r e in
-      let q = then-got (below 3 (p .1)) (λ cost q. pick (eqb cost 0) (got (record { bank = p .0; cost = 0; class = 0 }) q) (rebuilt t (p .0) cost q)) x r (p .3) in
+      let p = then-got (below (numBanks t) l) (λ b r. then (below 3 r) (λ cost q. pick (eqb cost 0) (got (record { bank = b; cost = 0; class = 0 }) q) (rematValue t b cost q))) x r e in
+      let q = then-got (below 3 (p .1)) (λ cost q. pick (eqb cost 0) (got (record { bank = p .0; cost = 0; class = 0 }) q) (rematValue t (p .0) cost q)) x r (p .3) in
       go (p .0) (q .0) (q .1) (tested-got (λ x. ltb x (numBanks t)) l (p .0) (p .1) (p .2)) (ltb-true (q .0) 3 (tested-got (λ x. ltb x 3) (p .1) (q .0) (q .1) (q .2))) (eqb (q .0) 0) refl (q .3)
     where
-      go : (b cost : ℕ) (q : List ℕ) → ltb b (numBanks t) ≡ true → cost < 3 → (z : Bool) → eqb cost 0 ≡ z → pick z (got (record { bank = b; cost = 0; class = 0 }) q) (rebuilt t b cost q) ≡ got x r → Sound t x
+      go : (b cost : ℕ) (q : List ℕ) → ltb b (numBanks t) ≡ true → cost < 3 → (z : Bool) → eqb cost 0 ≡ z → pick z (got (record { bank = b; cost = 0; class = 0 }) q) (rematValue t b cost q) ≡ got x r → Sound t x
       go b cost q hb hc true z e =
           let is : record { bank = b; cost = 0; class = 0 } ≡ x = cc in
           subst (λ (y : ValueData). Sound t y) is record { fit = rw hb; own = refl }

@@ -22,7 +22,7 @@ use Rattle.reading.specs.Answer.{ReadAt, NextAt}
 use Rattle.reading.specs.declared.Next as X
 use Rattle.reading.proofs.Laws.{passed}
 use Rattle.reading.proofs.Lists.{rows-more, Timing, timing-start, timing-step, timing-refused, timing-end}
-use Rattle.job_function.specs.Reads.{rebuilt, value}
+use Rattle.job_function.specs.Reads.{rematValue, value}
 use Rattle.job_function.specs.Answer.{firstValues, rowOf, RowOnward, RowRead}
 use Rattle.job_function.specs.declared.Row as R
 use Rattle.job_function.specs.declared.Row.{Row}
@@ -54,23 +54,23 @@ module _ (t : RegInfo) (b : RegBank) (cost : ℕ) (s : List ℕ) (at m : ℕ) (i
   abbrev classed : ℕ → List ℕ → Read ValueData
   classed c r = pick (eqb (bankForClass t c) (b .0)) (got (record { bank = b .0; cost = cost; class = c }) r) (refused 9)
 
-  pub no-class : (k : ℕ) → ReadAt (below m) s at (N.the-variants.Refused k) → RowRead (rebuilt t (b .0) cost) s at (R.the-variants.Refused k)
-  unfolding rebuilt
+  pub no-class : (k : ℕ) → ReadAt (below m) s at (N.the-variants.Refused k) → RowRead (rematValue t (b .0) cost) s at (R.the-variants.Refused k)
+  unfolding rematValue
   no-class k h = row-refused (below (numClasses t)) classed s at k (rw is at h)
 
   module _ (c next own : ℕ) (h : ReadAt (below m) s at (N.the-variants.Is c next)) (o : own ≡ bankForClass t c) where
-    pub own-class : own ≡ b .0 → RowRead (rebuilt t (b .0) cost) s at (R.the-variants.Is b cost (record { 0 = c }) next)
-    unfolding rebuilt
+    pub own-class : own ≡ b .0 → RowRead (rematValue t (b .0) cost) s at (R.the-variants.Is b cost (record { 0 = c }) next)
+    unfolding rematValue
     own-class e = row-ends (below (numClasses t)) classed s at c next b cost (record { 0 = c }) (rw is at h) (rw (eq-eqb (bankForClass t c) (b .0) (sym o ∙ e)))
 
-    pub foreign-class : (own ≡ b .0 → ⊥) → RowRead (rebuilt t (b .0) cost) s at (R.the-variants.Refused 9)
-    unfolding rebuilt
+    pub foreign-class : (own ≡ b .0 → ⊥) → RowRead (rematValue t (b .0) cost) s at (R.the-variants.Refused 9)
+    unfolding rematValue
     foreign-class n = row-then (below (numClasses t)) classed s at c next (R.the-variants.Refused 9) (rw is at h) (rw (ne-eqb (bankForClass t c) (b .0) (λ e. n (o ∙ e)))) tt
 
 -- ---- a value
 module _ (t : RegInfo) (s : List ℕ) (at m : ℕ) (is : m ≡ numBanks t) where
   abbrev costed : ℕ → ℕ → List ℕ → Read ValueData
-  costed b cost q = pick (eqb cost 0) (got (record { bank = b; cost = 0; class = 0 }) q) (rebuilt t b cost q)
+  costed b cost q = pick (eqb cost 0) (got (record { bank = b; cost = 0; class = 0 }) q) (rematValue t b cost q)
 
   abbrev banked : ℕ → List ℕ → Read ValueData
   banked b r = then (below 3 r) (costed b)
@@ -88,11 +88,11 @@ module _ (t : RegInfo) (s : List ℕ) (at m : ℕ) (is : m ≡ numBanks t) where
     no-cost k g = bank-then (R.the-variants.Refused k) (row-refused (below 3) (costed b) s a k g)
 
     module _ (cost q : ℕ) (g : ReadAt (below 3) s a (N.the-variants.Is cost q)) where
-      pub never-rebuilt : cost ≡ 0 → RowRead (value t) s at (R.the-variants.Is (record { 0 = b }) 0 (record { 0 = 0 }) q)
-      never-rebuilt e = bank-then (R.the-variants.Is (record { 0 = b }) 0 (record { 0 = 0 }) q) (row-ends (below 3) (costed b) s a cost q (record { 0 = b }) 0 (record { 0 = 0 }) g (rw (eq-eqb cost 0 e)))
+      pub never-remat : cost ≡ 0 → RowRead (value t) s at (R.the-variants.Is (record { 0 = b }) 0 (record { 0 = 0 }) q)
+      never-remat e = bank-then (R.the-variants.Is (record { 0 = b }) 0 (record { 0 = 0 }) q) (row-ends (below 3) (costed b) s a cost q (record { 0 = b }) 0 (record { 0 = 0 }) g (rw (eq-eqb cost 0 e)))
 
-      pub can-rebuild : (cost ≡ 0 → ⊥) → (r : Row) → RowRead (rebuilt t b cost) s q r → RowRead (value t) s at r
-      can-rebuild n r w = bank-then r (row-then (below 3) (costed b) s a cost q r g (rw (ne-eqb cost 0 n) (w .reads)) (w .onward))
+      pub can-remat : (cost ≡ 0 → ⊥) → (r : Row) → RowRead (rematValue t b cost) s q r → RowRead (value t) s at r
+      can-remat n r w = bank-then r (row-then (below 3) (costed b) s a cost q r g (rw (ne-eqb cost 0 n) (w .reads)) (w .onward))
 
 -- ---- a row of the table
 module _ (f : List ℕ) (long : length f ≡ 16388) (v : ℕ) (low : v < 4096) (b cost c : ℕ) where

@@ -13,13 +13,13 @@ use Rattle.number.specs.Read.{Read, got, refused, then}
 use Rattle.reading.specs.Reading.{below, between, times}
 
 -- the class of a value that can be rebuilt; 9 for a class of another bank
-unfoldable pub rebuilt : RegInfo → ℕ → ℕ → List ℕ → Read ValueData
-rebuilt t b cost l = then (below (numClasses t) l) (λ c r. pick (eqb (bankForClass t c) b) (got (record { bank = b; cost = cost; class = c }) r) (refused 9))
+unfoldable pub rematValue : RegInfo → ℕ → ℕ → List ℕ → Read ValueData
+rematValue t b cost l = then (below (numClasses t) l) (λ c r. pick (eqb (bankForClass t c) b) (got (record { bank = b; cost = cost; class = c }) r) (refused 9))
 
 -- "each value bank, rebuild 0 none, 1 `CheaperThanMove`, 2 `CheaperThanLoad`, and a class unless 0"
 unfoldable pub value : RegInfo → List ℕ → Read ValueData
 value t l =
-    then (below (numBanks t) l) (λ b r. then (below 3 r) (λ cost q. pick (eqb cost 0) (got (record { bank = b; cost = 0; class = 0 }) q) (rebuilt t b cost q)))
+    then (below (numBanks t) l) (λ b r. then (below 3 r) (λ cost q. pick (eqb cost 0) (got (record { bank = b; cost = 0; class = 0 }) q) (rematValue t b cost q)))
 
 -- the values, once their number, N and L are read
 unfoldable pub valued : RegInfo → (kept n slots limit : ℕ) → List ℕ → Read Function

@@ -19,7 +19,7 @@ ghost use Rattle.reginfo.specs.Table.{regInfoOf};
 ghost use Rattle.function.specs.Table.{functionOf};
 ghost use Rattle.reading.specs.Reading.{times};
 ghost use Rattle.reading.specs.Answer.{NextAt};
-ghost use Rattle.job_function.specs.Reads.{rebuilt, value, valued};
+ghost use Rattle.job_function.specs.Reads.{rematValue, value, valued};
 ghost use Rattle.job_function.specs.Answer.{FunctionReadWithin, FunctionRead, RowRead, firstValues};
 
 // A value's bank, rebuild code and class, with the next offset, or the number of 01's refused jobs.
@@ -38,7 +38,7 @@ fn told(f: [u16; 16388]) -> bool
 // The class of a value that can be rebuilt.
 fn read_remat_class(t: &RegInfo, s: &[u8], at: usize, bank: RegBank, cost: u16) -> Row
     requires { ⌜ Accepted (regInfoOf (now t)) ⌝ }
-    ensures { λ r. ⌜ RowRead (rebuilt (regInfoOf (now (t .entry))) (bank .0) cost) (now (s .entry)) at r ⌝ }
+    ensures { λ r. ⌜ RowRead (rematValue (regInfoOf (now (t .entry))) (bank .0) cost) (now (s .entry)) at r ⌝ }
 {
     match below(s, at, num_classes(t) as u32) {
         Number::Refused(k) => Row::Refused(k),

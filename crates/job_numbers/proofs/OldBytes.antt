@@ -18,7 +18,7 @@ use Rattle.number.specs.Read.{Read, got, then}
 use Rattle.number.specs.Number.{Bytes}
 use Rattle.reading.specs.Reading.{below}
 use Rattle.job_target.specs.Target.{Counted, bank, reg, class, classes, target}
-use Rattle.job_function.specs.Reads.{rebuilt, value, valued, function}
+use Rattle.job_function.specs.Reads.{rematValue, value, valued, function}
 use Rattle.job_function.proofs.Accepted.{tested-got}
 use Rattle.job_patch.specs.Patches.{rising, place, entry, entries, patch}
 use Rattle.job_rules.specs.Job.{Header, afterTarget, header, opening}
@@ -83,11 +83,11 @@ target-stands l t r h e =
 
 -- ---- the function
 value-stands : (t : RegInfo) (l : List ℕ) (v : ValueData) (r : List ℕ) → Bytes l → value t l ≡ got v r → Stands (valueNumbers v) l r
-unfolding value rebuilt
+unfolding value rematValue
 value-stands t l v r h e = tested-then _ l _ h e (λ b q a e. tested-then _ q _ (a .rest) e (λ cost p c e. go b q a cost p c (eqb cost 0) refl e))
   where
     go : (b : ℕ) (q : List ℕ) → Stands (b ∷ []) l q → (cost : ℕ) (p : List ℕ) → Stands (cost ∷ []) q p → (z : Bool) → eqb cost 0 ≡ z
-        → pick z (got (record { bank = b; cost = 0; class = 0 }) p) (rebuilt t b cost p) ≡ got v r → Stands (valueNumbers v) l r
+        → pick z (got (record { bank = b; cost = 0; class = 0 }) p) (rematValue t b cost p) ≡ got v r → Stands (valueNumbers v) l r
     go b q a cost p c true z e = made (λ v r. Stands (valueNumbers v) l r) e (rw (eqb-true cost 0 z) at (join a c))
     go b q a cost p c false z e =
         tested-then _ p _ (c .rest) e

@@ -21,7 +21,7 @@ use Rattle.number.specs.Number.{number}
 use Rattle.number.proofs.Laws.{one-refusal}
 use Rattle.reading.specs.Reading.{tested, below, between, times, distinct}
 use Rattle.job_target.specs.Target.{bank, reg, class, classes, target}
-use Rattle.job_function.specs.Reads.{rebuilt, value, valued, function}
+use Rattle.job_function.specs.Reads.{rematValue, value, valued, function}
 use Rattle.job_patch.specs.Patches.{unlessGiven, rising, place, entry, entries, patch}
 use Rattle.job_rules.specs.Job.{afterTarget, header, opening}
 use Rattle.job_rules.proofs.Room.{room-for-every}
@@ -144,11 +144,11 @@ target-only l =
 
 -- ---- the function
 value-only : (t : RegInfo) (l : List ℕ) → Only (value t l)
-unfolding value rebuilt
+unfolding value rematValue
 value-only t l =
     tested-then _ l _
     (λ b r. tested-then _ r _
-    (λ cost q. either (eqb cost 0) _ (rebuilt t b cost q) tt (tested-then _ q _ (λ c p. passing (eqb (bankForClass t c) b) 9 _ refl tt))))
+    (λ cost q. either (eqb cost 0) _ (rematValue t b cost q) tt (tested-then _ q _ (λ c p. passing (eqb (bankForClass t c) b) 9 _ refl tt))))
 
 function-only : (t : RegInfo) (kept : ℕ) (l : List ℕ) → Only (function t kept l)
 unfolding function valued

@@ -13,7 +13,7 @@ use Rattle.function.specs.Function.{ValueData, Function}
 use Rattle.number.specs.Read.{got}
 use Rattle.reading.specs.Reading.{below, between, times}
 use Rattle.job_target.specs.Target.{target}
-use Rattle.job_function.specs.Reads.{rebuilt, value, valued, function}
+use Rattle.job_function.specs.Reads.{rematValue, value, valued, function}
 use Rattle.job_rules.specs.Job.{Header, afterTarget, header, opening}
 use Rattle.job_rules.proofs.WasRead.{early-got, given-got}
 use Rattle.job_numbers.specs.Numbers.{Job, counted, eachOf, bankNumbers, regNumbers, classNumbers, targetNumbers, valueNumbers, functionNumbers, patchesNumbers, jobNumbers, readPatches, readJob}
@@ -125,11 +125,11 @@ same-function a b x y e =
 -- a function that was read is plain
 module _ (t : RegInfo) where
   value-plain : (l : List ℕ) (v : ValueData) (r : List ℕ) → value t l ≡ got v r → plainValue v ≡ v
-  unfolding value rebuilt
+  unfolding value rematValue
   value-plain l v r e = after (below (numBanks t) l) _ e (λ b q is e. after (below 3 q) _ e (λ cost p is e. go b cost p (eqb cost 0) refl e))
     where
       go : (b cost : ℕ) (p : List ℕ) (z : Bool) → eqb cost 0 ≡ z
-          → pick z (got (record { bank = b; cost = 0; class = 0 }) p) (rebuilt t b cost p) ≡ got v r
+          → pick z (got (record { bank = b; cost = 0; class = 0 }) p) (rematValue t b cost p) ≡ got v r
           → plainValue v ≡ v
       go b cost p true z e = made (λ v r. plainValue v ≡ v) e refl
       go b cost p false z e =

@@ -26,10 +26,10 @@ use Rattle.number.specs.Number.{number, encoded}
 use Rattle.number.proofs.Laws.{only-form, read-back}
 use Rattle.reading.specs.Reading.{tested, below, between, times, distinct}
 use Rattle.job_target.specs.Target.{bank, reg, class, classes, target}
-use Rattle.job_function.specs.Reads.{rebuilt, value, valued, function}
+use Rattle.job_function.specs.Reads.{rematValue, value, valued, function}
 use Rattle.job_patch.specs.Patches.{unlessGiven, rising, place, entry, entries, patch}
 use Rattle.job_rules.specs.Job.{Header, Answers, afterRead, afterCall, leftOver, afterTarget, header, opening, patchesBy, patches, jobBy, job}
-use Rattle.job_rules.specs.Conditions.{afterGot, unread, inNumber, inTested, inTimes, inDistinct, inBank, inReg, inClass, inClasses, inTarget, ofTarget, inRebuilt, inValue, inFunction, inRising, afterResolved, inPlace, inEntry, inEntries, inPatch, ofCall, inPatches, inOpening, jobConditions, Refusals, NoNumber}
+use Rattle.job_rules.specs.Conditions.{afterGot, unread, inNumber, inTested, inTimes, inDistinct, inBank, inReg, inClass, inClasses, inTarget, ofTarget, inRematValue, inValue, inFunction, inRising, afterResolved, inPlace, inEntry, inEntries, inPatch, ofCall, inPatches, inOpening, jobConditions, Refusals, NoNumber}
 use Rattle.job_rules.specs.Priced.{unlessOutside, openingIf, openingPriced, jobPriced, inOpeningPriced, conditionsPriced, RefusalsPriced}
 use Rattle.job_rules.proofs.Exactly.{refusalOf, Exactly, nothing, after, made, unless, within, passing, given, either, number-exactly, tested-exactly, times-exactly, distinct-exactly, rising-exactly}
 use Rattle.job_rules.proofs.WasRead.{entry-named, settled, patch-called}
@@ -88,11 +88,11 @@ target-exactly l =
 
 -- ---- the function
 value-exactly : (t : RegInfo) (l : List ℕ) → Exactly (value t l) (inValue t l)
-unfolding value rebuilt inValue inRebuilt
+unfolding value rematValue inValue inRematValue
 value-exactly t l =
     tested-then _ l _ _
     (λ b r. tested-then _ r _ _
-    (λ cost q. either (eqb cost 0) _ (rebuilt t b cost q) [] (inRebuilt t b q) nothing
+    (λ cost q. either (eqb cost 0) _ (rematValue t b cost q) [] (inRematValue t b q) nothing
     (tested-then _ q _ _ (λ c p. passing (eqb (bankForClass t c) b) 9 _ p))))
 
 function-exactly : (t : RegInfo) (kept : ℕ) (l : List ℕ) → Exactly (function t kept l) (inFunction t l)

@@ -37,8 +37,8 @@ longer : {A : Type 0} (l : List A) (x : A) → length (l ++ (x ∷ [])) ≡ leng
 longer l x = length-append l (x ∷ [])
 
 module _ (t : RegInfo) (f : Function) where
-  more-rebuilt : (a : Sorted) (b : Bool) (d : Place) (v : ℕ) → More a (addRemat t f b d v a)
-  more-rebuilt a b d v =
+  more-remat : (a : Sorted) (b : Bool) (d : Place) (v : ℕ) → More a (addRemat t f b d v a)
+  more-remat a b d v =
       either a b _ _
       (omega (arith, longer (a .rematsWithScratch) (record { dest = d; value = v })), refl)
       (omega (arith, longer (a .remats) (record { dest = d; value = v })), refl)
@@ -48,8 +48,8 @@ module _ (t : RegInfo) (f : Function) where
 
   pub more : (a : Sorted) (e : Entry) → More a (add t f e a)
   unfolding add
-  more a (move s d v) = either a (becomesRemat t f s d v) _ _ (more-rebuilt a (needsScratch t f d v) d v) (more-kept a (dropped t f a s d v) s d v)
-  more a (remat d v) = more-rebuilt a (needsScratch t f d v) d v
+  more a (move s d v) = either a (becomesRemat t f s d v) _ _ (more-remat a (needsScratch t f d v) d v) (more-kept a (dropped t f a s d v) s d v)
+  more a (remat d v) = more-remat a (needsScratch t f d v) d v
 
   pub still-few : (a : Sorted) (e : Entry) → leb 128 (a .count) ≡ false → Few a → Few (add t f e a)
   still-few a e h k = let m = more a e in record { sorts = omega (arith, m .0, m .1, k .sorts); most = omega (arith, m .1, leb-false 128 (a .count) h) }

@@ -105,11 +105,11 @@ unfoldable pub ofTarget : RegInfo → List Condition
 ofTarget t = cond 4 (unequalWidths t) ∷ cond 5 (foreignMember t) ∷ cond 6 (sharedMemory t) ∷ cond 7 (unfitClass t) ∷ []
 
 -- ---- the function: "9 for a rebuild class when the function is read"
-unfoldable pub inRebuilt : RegInfo → ℕ → List ℕ → List Condition
-inRebuilt t b l = afterBelow (numClasses t) l (λ c r. cond 9 (no (eqb (bankForClass t c) b)) ∷ [])
+unfoldable pub inRematValue : RegInfo → ℕ → List ℕ → List Condition
+inRematValue t b l = afterBelow (numClasses t) l (λ c r. cond 9 (no (eqb (bankForClass t c) b)) ∷ [])
 
 unfoldable pub inValue : RegInfo → List ℕ → List Condition
-inValue t l = afterBelow (numBanks t) l (λ b r. afterBelow 3 r (λ cost q. pick (eqb cost 0) [] (inRebuilt t b q)))
+inValue t l = afterBelow (numBanks t) l (λ b r. afterBelow 3 r (λ cost q. pick (eqb cost 0) [] (inRematValue t b q)))
 
 unfoldable pub inFunction : RegInfo → List ℕ → List Condition
 inFunction t l =

@@ -27,7 +27,7 @@ unfolding fits step
 memory-takes-any t f content s =
     record {
       moved = λ p from v e n. takes t f p (and (no (and (isMemory t p) (isMemory t from))) (fits t f p (length (read t f (s .memory) from)))) _ _ s (rw (e, n)) e;
-      rebuilt = λ p v e c i. takes t f p (and (canRematerialize f v) (inClass t (rematClass f v) p)) _ _ s (rw (c, i)) e;
+      rematted = λ p v e c i. takes t f p (and (canRematerialize f v) (inClass t (rematClass f v) p)) _ _ s (rw (c, i)) e;
       reloaded = λ r x e. takes t f (reg r) (fits t f (reg r) (length (inSlot (s .memory) x))) _ _ s (rw e) e;
     }
 

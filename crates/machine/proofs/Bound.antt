@@ -20,9 +20,9 @@ use Rattle.function.specs.Refused as function
 use Rattle.function.proofs.Laws.{bank-there, class-there}
 use Rattle.rules.specs.Edit.{Edit, Rematerialize, andThen, each, find, filter}
 use Rattle.rules.specs.Scratch.{Cache, Evicted, ScratchAllocator, push, withEvicted, Found, unevict, unevictAll, unevictBut, overlapsEvicted, unevictForReg, makeRoom, acquire, releasePlace, usable, slotScratch, evictLast, reuse, orScratch, getScratchReg, nothingBarred, moveEdits, doMove, meeting, searchedTo}
-use Rattle.rules.specs.Order.{KeptMove, noMove, Remat, State, New, Pending, Done, isNew, isPending, Diverted, ParallelMoves, withState, carry, doRemat, remats, rematWithScratch, source, dest, value, bank, writers, cycleMoveSources, emit, noted, divert, carried, lead, lost, undivert, undivertAll, close, visit, visitUnlessMemory, start, moves}
+use Rattle.rules.specs.Order.{KeptMove, noMove, Remat, State, New, Pending, Done, isNew, isPending, Diverted, ParallelMoves, withState, carry, doRemat, remats, rematWithScratch, source, dest, value, bank, writers, cycleMoveSources, emit, noted, divert, carried, lead, lost, undivert, undivertAll, close, visit, visitUnlessMemory, start, moves, noRemat}
 use Rattle.rules.specs.Patch.{Patch, Sorted, sorted, bound, run}
-use Rattle.rules.specs.Sorted.{MoveOk, RematOk, noRemat, SortedOk, Ran}
+use Rattle.rules.specs.Sorted.{MoveOk, RematOk, SortedOk, Ran}
 use Rattle.rules.proofs.News.{news-all, news-open, news-close}
 use Rattle.rules.proofs.Writers.{writers-low}
 use Rattle.rules.proofs.Sum.{sum-change, sum-part, sum-zero}
@@ -328,7 +328,7 @@ module _ (t : RegInfo) (f : Function) where
         all-then (λ k. owed k ≤ length (a .remats) + 5 * length (a .rematsWithScratch)) (λ k. length (k .edits) ≤ bound a) (each (rematWithScratch t f) (a .rematsWithScratch) (remats t f (a .remats) k₀)) _
         (all-map (λ k. owed k ≤ owed (remats t f (a .remats) k₀) + 5 * length (a .rematsWithScratch)) (λ k. owed k ≤ length (a .remats) + 5 * length (a .rematsWithScratch))
         (each (rematWithScratch t f) (a .rematsWithScratch) (remats t f (a .remats) k₀)) (λ k h. omega (arith, remats-owed (a .remats) k₀))
-        (each-owed (a .rematsWithScratch) (every-getD (RematOk t f false) (noRemat t f) (a .rematsWithScratch) (ok .rematsWithScratch)) (remats t f (a .remats) k₀)))
+        (each-owed (a .rematsWithScratch) (every-getD (RematOk t f false) noRemat (a .rematsWithScratch) (ok .rematsWithScratch)) (remats t f (a .remats) k₀)))
         (λ k h. all-map (λ k′. length (k′ .edits) ≤ owed k + 8 * length (a .moves)) (λ k′. length (k′ .edits) ≤ bound a) (moves t f (a .moves) k) (λ k′ q. omega arith) (moves-few (a .moves) (ok .moves) k))
       where
         k₀ : ScratchAllocator

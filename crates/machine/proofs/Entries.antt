@@ -12,9 +12,8 @@ use Rattle.entity.specs.Logic.{pick, and, or, no, any}
 use Rattle.entity.specs.Place.{Place, reg, slot, samePlace}
 use Rattle.reginfo.specs.RegInfo.{RegInfo}
 use Rattle.function.specs.Function.{Function}
-use Rattle.rules.specs.Order.{KeptMove, Remat, noMove, dest, value}
+use Rattle.rules.specs.Order.{KeptMove, Remat, noMove, dest, value, noRemat}
 use Rattle.rules.specs.Patch.{Entry, move, remat, Patch, Sorted, destinations, becomesRemat, needsScratch, sameMove, dropped, addRemat, addKept, add, sortedFrom, sorted}
-use Rattle.rules.specs.Sorted.{noRemat}
 use Rattle.machine.specs.Claim.{entryDest, entryValue}
 use Rattle.machine.proofs.Tests.{of-yes}
 use Rattle.machine.proofs.Premises.{rematAt}
@@ -177,6 +176,6 @@ module _ (t : RegInfo) (f : Function) (p : Patch) where
 
       go : (a b c : Bool) → any (λ (m : KeptMove). is (m .dest) (m .value)) (sorted t f p .moves) ≡ a → any (λ (r : Remat). is (r .dest) (r .value)) (sorted t f p .remats) ≡ b → any (λ (r : Remat). is (r .dest) (r .value)) (sorted t f p .rematsWithScratch) ≡ c → or a (or b c) ≡ true → Became e
       go true b c x y z h = let w = any-where _ (sorted t f p .moves) noMove x in let r = told _ _ (w .2) in inl (w .0, w .1, r .0, r .1)
-      go false true c x y z h = let w = any-where _ (sorted t f p .remats) (noRemat t f) y in let r = told _ _ (w .2) in inr (inl (w .0, w .1, r .0, r .1))
-      go false false true x y z h = let w = any-where _ (sorted t f p .rematsWithScratch) (noRemat t f) z in let r = told _ _ (w .2) in inr (inr (w .0, w .1, r .0, r .1))
+      go false true c x y z h = let w = any-where _ (sorted t f p .remats) noRemat y in let r = told _ _ (w .2) in inr (inl (w .0, w .1, r .0, r .1))
+      go false false true x y z h = let w = any-where _ (sorted t f p .rematsWithScratch) noRemat z in let r = told _ _ (w .2) in inr (inr (w .0, w .1, r .0, r .1))
       go false false false x y z h = absurd (false≢true h)

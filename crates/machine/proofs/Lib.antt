@@ -19,7 +19,7 @@ pub mod Divert
 pub mod Lead
 pub mod Undivert
 pub mod Visit
-pub mod Rebuild
+pub mod Remats
 pub mod Passes
 pub mod Whole
 pub mod SlotCounts

@@ -47,8 +47,8 @@ module _ (t : RegInfo) (F : Function) (tk : TargetOk t) (j : Job) (w : Waits) (v
         (λ m l h. (st m l h .0, move-gives t F tk j to from v m l (st m l h .1) nm (g .len)))
         (g .turns) (g .len) (g .inside) (g .clear)
 
-    pub rebuild : T (can t F tk v to) → Sound t F tk j (Rematerialize to v ∷ prog) w (Ok t F tk j needs′ w)
-    rebuild c =
+    pub remat-edit : T (can t F tk v to) → Sound t F tk j (Rematerialize to v ∷ prog) w (Ok t F tk j needs′ w)
+    remat-edit c =
         visible t F tk j needs needs′ w to v (Rematerialize to v) prog (Ok t F tk j needs′ w) snd lv
         (λ m l ok. (ok, remat-gives t F tk j to v m l c)) (g .turns) (g .len) (g .inside) (g .clear)
 
@@ -61,8 +61,8 @@ module _ (t : RegInfo) (F : Function) (tk : TargetOk t) (j : Job) (w : Waits) (v
         (s .unneeded) (s .len) (s .inside) (s .aside)
 
   -- a rebuild into a scratch place, before a program that finds the content there
-  pub rebuild-into : (prog : List Edit) (needs : Needs) (sc : Place) → Scratch sc needs → T (can t F tk v sc) → Sound t F tk j prog w (Stands t F tk j needs w sc v)
+  pub remat-into : (prog : List Edit) (needs : Needs) (sc : Place) → Scratch sc needs → T (can t F tk v sc) → Sound t F tk j prog w (Stands t F tk j needs w sc v)
       → Sound t F tk j (Rematerialize sc v ∷ prog) w (Ok t F tk j needs w)
-  rebuild-into prog needs sc s c snd =
+  remat-into prog needs sc s c snd =
       hidden t F tk j needs w sc v (Rematerialize sc v) prog (Ok t F tk j needs w) snd
       (λ m l ok. (ok, remat-gives t F tk j sc v m l c)) (s .unneeded) (s .len) (s .inside) (s .aside)

@@ -20,9 +20,9 @@ use Rattle.function.specs.Function.{Function, numValues, valueBank, rematClass}
 use Rattle.function.specs.Refused as function
 use Rattle.function.proofs.Laws.{class-there, class-of-bank}
 use Rattle.rules.specs.Scratch.{unitsOfReg}
-use Rattle.rules.specs.Order.{KeptMove, Remat, noMove, source, dest, value, writerFrom, writersOf, writers, cycleMoveSources}
+use Rattle.rules.specs.Order.{KeptMove, Remat, noMove, source, dest, value, writerFrom, writersOf, writers, cycleMoveSources, noRemat}
 use Rattle.rules.specs.Patch.{Patch, Sorted, destinations, namesPlace, freeDestination, lastOverlaps}
-use Rattle.rules.specs.Sorted.{RematOk, noRemat, SortedOk}
+use Rattle.rules.specs.Sorted.{RematOk, SortedOk}
 use Rattle.rules.proofs.Steps.{every-has}
 use Rattle.rules.proofs.Writers.{writers-low}
 use Rattle.machine.specs.Machine.{fits}
@@ -101,7 +101,7 @@ module _ (t : RegInfo) (f : Function) where
   disjoint-comm p q d u h k = d u k h
 
   abbrev pub rematAt : List Remat → ℕ → Remat
-  rematAt l i = getD l i (noRemat t f)
+  rematAt l i = getD l i noRemat
 
   -- where each destination stands
   module _ (a : Sorted) where
@@ -111,14 +111,14 @@ module _ (t : RegInfo) (f : Function) where
 
     remat-at : (i : ℕ) → i < length (a .remats) → getD (destinations a) (length (a .moves) + i) (slot 0) ≡ rematAt (a .remats) i .dest
     unfolding destinations
-    remat-at i h = behind (λ (m : KeptMove). m .dest) (a .moves) _ i (slot 0) ∙ in-front (λ (r : Remat). r .dest) (a .remats) _ i (noRemat t f) h
+    remat-at i h = behind (λ (m : KeptMove). m .dest) (a .moves) _ i (slot 0) ∙ in-front (λ (r : Remat). r .dest) (a .remats) _ i noRemat h
 
     scratch-at : (i : ℕ) → getD (destinations a) (length (a .moves) + (length (a .remats) + i)) (slot 0) ≡ rematAt (a .rematsWithScratch) i .dest
     unfolding destinations
     scratch-at i =
         behind (λ (m : KeptMove). m .dest) (a .moves) _ (length (a .remats) + i) (slot 0)
         ∙ behind (λ (r : Remat). r .dest) (a .remats) _ i (slot 0)
-        ∙ List·getD-map (λ (r : Remat). r .dest) (a .rematsWithScratch) i (noRemat t f)
+        ∙ List·getD-map (λ (r : Remat). r .dest) (a .rematsWithScratch) i noRemat
 
     count-destinations : length (destinations a) ≡ length (a .moves) + (length (a .remats) + length (a .rematsWithScratch))
     unfolding destinations
@@ -178,7 +178,7 @@ module _ (t : RegInfo) (f : Function) where
         → overlap t (rematAt (a .rematsWithScratch) i .dest) (reg (lastInOrder t (rematClass f (rematAt (a .rematsWithScratch) i .value)))) ≡ false
     last-apart e i h n =
         let r = rematAt (a .rematsWithScratch) i in
-        overlap-comm t (r .dest) (reg (lastInOrder t (rematClass f (r .value)))) ∙ and-false (no (includesSpillslots t (rematClass f (r .value)))) _ (any-at _ (a .rematsWithScratch) i (noRemat t f) e h) (ap no n)
+        overlap-comm t (r .dest) (reg (lastInOrder t (rematClass f (r .value)))) ∙ and-false (no (includesSpillslots t (rematClass f (r .value)))) _ (any-at _ (a .rematsWithScratch) i noRemat e h) (ap no n)
 
   -- the writers of a move's source
   module _ (ms : List KeptMove) where

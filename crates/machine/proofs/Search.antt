@@ -24,7 +24,7 @@ use Rattle.machine.proofs.Tests.{hasIn, has-cons, all-has, find-all, or
 use Rattle.machine.proofs.Memory.{TargetOk, covers, Apart}
 use Rattle.machine.proofs.Run.{Waits, Job}
 use Rattle.machine.proofs.View.{Away, Spread, Plain, spread-picked, under, Clear, Aside}
-use Rattle.machine.proofs.Sound.{Needs, Within, Ok, Sound, reload, save}
+use Rattle.machine.proofs.Sound.{Needs, Within, Ok, Sound, reload, spill}
 use Rattle.machine.proofs.Cache.{Loose, CacheOk, Taken, take-ok, give-ok, loose-give}
 
 abbrev pub waiting : Evicted → Waiting
@@ -139,7 +139,7 @@ module _ (t : RegInfo) (F : Function) (tk : TargetOk t) where
           record {
             kept =
                 record {
-                  sound = save t F tk j (waiting e) zs ws p (plain-all (k .cache) zs (h .room .waits .0)) (h .room .waits .1) (k .edits) needs (h .sound) (λ q v n. h .room .empty q v n (e .slot) (inr its)) (slot-within (e .slot) (sv .0 .above));
+                  sound = spill t F tk j (waiting e) zs ws p (plain-all (k .cache) zs (h .room .waits .0)) (h .room .waits .1) (k .edits) needs (h .sound) (λ q v n. h .room .empty q v n (e .slot) (inr its)) (slot-within (e .slot) (sv .0 .above));
                   room =
                       record {
                         inside = h .room .inside;

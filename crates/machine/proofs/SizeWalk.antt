@@ -17,9 +17,9 @@ use Rattle.reginfo.proofs.Accepted.{top-bank, top-fits}
 use Rattle.function.specs.Function.{Function, numValues, valueBank}
 use Rattle.rules.specs.Edit.{andThen, each}
 use Rattle.rules.specs.Scratch.{Cache, ScratchAllocator, getScratchReg, doMove}
-use Rattle.rules.specs.Order.{KeptMove, noMove, New, Pending, Done, isNew, isPending, Diverted, ParallelMoves, withState, remats, rematWithScratch, source, dest, value, bank, writers, cycleMoveSources, emit, noted, divert, carried, lead, lost, undivert, undivertAll, close, visit, visitUnlessMemory, start, moves}
+use Rattle.rules.specs.Order.{KeptMove, noMove, New, Pending, Done, isNew, isPending, Diverted, ParallelMoves, withState, remats, rematWithScratch, source, dest, value, bank, writers, cycleMoveSources, emit, noted, divert, carried, lead, lost, undivert, undivertAll, close, visit, visitUnlessMemory, start, moves, noRemat}
 use Rattle.rules.specs.Patch.{Patch, Sorted, namesPlace, run}
-use Rattle.rules.specs.Sorted.{MoveOk, RematOk, noRemat, SortedOk}
+use Rattle.rules.specs.Sorted.{MoveOk, RematOk, SortedOk}
 use Rattle.rules.specs.Counts.{sum, news}
 use Rattle.rules.proofs.Steps.{All, all-then, all-map, branch, same?, Every, every-getD, every-reverse, every-index, all-each, updated-at, updated-same}
 use Rattle.rules.proofs.News.{news-all, news-open, news-close}
@@ -314,8 +314,8 @@ module _ (t : RegInfo) (f : Function) (c₀ : Cache) (at : target.Accepted t) (a
       all-then P (Ended t f c₀) (each (rematWithScratch t f) (a .rematsWithScratch) (remats t f (a .remats) k₀)) _
       (all-each P (RematOk t f false) (rematWithScratch t f)
       (λ r k q g. all-both (slots.Kept t f c₀ Zero) (Kept t f c₀ Nothing Zero) (rematWithScratch t f r k) (slots.scratch-good t f c₀ at af r q Zero k (g .0)) (scratch-kept t f c₀ at af r q k (g .1))) (a .rematsWithScratch)
-      (every-getD (RematOk t f false) (noRemat t f) (a .rematsWithScratch) (ok .rematsWithScratch)) (remats t f (a .remats) k₀)
-      (slots.remats-good t f c₀ (a .remats) k₀ Zero (begin-good t f c₀ at af ins p), remats-kept t f c₀ at af (a .remats) (every-getD (RematOk t f true) (noRemat t f) (a .remats) (ok .remats)) k₀ begin))
+      (every-getD (RematOk t f false) noRemat (a .rematsWithScratch) (ok .rematsWithScratch)) (remats t f (a .remats) k₀)
+      (slots.remats-good t f c₀ (a .remats) k₀ Zero (begin-good t f c₀ at af ins p), remats-kept t f c₀ at af (a .remats) (every-getD (RematOk t f true) noRemat (a .remats) (ok .remats)) k₀ begin))
       (λ k g. moves-ended (a .moves) (ok .moves) few k (g .0) (g .1))
     where
       P : ScratchAllocator → Type 0

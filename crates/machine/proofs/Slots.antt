@@ -15,9 +15,9 @@ use Rattle.function.specs.Function.{Function}
 use Rattle.function.specs.Refused as function
 use Rattle.rules.specs.Edit.{Edit, each}
 use Rattle.rules.specs.Scratch.{Cache, emptyCache, ScratchAllocator}
-use Rattle.rules.specs.Order.{remats, rematWithScratch}
+use Rattle.rules.specs.Order.{remats, rematWithScratch, noRemat}
 use Rattle.rules.specs.Patch.{Patch, Sorted, sorted, run, Answer, refused, resolved, resolve, cacheAfter}
-use Rattle.rules.specs.Sorted.{RematOk, noRemat, SortedOk, Ran}
+use Rattle.rules.specs.Sorted.{RematOk, SortedOk, Ran}
 use Rattle.rules.specs.Take.{Request, Served, fresh, Standing, stampedBy, standing, after}
 use Rattle.rules.proofs.Accepted.{accepted}
 use Rattle.rules.proofs.Take.{Previews, previews-fresh, previews-after, stands}
@@ -64,7 +64,7 @@ module _ (t : RegInfo) (f : Function) (c₀ : Cache) where
     run-good ins p a ok =
         all-then (Kept t f c₀ (λ s y. 0)) (λ k. Good t f c₀ (stacked (k .cache)) (k .cache .made)) (each (rematWithScratch t f) (a .rematsWithScratch) (remats t f (a .remats) (begun p))) _
         (all-each (Kept t f c₀ (λ s y. 0)) (RematOk t f false) (rematWithScratch t f) (λ r k q g. scratch-good t f c₀ at af r q (λ s y. 0) k g) (a .rematsWithScratch)
-        (every-getD (RematOk t f false) (noRemat t f) (a .rematsWithScratch) (ok .rematsWithScratch)) (remats t f (a .remats) (begun p)) (remats-good t f c₀ (a .remats) (begun p) (λ s y. 0) (begin-good ins p)))
+        (every-getD (RematOk t f false) noRemat (a .rematsWithScratch) (ok .rematsWithScratch)) (remats t f (a .remats) (begun p)) (remats-good t f c₀ (a .remats) (begun p) (λ s y. 0) (begin-good ins p)))
         (λ k g. moves-good t f c₀ at af (a .moves) (ok .moves) k g)
 
   -- what the counts say of the stacks

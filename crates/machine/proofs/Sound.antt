@@ -16,7 +16,7 @@ use Rattle.machine.specs.Machine.{Memory, inSlot, Machine, Waiting, Writ
 use Rattle.machine.proofs.Tests.{or-r, both}
 use Rattle.machine.proofs.Memory.{TargetOk, Off, covers, Apart, write-off, read-off, read-write}
 use Rattle.machine.proofs.Run.{Waits, Orders, nobody, more, orders-insert, Log, wr, state, when-yes, Job, view, Frame, Anchored, Holds, Stop, Along}
-use Rattle.machine.proofs.View.{Spread, Plain, Ready, under, shown, Clear, Aside, clear-aside, clear-read, same-view, under-lists, view-off, ready-off, reloaded, reload-view, reload-ready, reload-without, save-off, save-ready, save-without}
+use Rattle.machine.proofs.View.{Spread, Plain, Ready, under, shown, Clear, Aside, clear-aside, clear-read, same-view, under-lists, view-off, ready-off, reloaded, reload-view, reload-ready, reload-without, spill-off, spill-ready, spill-without}
 
 abbrev pub Needs : Type 1
 Needs = Place → ℕ → Type 0
@@ -271,28 +271,28 @@ module _ (t : RegInfo) (F : Function) (tk : TargetOk t) where
             )
 
     -- saved: what is needed later lies outside the slot
-    pub save : (x : Waiting) (zs w : Waits) → Picked x zs w → Plain t F tk zs → Spread t F tk zs → (prog : List Edit) (needs : Needs) → Sound prog zs (Ok needs zs)
+    pub spill : (x : Waiting) (zs w : Waits) → Picked x zs w → Plain t F tk zs → Spread t F tk zs → (prog : List Edit) (needs : Needs) → Sound prog zs (Ok needs zs)
         → ((p : Place) (v : ℕ) → needs p v → Apart t F tk p (slot (x .slot))) → Within (covers t F tk (slot (x .slot)))
         → Sound (EmergencySpill (x .slot) (x .reg) ∷ prog) w (Ok needs w)
     unfolding step
-    save x zs w pk pl sp prog needs snd out inn = prepend (EmergencySpill (x .slot) (x .reg)) prog zs w (Ok needs w) (Ok needs zs) needs snd next
+    spill x zs w pk pl sp prog needs snd out inn = prepend (EmergencySpill (x .slot) (x .reg)) prog zs w (Ok needs w) (Ok needs zs) needs snd next
       where
         next : (o : Waits) → Orders o w → (m : Memory) (l : Log) → Ok needs w m l → Ok needs w m l × Leads (EmergencySpill (x .slot) (x .reg)) (view t F w m) (state o m l) zs (Ok needs zs)
         next o od m l ok =
             let ws = read t F m (reg (x .reg)) in
             let a = write t F (slot (x .slot)) ws m in
-            let f : Off (covers t F tk (slot (x .slot))) (view t F zs a) (view t F w m) = save-off t F tk x zs w pk pl sp m (ok .ready) in (
+            let f : Off (covers t F tk (slot (x .slot))) (view t F zs a) (view t F w m) = spill-off t F tk x zs w pk pl sp m (ok .ready) in (
               ok,
               record {
                 order = x ∷ o;
                 ordered = orders-insert x o zs w pk od;
                 mem = a;
                 log = (wr (slot (x .slot)) ws) ∷ l;
-                done = ap (λ (y : Waits). some (record { memory = a; waiting = x ∷ y; written = wr (slot (x .slot)) ws ∷ l })) (save-without t F tk x zs w pk pl sp m (ok .ready) o od);
+                done = ap (λ (y : Waits). some (record { memory = a; waiting = x ∷ y; written = wr (slot (x .slot)) ws ∷ l })) (spill-without t F tk x zs w pk pl sp m (ok .ready) o od);
                 pre =
                     record {
                       live = ok .live;
-                      ready = save-ready t F tk x zs w pk pl sp m (ok .ready);
+                      ready = spill-ready t F tk x zs w pk pl sp m (ok .ready);
                       met = λ p v n. (later l (wr (slot (x .slot)) ws) p v (ok .met p v n .0), read-off t F tk (covers t F tk (slot (x .slot))) (view t F zs a) (view t F w m) f p (out p v n) ∙ ok .met p v n .1);
                     };
                 frame = off-frame (covers t F tk (slot (x .slot))) (view t F w m) (view t F zs a) inn f;

@@ -272,17 +272,17 @@ module _ (t : RegInfo) (F : Function) (tk : TargetOk t) where
         (map-cong us (m .word) (over ws (m .lists) (m .word)) (λ z h. sym (over-outside ws (m .lists) (m .word) z (away-under x ws away z h))))
         ∙ put-self us (over ws (m .lists) (m .word)) u
 
-    pub save-off : Off (covers t F tk (slot (x .slot))) (view t F zs after) (view t F ws m)
+    pub spill-off : Off (covers t F tk (slot (x .slot))) (view t F zs after) (view t F ws m)
     unfolding over
-    save-off =
+    spill-off =
         rw (← same-view (x ∷ ws) zs after (orders-insert x ws zs ws p (as-listed ws)) pl sp, view-over (x ∷ ws) after (bare, every-picked (λ x. T (not (isMemoryReg t (x .reg)))) x zs ws p pl .1), view-over ws m (k .plain))
         (record { words = λ u _. words u; lists = write-off t F tk (slot (x .slot)) (read t F m (reg (x .reg))) m .lists })
       where
         words : (u : ℕ) → put us (inSlot after (x .slot)) (over ws (after .lists) (after .word)) u ≡ over ws (m .lists) (m .word) u
         words u = rw (slot-holds, slot-words, over-slots ws away) (over-self u)
 
-    pub save-ready : Ready zs after
-    save-ready =
+    pub spill-ready : Ready zs after
+    spill-ready =
         record {
           plain = pl;
           spread = sp;
@@ -295,5 +295,5 @@ module _ (t : RegInfo) (F : Function) (tk : TargetOk t) where
         still [] h q = tt
         still (y ∷ vs) h q = (rw (slot-other y (h .0)) (q .0), still vs (h .1) (q .1))
 
-    pub save-without : (w : Waits) → Orders w ws → without (x .reg) w ≡ w
-    save-without w o = without-other (x .reg) w (orders-every (λ y. x .reg ≡ y .reg → ⊥) w ws o (every-map (Away x) (λ y. x .reg ≡ y .reg → ⊥) (λ y a. a .regs) ws away))
+    pub spill-without : (w : Waits) → Orders w ws → without (x .reg) w ≡ w
+    spill-without w o = without-other (x .reg) w (orders-every (λ y. x .reg ≡ y .reg → ⊥) w ws o (every-map (Away x) (λ y. x .reg ≡ y .reg → ⊥) (λ y a. a .regs) ws away))

@@ -24,7 +24,7 @@ use Rattle.machine.proofs.Cache.{Loose, CacheOk}
 use Rattle.machine.proofs.Search.{waitOf, ApartW, Kept}
 use Rattle.machine.proofs.Emit.{StackOk}
 use Rattle.machine.proofs.Order.{PatchOk, live}
-use Rattle.machine.proofs.Rebuild.{AskedR, RebuildOk, plain-ok, scratched-ok}
+use Rattle.machine.proofs.Remats.{AskedR, RematOk, plain-ok, scratched-ok}
 use Rattle.machine.proofs.Passes.{Base, moves-right, Right}
 
 -- a rebuild of the list
@@ -56,7 +56,7 @@ module _ (t : RegInfo) (F : Function) (tk : TargetOk t) (j : Job) (em : (s : ℕ
   abbrev pub ScratchesOk : List Remat → Type 0
   ScratchesOk [] = Unit {0}
   ScratchesOk (r ∷ rs) =
-      EntryOk r rs × RebuildOk t F tk j em (r .dest) (r .value) (rematClass F (r .value)) × StackOk t F tk j em (bankForClass t (rematClass F (r .value))) (length (j .content (r .value))) × ScratchesOk rs
+      EntryOk r rs × RematOk t F tk j em (r .dest) (r .value) (rematClass F (r .value)) × StackOk t F tk j em (bankForClass t (rematClass F (r .value))) (length (j .content (r .value))) × ScratchesOk rs
 
   asked : (r : Remat) (rs : List Remat) → EntryOk r rs → AskedR t F tk j em (NeedR (r ∷ rs)) (NeedR rs) (r .dest) (r .value)
   asked r rs e =

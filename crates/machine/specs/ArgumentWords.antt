@@ -21,7 +21,7 @@ Takes t f p o ws = (s : Machine) × (o ≡ some s) × (read t f (s .memory) p �
 -- a memory register "holds a whole list and takes any length from a move, a rebuild or a reload, as a slot does"
 pub record TakesAny (t : RegInfo) (f : Function) (content : ℕ → List ℕ) (s : Machine) : Type 0 where
   pub moved : (p from : Place) (v : ℕ) → isMemory t p ≡ true → isMemory t from ≡ false → Takes t f p (step t f content (Move p from v) s) (read t f (s .memory) from)
-  pub rebuilt : (p : Place) (v : ℕ) → isMemory t p ≡ true → canRematerialize f v ≡ true → inClass t (rematClass f v) p ≡ true → Takes t f p (step t f content (Rematerialize p v) s) (content v)
+  pub rematted : (p : Place) (v : ℕ) → isMemory t p ≡ true → canRematerialize f v ≡ true → inClass t (rematClass f v) p ≡ true → Takes t f p (step t f content (Rematerialize p v) s) (content v)
   pub reloaded : (r x : ℕ) → isMemoryReg t r ≡ true → Takes t f (reg r) (step t f content (EmergencyReload r x) s) (inSlot (s .memory) x)
 
 abbrev pub MemoryTakesAny : Type 0

@@ -40,9 +40,9 @@ use Rattle.scratch.proofs.Bounds.{stocked}
 use Rattle.entries.specs.Table.{sortedOf}
 use Rattle.entries.specs.Known.{EntriesOk}
 use Rattle.scratch.proofs.Unlimited.{all-placed}
-use Rattle.rebuilds.specs.Rebuilds.{onlyRemats, lastFirst}
-use Rattle.rebuilds.proofs.Known.{same-ok, remats-fit}
-use Rattle.rebuilds.proofs.Handing.{length-last, last-in-range, only-run}
+use Rattle.remats.specs.Remats.{onlyRemats, lastFirst}
+use Rattle.remats.proofs.Known.{same-ok, remats-fit}
+use Rattle.remats.proofs.Handing.{length-last, last-in-range, only-run}
 use Rattle.closing.proofs.Known.{given}
 use Rattle.parallel_moves.specs.declared.Grant.{Grant}
 use Rattle.parallel_moves.specs.declared.asking.Asked as A

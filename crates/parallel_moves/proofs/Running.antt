@@ -28,8 +28,8 @@ use Rattle.scratch.proofs.Bounds.{fewer, refit}
 use Rattle.entries.specs.Table.{sortedOf}
 use Rattle.entries.specs.Known.{freeIn, EntriesOk}
 use Rattle.visits.specs.Marks.{movesOf, rematsOf, rematsWithScratchOf}
-use Rattle.rebuilds.specs.Rebuilds.{Rematted, Rebuilt}
-use Rattle.rebuilds.proofs.Direct.{rematted-fits}
+use Rattle.remats.specs.Remats.{Rematted, RemattedWithScratch}
+use Rattle.remats.proofs.Direct.{rematted-fits}
 use Rattle.visiting.specs.Steps.{Moves}
 use Rattle.parallel_moves.specs.declared.Grant.{Grant}
 use Rattle.parallel_moves.specs.Given.{freeFrom, freeOf, withMade, GrantOk}
@@ -98,11 +98,11 @@ module _ (t f cache e w : List ℕ) (known : Checked t f) (ok : EntriesOk t f e 
           fewer (omega arith) (omega arith) (omega arith)
           (rematted-fits {a = 0} {b = 2} {n = 5 * length (rematsWithScratchOf e) + 8} direct (fewer {n′ = 5 * length (rematsWithScratchOf e) + 8 + length (rematsOf e)} (omega arith) (omega arith) (omega (arith, few-places)) fits₀))
 
-      module _ (k₂ : ScratchAllocator) (x₂ : Tables) (rebuilt : Rebuilt t f cache (length (rematsWithScratchOf e)) k₁ (tables edits₁ available₁ slots) k₂ x₂ (each (rematWithScratch (T t) (F f)) (rematsWithScratchOf e))) where
+      module _ (k₂ : ScratchAllocator) (x₂ : Tables) (rematted : RemattedWithScratch t f cache (length (rematsWithScratchOf e)) k₁ (tables edits₁ available₁ slots) k₂ x₂ (each (rematWithScratch (T t) (F f)) (rematsWithScratchOf e))) where
         pub moves-room : Fits 0 2 (8 * length (movesOf e)) t k₂ (x₂ .edits) (x₂ .slots) cache
         moves-room =
             refit (8 * length (movesOf e))
-            (let q : owed (evictedIn k₁) ≡ 0 = rw (direct .kept, new .0) in omega (arith, rebuilt .few, direct .count, nil, few-places)) (rebuilt .fits)
+            (let q : owed (evictedIn k₁) ≡ 0 = rw (direct .kept, new .0) in omega (arith, rematted .few, direct .count, nil, few-places)) (rematted .fits)
 
         begin-is : (p : Patch) → ((u : ℕ) → has u (p .free) ≡ setOf free u) → stateOf t f cache k₀ (tables edits free slots) ≡ record { edits = []; available = λ u. has u (p .free); evicted = []; cache = withMade (g .made) (cacheOf cache); met = 0 }
         begin-is p q =
@@ -111,4 +111,4 @@ module _ (t f cache e w : List ℕ) (known : Checked t f) (ok : EntriesOk t f e 
 
         pub ran : (k₃ : ScratchAllocator) (x₃ : Tables) → Moves t f cache e k₂ x₂ k₃ x₃ → Ran t f cache e (g .made) free k₃ x₃
         unfolding run andThen sortedOf
-        ran k₃ x₃ m = record { is = λ p q. rw (← begin-is p q, ← direct .is f cache slots, rebuilt .is) (m .is); fits = m .fits }
+        ran k₃ x₃ m = record { is = λ p q. rw (← begin-is p q, ← direct .is f cache slots, rematted .is) (m .is); fits = m .fits }

@@ -70,9 +70,9 @@ pub fn ask_granted(
     if let Added::Refused(n) = entries::refusal(t, f, e, w, available, given, list.len()) {
         return Asked::Refused(n);
     }
-    if rebuilds::only_remats(e) {
+    if remats::only_remats(e) {
         slots::begin(slots, cache);
-        let n = rebuilds::hand_out(t, e, list);
+        let n = remats::hand_out(t, e, list);
         let stamp = slots::stamp(cache);
         return Asked::Ready(
             n,

@@ -84,8 +84,8 @@ fn run(
     edit::clear(edits);
     slots::begin(slots, cache);
     let k = ScratchAllocator::new(g.made);
-    let direct = rebuilds::remats(k, t, e, available, edits);
-    let rebuilt = rebuilds::remats_with_scratch(
+    let direct = remats::remats(k, t, e, available, edits);
+    let rematted = remats::remats_with_scratch(
         direct,
         t,
         f,
@@ -97,7 +97,7 @@ fn run(
         slots,
     );
     visiting::moves(
-        rebuilt,
+        rematted,
         t,
         f,
         cache,
@@ -189,8 +189,8 @@ pub fn resolve_granted(
     if let Added::Refused(n) = entries::refusal(t, f, e, w, available, given, list.len()) {
         return Resolved::Refused(n);
     }
-    if rebuilds::only_remats(e) {
-        let n = rebuilds::hand_out(t, e, list);
+    if remats::only_remats(e) {
+        let n = remats::hand_out(t, e, list);
         slots::raise(cache, g.made);
         return Resolved::Edits(n, 0);
     }

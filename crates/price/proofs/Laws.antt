@@ -26,25 +26,25 @@ picked false x y n h g = g
 
 pub record Below (p : Prices) : Type 0 where
   pub moves : p .moves ≤ 65535
-  pub rebuilds : p .rebuilds ≤ 65535
-  pub saves : p .saves ≤ 65535
+  pub remats : p .remats ≤ 65535
+  pub spills : p .spills ≤ 65535
   pub reloads : p .reloads ≤ 65535
 
 pub in-range : (p : Prices) → inRange p ≡ true → Below p
 unfolding inRange
 in-range p h =
     let a = and-true (leb (p .moves) 65535) _ h in
-    let b = and-true (leb (p .rebuilds) 65535) _ (a .1) in
-    let c = and-true (leb (p .saves) 65535) _ (b .1) in
-    record { moves = leb-true _ _ (a .0); rebuilds = leb-true _ _ (b .0); saves = leb-true _ _ (c .0); reloads = leb-true _ _ (c .1) }
+    let b = and-true (leb (p .remats) 65535) _ (a .1) in
+    let c = and-true (leb (p .spills) 65535) _ (b .1) in
+    record { moves = leb-true _ _ (a .0); remats = leb-true _ _ (b .0); spills = leb-true _ _ (c .0); reloads = leb-true _ _ (c .1) }
 
 pub price-small : (p : Prices) (w : ℕ) → inRange p ≡ true → priceIn p w ≤ 65535
 unfolding priceIn
 price-small p w h =
     let b = in-range p h in
     picked (eqb (kindIn w) 1) (p .moves) _ 65535 (b .moves)
-    (picked (eqb (kindIn w) 2) (p .rebuilds) _ 65535 (b .rebuilds)
-    (picked (eqb (kindIn w) 3) (p .saves) _ 65535 (b .saves)
+    (picked (eqb (kindIn w) 2) (p .remats) _ 65535 (b .remats)
+    (picked (eqb (kindIn w) 3) (p .spills) _ 65535 (b .spills)
     (picked (eqb (kindIn w) 4) (p .reloads) 0 65535 (b .reloads) (omega arith))))
 
 -- the sum so far and what is to come

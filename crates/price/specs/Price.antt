@@ -10,21 +10,21 @@ use Rattle.price.specs.declared.Prices.{Prices}
 
 -- "0 to 65,535"
 unfoldable pub inRange : Prices → Bool
-inRange p = and (leb (p .moves) 65535) (and (leb (p .rebuilds) 65535) (and (leb (p .saves) 65535) (leb (p .reloads) 65535)))
+inRange p = and (leb (p .moves) 65535) (and (leb (p .remats) 65535) (and (leb (p .spills) 65535) (leb (p .reloads) 65535)))
 
 -- an edit's price goes by its kind alone
 abbrev pub priceOf : Prices → Edit → ℕ
 priceOf p (Move to from v) = p .moves
-priceOf p (Rematerialize to v) = p .rebuilds
-priceOf p (EmergencySpill s r) = p .saves
+priceOf p (Rematerialize to v) = p .remats
+priceOf p (EmergencySpill s r) = p .spills
 priceOf p (EmergencyReload r s) = p .reloads
 
 -- of a word, by its kind: 1 is M, 2 R, 3 S, 4 L; 02 f: "An entry whose kind is none of the four costs nothing."
 unfoldable pub priceIn : Prices → ℕ → ℕ
 priceIn p w =
     pick (eqb (kindIn w) 1) (p .moves)
-    (pick (eqb (kindIn w) 2) (p .rebuilds)
-    (pick (eqb (kindIn w) 3) (p .saves)
+    (pick (eqb (kindIn w) 2) (p .remats)
+    (pick (eqb (kindIn w) 3) (p .spills)
     (pick (eqb (kindIn w) 4) (p .reloads) 0)))
 
 -- "The total is a whole number."

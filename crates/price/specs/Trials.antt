@@ -14,7 +14,7 @@ use Rattle.price.specs.Price.{inRange, priceOf, totalOf}
 use Rattle.price.specs.Totals.{bankOf, fromFirst, inBank, byBank}
 
 abbrev pub prices : ℕ → ℕ → ℕ → ℕ → Prices
-prices m r s l = record { moves = m; rebuilds = r; saves = s; reloads = l }
+prices m r s l = record { moves = m; remats = r; spills = s; reloads = l }
 
 abbrev pub cost : List Edit → ℕ
 cost es = totalOf (prices 4 6 16 12) (map wordOf es)

@@ -9,8 +9,8 @@ ghost use Rattle.price.specs.Exact.{Priced, PriceIs};
 // In quarter cycles: what an M, an R, an S and an L costs.
 pub struct Prices {
     pub moves: u32,
-    pub rebuilds: u32,
-    pub saves: u32,
+    pub remats: u32,
+    pub spills: u32,
     pub reloads: u32,
 }
 
@@ -33,10 +33,10 @@ pub fn in_range(p: Prices) -> bool
     if 65535 < p.moves {
         return false;
     }
-    if 65535 < p.rebuilds {
+    if 65535 < p.remats {
         return false;
     }
-    if 65535 < p.saves {
+    if 65535 < p.spills {
         return false;
     }
     p.reloads <= 65535
@@ -48,8 +48,8 @@ fn price_in(p: Prices, word: u64) -> u64
     let kind = word % 8;
     match kind {
         1 => p.moves as u64,
-        2 => p.rebuilds as u64,
-        3 => p.saves as u64,
+        2 => p.remats as u64,
+        3 => p.spills as u64,
         4 => p.reloads as u64,
         _ => 0,
     }

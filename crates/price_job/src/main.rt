@@ -228,8 +228,8 @@ fn main() {
     let kept_evictions = narrow(number_at(1));
     let p = Prices {
         moves: narrow(number_at(2)),
-        rebuilds: narrow(number_at(3)),
-        saves: narrow(number_at(4)),
+        remats: narrow(number_at(3)),
+        spills: narrow(number_at(4)),
         reloads: narrow(number_at(5)),
     };
     let given = read_runs(&mut runs);

@@ -18,9 +18,9 @@ use Rattle.reginfo.proofs.First.{first-none}
 use Rattle.function.specs.Function.{Function, numValues, valueBank, rematClass, canRematerialize}
 use Rattle.rules.specs.Edit.{Edit}
 use Rattle.rules.specs.Scratch.{Cache, ScratchAllocator}
-use Rattle.rules.specs.Order.{KeptMove, Remat, noMove}
+use Rattle.rules.specs.Order.{KeptMove, Remat, noMove, noRemat}
 use Rattle.rules.specs.Patch.{Entry, move, remat, Patch, Sorted, nothingSorted, destinations, bound, Answer, resolved, answerOf, unlessRefused, needsScratch, becomesRemat, dropped, addRemat, addKept, add, sortedFrom, sorted, namesPlace, overlapsEarlier, overlapsSource, entryConditions, patchConditions, run, resolveSorted, resolveFrom, resolve}
-use Rattle.rules.specs.Sorted.{MoveOk, RematOk, noRemat, SortedOk, Ran}
+use Rattle.rules.specs.Sorted.{MoveOk, RematOk, SortedOk, Ran}
 
 unless-not : (o b : Bool) → and o (no b) ≡ false → b ≡ false → o ≡ false
 unless-not false b e q = refl
@@ -111,8 +111,8 @@ module _ (t : RegInfo) (f : Function) where
   -- `SortedOk` with the destinations' part as above
   record Good (a : Sorted) : Type 0 where
     moves : (i : ℕ) → i < length (a .moves) → MoveOk t f (getD (a .moves) i noMove)
-    remats : (i : ℕ) → i < length (a .remats) → RematOk t f true (getD (a .remats) i (noRemat t f))
-    rematsWithScratch : (i : ℕ) → i < length (a .rematsWithScratch) → RematOk t f false (getD (a .rematsWithScratch) i (noRemat t f))
+    remats : (i : ℕ) → i < length (a .remats) → RematOk t f true (getD (a .remats) i noRemat)
+    rematsWithScratch : (i : ℕ) → i < length (a .rematsWithScratch) → RematOk t f false (getD (a .rematsWithScratch) i noRemat)
     apart : Apart (destinations a)
     sources : (i k : ℕ) → i < length (a .moves) → k < length (a .moves) → Clear (getD (a .moves) i noMove) (getD (a .moves) k noMove)
 
@@ -169,7 +169,7 @@ module _ (t : RegInfo) (f : Function) where
         record {
           moves = g .moves;
           remats = g .remats;
-          rematsWithScratch = snoc-all (RematOk t f false) (a .rematsWithScratch) record { dest = d; value = v } (noRemat t f) (g .rematsWithScratch) ok;
+          rematsWithScratch = snoc-all (RematOk t f false) (a .rematsWithScratch) record { dest = d; value = v } noRemat (g .rematsWithScratch) ok;
           apart =
               rw (map-snoc (λ (r : Remat). r .dest) (a .rematsWithScratch) record { dest = d; value = v })
               (behind-third (kept-dests (a .moves)) (remat-dests (a .remats)) (remat-dests (a .rematsWithScratch)) d e (g .apart));
@@ -178,7 +178,7 @@ module _ (t : RegInfo) (f : Function) where
     good-remat false ok =
         record {
           moves = g .moves;
-          remats = snoc-all (RematOk t f true) (a .remats) record { dest = d; value = v } (noRemat t f) (g .remats) ok;
+          remats = snoc-all (RematOk t f true) (a .remats) record { dest = d; value = v } noRemat (g .remats) ok;
           rematsWithScratch = g .rematsWithScratch;
           apart =
               rw (map-snoc (λ (r : Remat). r .dest) (a .remats) record { dest = d; value = v })

@@ -161,7 +161,7 @@ module _ (t : RegInfo) (f : Function) where
       record {
         search = λ b c barred k x q. taken (FewFound h) (getScratchReg t f b c barred k) x (search-few h b c barred k q);
         move = λ b to from v k k′ q. taken (Few t f) (doMove t f b to from v k) k′ (move-few h b to from v k q);
-        rebuild = λ r k k′ q. taken (Few t f) (rematWithScratch t f r k) k′ (remat-few h r k q);
+        remat-step = λ r k k′ q. taken (Few t f) (rematWithScratch t f r k) k′ (remat-few h r k q);
         visited = λ ms d i w w′ q. taken (FewWalk h ms) (visit t f ms d i w) w′ (visit-few h ms d i w q);
         ends = λ ms k k′. taken (λ k′. k′ .evicted ≡ []) (moves t f ms k) k′ (moves-none ms k);
       }

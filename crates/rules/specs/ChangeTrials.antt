@@ -12,7 +12,7 @@ use Rattle.function.specs.Refused as function
 use Rattle.rules.specs.Edit.{Edit, Move, Rematerialize, EmergencySpill, EmergencyReload, updated}
 use Rattle.rules.specs.Scratch.{Cache, emptyCache}
 use Rattle.rules.specs.Patch.{Entry, move, remat, Patch, Answer, refused, resolved, resolve, cacheAfter}
-use Rattle.rules.specs.Trials.{Gives, Leaves, fixed, over, pair, paired, patch, plain, rebuilt, single, swap, three}
+use Rattle.rules.specs.Trials.{Gives, Leaves, fixed, over, pair, paired, patch, plain, rematValue, single, swap, three}
 
 -- ---- 02 c, overlap by the other list: r1 of bank 1 lists unit 0, which is r0's, behind unit 1; bank 0's stack class is register c
 abbrev pub crossed : ℕ → RegInfo
@@ -51,7 +51,7 @@ pub record Overlaps : Type 0 where
       Gives (resolve (crossed 0) (over (fixed 0 ∷ fixed 1 ∷ []) 3 2) (patch [] (move (slot 0) (slot 1) 0 ∷ move (reg 1) (slot 2) 1 ∷ [])) 16 emptyCache)
       (Move (slot 2) (reg 1) 1 ∷ EmergencySpill 3 0 ∷ Move (reg 0) (slot 0) 0 ∷ Move (slot 1) (reg 0) 0 ∷ EmergencyReload 0 3 ∷ []) 1 (3 ∷ [])
   -- the order's last overlaps the destination of a rebuild with scratch
-  pub last-overlaps : resolve ends (over (rebuilt 1 ∷ []) 0 1) (patch [] (remat (reg 0) 0 ∷ [])) 8 emptyCache ≡ refused 14
+  pub last-overlaps : resolve ends (over (rematValue 1 ∷ []) 0 1) (patch [] (remat (reg 0) 0 ∷ [])) 8 emptyCache ≡ refused 14
 
 -- ---- 02 h, overlapping sources: r0 to r5 of bank 0 are units 0 to 5; r6, r7 and r8 of bank 1 are two of them each
 abbrev pub ofBankOne : ℕ → ℕ → Reg
@@ -171,11 +171,11 @@ pub record Positions : Type 0 where
   pub greatest :
       Met (resolve three (over (fixed 0 ∷ fixed 0 ∷ fixed 0 ∷ []) 4 1) (patch (0 ∷ 1 ∷ 2 ∷ []) (move (slot 0) (slot 1) 0 ∷ move (slot 1) (slot 0) 1 ∷ move (slot 2) (slot 3) 2 ∷ [])) 24 emptyCache) 1
   -- r2 evicted, at 1; then taken again by a class whose order has it at 2: that order's length
-  pub taken-again : Met (resolve ordered (over (rebuilt 2 ∷ rebuilt 1 ∷ []) 2 1) (patch [] (remat (slot 0) 0 ∷ remat (slot 1) 1 ∷ [])) 10 emptyCache) 3
+  pub taken-again : Met (resolve ordered (over (rematValue 2 ∷ rematValue 1 ∷ []) 2 1) (patch [] (remat (slot 0) 0 ∷ remat (slot 1) 1 ∷ [])) 10 emptyCache) 3
   -- r2 evicted: the order's length, and not where it stands in it
   pub newly-evicted : Met (resolve three (plain 2 1) (patch [] (move (slot 0) (slot 1) 0 ∷ [])) 8 emptyCache) 3
   -- the first scratch of a rebuild at 0, the length of an empty order, the second at 1
-  pub of-the-second-scratch : Met (resolve ordered (over (rebuilt 3 ∷ []) 0 1) (patch (1 ∷ []) (remat (reg 3) 0 ∷ [])) 5 emptyCache) 1
+  pub of-the-second-scratch : Met (resolve ordered (over (rematValue 3 ∷ []) 0 1) (patch (1 ∷ []) (remat (reg 3) 0 ∷ [])) 5 emptyCache) 1
 
 -- ---- 02 i, two registers evicted
 abbrev pub keeping : ℕ → Function → Function
@@ -245,8 +245,8 @@ abbrev pub ofThree : ℕ → ℕ → ℕ → Function
 ofThree n l k = keeping k (over (fixed 0 ∷ fixed 1 ∷ fixed 2 ∷ []) n l)
 
 -- values 0 and 1 are rebuilt by r0 and by r1; N = L = 2, and two evictions are kept
-abbrev pub rebuiltAnd : ValueData → Function
-rebuiltAnd v = keeping 2 (over (rebuilt 1 ∷ record { bank = 1; cost = 2; class = 3 } ∷ v ∷ []) 2 2)
+abbrev pub rematAnd : ValueData → Function
+rematAnd v = keeping 2 (over (rematValue 1 ∷ record { bank = 1; cost = 2; class = 3 } ∷ v ∷ []) 2 2)
 
 -- value 2 of bank 2, rebuilt by slots
 abbrev pub bySlots : ValueData
@@ -254,15 +254,15 @@ bySlots = record { bank = 2; cost = 2; class = 4 }
 
 -- values rebuilt by r0, by r1 and by either
 abbrev pub ofMembers : Function
-ofMembers = keeping 2 (over (rebuilt 2 ∷ rebuilt 3 ∷ rebuilt 1 ∷ []) 3 2)
+ofMembers = keeping 2 (over (rematValue 2 ∷ rematValue 3 ∷ rematValue 1 ∷ []) 3 2)
 
 -- slot 0 to slot 1 and slot 2 to slot 3
 abbrev pub stored : List Entry → List Entry
 stored es = move (slot 0) (slot 1) 0 ∷ move (slot 2) (slot 3) 1 ∷ es
 
 -- values 0 and 1 are rebuilt into slots 0 and 1
-abbrev pub rebuiltSlots : List Entry → List Entry
-rebuiltSlots es = remat (slot 0) 0 ∷ remat (slot 1) 1 ∷ es
+abbrev pub rematSlots : List Entry → List Entry
+rematSlots es = remat (slot 0) 0 ∷ remat (slot 1) 1 ∷ es
 
 -- of r0, and of r1: the edits made first, which are handed out last
 abbrev pub r0Edits : ℕ → List Edit
@@ -271,8 +271,8 @@ r0Edits s = Move (reg 0) (slot 0) 0 ∷ Move (slot 1) (reg 0) 0 ∷ EmergencyRel
 abbrev pub r1Edits : ℕ → List Edit → List Edit
 r1Edits s es = Move (reg 1) (slot 2) 1 ∷ Move (slot 3) (reg 1) 1 ∷ EmergencyReload 1 s ∷ es
 
-abbrev pub rebuiltEdits : List Edit
-rebuiltEdits = Rematerialize (reg 1) 1 ∷ Move (slot 1) (reg 1) 1 ∷ EmergencyReload 1 3 ∷ Rematerialize (reg 0) 0 ∷ Move (slot 0) (reg 0) 0 ∷ EmergencyReload 0 2 ∷ []
+abbrev pub rematEdits : List Edit
+rematEdits = Rematerialize (reg 1) 1 ∷ Move (slot 1) (reg 1) 1 ∷ EmergencyReload 1 3 ∷ Rematerialize (reg 0) 0 ∷ Move (slot 0) (reg 0) 0 ∷ EmergencyReload 0 2 ∷ []
 
 -- and slot 4 to slot 5
 abbrev pub alternating : List Entry → List Entry
@@ -309,16 +309,16 @@ pub record BroughtBack : Type 0 where
   pub targets : target.Accepted threeBanks × target.Accepted onNewer × target.Accepted onBoth × target.Accepted onEach × target.Accepted members
   pub functions :
       function.Accepted threeBanks (ofThree 8 3 2) × function.Accepted onNewer (ofThree 8 3 2) × function.Accepted onBoth (ofThree 5 2 2)
-      × function.Accepted onBoth (rebuiltAnd bySlots) × function.Accepted onEach (rebuiltAnd (fixed 2)) × function.Accepted members ofMembers
+      × function.Accepted onBoth (rematAnd bySlots) × function.Accepted onEach (rematAnd (fixed 2)) × function.Accepted members ofMembers
   -- "Of several for one place [..] the older comes back first.": of a source, and of the destination of a rebuild with scratch, by a slot
   pub both-read :
       Gives (resolve onBoth (ofThree 5 2 2) (patch [] (stored (move (reg 2) (slot 4) 2 ∷ []))) 24 emptyCache) (Move (slot 4) (reg 2) 2 ∷ EmergencySpill 6 1 ∷ EmergencySpill 5 0 ∷ r1Edits 6 (r0Edits 5)) 2 (6 ∷ 5 ∷ [])
   pub both-rebuilt :
-      Gives (resolve onBoth (rebuiltAnd bySlots) (patch [] (rebuiltSlots (remat (reg 2) 2 ∷ []))) 15 emptyCache) (Rematerialize (slot 3) 2 ∷ Move (reg 2) (slot 3) 2 ∷ EmergencySpill 3 1 ∷ EmergencySpill 2 0 ∷ rebuiltEdits) 2 (3 ∷ 2 ∷ [])
+      Gives (resolve onBoth (rematAnd bySlots) (patch [] (rematSlots (remat (reg 2) 2 ∷ []))) 15 emptyCache) (Rematerialize (slot 3) 2 ∷ Move (reg 2) (slot 3) 2 ∷ EmergencySpill 3 1 ∷ EmergencySpill 2 0 ∷ rematEdits) 2 (3 ∷ 2 ∷ [])
   -- "its source, then its destination": r1, the newer, then r0
   pub source-first :
-      Gives (resolve onEach (rebuiltAnd (fixed 2)) (patch [] (rebuiltSlots (move (reg 3) (reg 2) 2 ∷ []))) 18 emptyCache)
-      (Move (reg 2) (reg 3) 2 ∷ EmergencySpill 2 0 ∷ EmergencySpill 3 1 ∷ rebuiltEdits) 2 (2 ∷ 3 ∷ [])
+      Gives (resolve onEach (rematAnd (fixed 2)) (patch [] (rematSlots (move (reg 3) (reg 2) 2 ∷ []))) 18 emptyCache)
+      (Move (reg 2) (reg 3) 2 ∷ EmergencySpill 2 0 ∷ EmergencySpill 3 1 ∷ rematEdits) 2 (2 ∷ 3 ∷ [])
   -- "those that overlap the new register are brought back, and then the older if two are still held": r1 is, and r0 is then held alone
   pub older-stays :
       Leaves (resolve onNewer (ofThree 8 3 2) (patch [] (stored (move (slot 4) (slot 5) 2 ∷ move (slot 6) (slot 7) 0 ∷ []))) 32 emptyCache)
@@ -330,6 +330,6 @@ pub record BroughtBack : Type 0 where
       (EmergencySpill 8 2 ∷ EmergencySpill 9 1 ∷ Move (reg 2) (slot 4) 2 ∷ Move (slot 5) (reg 2) 2 ∷ EmergencyReload 2 8 ∷ EmergencySpill 8 0 ∷ Move (reg 0) (slot 6) 0 ∷ Move (slot 7) (reg 0) 0 ∷ r1Edits 9 (r0Edits 8)) 2 (8 ∷ 9 ∷ [])
   -- "A search reuses the newest held member of its class.": r1
   pub newest-member :
-      Gives (resolve members ofMembers (patch [] (rebuiltSlots (remat (slot 2) 2 ∷ []))) 15 emptyCache)
+      Gives (resolve members ofMembers (patch [] (rematSlots (remat (slot 2) 2 ∷ []))) 15 emptyCache)
       (EmergencySpill 4 1 ∷ EmergencySpill 3 0 ∷ Rematerialize (reg 1) 2 ∷ Move (slot 2) (reg 1) 2 ∷ Rematerialize (reg 1) 1 ∷ Move (slot 1) (reg 1) 1 ∷ EmergencyReload 1 4 ∷ Rematerialize (reg 0) 0 ∷ Move (slot 0) (reg 0) 0 ∷ EmergencyReload 0 3 ∷ [])
       2 (4 ∷ 3 ∷ [])

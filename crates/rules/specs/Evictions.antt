@@ -25,7 +25,7 @@ module _ (t : RegInfo) (f : Function) where
   pub record Held : Type 0 where
     pub search : (b c : ℕ) (barred : ℕ → Bool) (k : ScratchAllocator) (x : Found) → Few k → getScratchReg t f b c barred k ≡ some x → Few (x .scratch)
     pub move : (b : ℕ) (to from : Place) (v : ℕ) (k k′ : ScratchAllocator) → Few k → doMove t f b to from v k ≡ some k′ → Few k′
-    pub rebuild : (r : Remat) (k k′ : ScratchAllocator) → Few k → rematWithScratch t f r k ≡ some k′ → Few k′
+    pub remat-step : (r : Remat) (k k′ : ScratchAllocator) → Few k → rematWithScratch t f r k ≡ some k′ → Few k′
     pub visited : (ms : List KeptMove) (d i : ℕ) (w w′ : ParallelMoves) → Few (w .allocator) → visit t f ms d i w ≡ some w′ → Few (w′ .allocator)
     pub ends : (ms : List KeptMove) (k k′ : ScratchAllocator) → moves t f ms k ≡ some k′ → k′ .evicted ≡ []
 

@@ -25,6 +25,9 @@ pub record Remat : Type 0 where
   pub dest : Place
   pub value : ℕ
 
+abbrev pub noRemat : Remat
+noRemat = record { dest = slot 0; value = 0 }
+
 -- of a move: not visited, open, closed
 pub data State : Type 0 where
   New Pending Done : State

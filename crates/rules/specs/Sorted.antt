@@ -10,7 +10,7 @@ use Rattle.reginfo.specs.RegInfo.{RegInfo, inClass, ofBank, overlap}
 use Rattle.function.specs.Function.{Function, numValues, valueBank, rematClass, canRematerialize}
 use Rattle.rules.specs.Edit.{Edit}
 use Rattle.rules.specs.Scratch.{Cache, ScratchAllocator}
-use Rattle.rules.specs.Order.{KeptMove, Remat, noMove}
+use Rattle.rules.specs.Order.{KeptMove, Remat, noMove, noRemat}
 use Rattle.rules.specs.Patch.{Patch, Sorted, sorted, destinations, bound, namesPlace, freeDestination, lastOverlaps, run}
 
 module _ (t : RegInfo) (f : Function) where
@@ -29,9 +29,6 @@ module _ (t : RegInfo) (f : Function) where
     pub dest-bank : ofBank t (valueBank f (r .value)) (r .dest) ≡ true
     pub can : canRematerialize f (r .value) ≡ true
     pub in-class : inClass t (rematClass f (r .value)) (r .dest) ≡ direct
-
-  abbrev pub noRemat : Remat
-  noRemat = record { dest = slot 0; value = 0 }
 
   pub record SortedOk (a : Sorted) : Type 0 where
     pub moves : (i : ℕ) → i < length (a .moves) → MoveOk (getD (a .moves) i noMove)

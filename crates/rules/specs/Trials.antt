@@ -34,8 +34,8 @@ abbrev pub plain : ℕ → ℕ → Function
 plain n l = record { values = record { bank = 0; cost = 0; class = 0 } ∷ record { bank = 0; cost = 0; class = 0 } ∷ []; slots = n; limit = l; kept = 1 }
 
 -- value 0 of cost 2, rebuilt by the stack class
-abbrev pub rebuildable : ℕ → ℕ → Function
-rebuildable n l = record { values = record { bank = 0; cost = 2; class = 1 } ∷ record { bank = 0; cost = 0; class = 0 } ∷ []; slots = n; limit = l; kept = 1 }
+abbrev pub rematerializable : ℕ → ℕ → Function
+rematerializable n l = record { values = record { bank = 0; cost = 2; class = 1 } ∷ record { bank = 0; cost = 0; class = 0 } ∷ []; slots = n; limit = l; kept = 1 }
 
 abbrev pub patch : List ℕ → List Entry → Patch
 patch free es = record { free = free; entries = es }
@@ -64,7 +64,7 @@ pub record Trials : Type 0 where
   pub slots-swapped :
       Gives (resolve three (plain 2 2) (patch [] (move (slot 0) (slot 1) 0 ∷ move (slot 1) (slot 0) 1 ∷ [])) 16 emptyCache)
       (EmergencySpill 3 2 ∷ Move (reg 2) (slot 1) 1 ∷ Move (slot 2) (reg 2) 1 ∷ Move (reg 2) (slot 0) 0 ∷ Move (slot 1) (reg 2) 0 ∷ Move (reg 2) (slot 2) 1 ∷ Move (slot 0) (reg 2) 1 ∷ EmergencyReload 2 3 ∷ []) 2 (3 ∷ 2 ∷ [])
-  pub rebuild : Gives (resolve three (rebuildable 1 1) (patch [] (remat (slot 0) 0 ∷ [])) 5 emptyCache) (EmergencySpill 1 2 ∷ Rematerialize (reg 2) 0 ∷ Move (slot 0) (reg 2) 0 ∷ EmergencyReload 2 1 ∷ []) 1 (1 ∷ [])
+  pub rebuild : Gives (resolve three (rematerializable 1 1) (patch [] (remat (slot 0) 0 ∷ [])) 5 emptyCache) (EmergencySpill 1 2 ∷ Rematerialize (reg 2) 0 ∷ Move (slot 0) (reg 2) 0 ∷ EmergencyReload 2 1 ∷ []) 1 (1 ∷ [])
   pub no-entries : Gives (resolve three (plain 0 1) (patch [] []) 0 emptyCache) [] 0 []
   pub twice : Gives (resolve three (plain 0 1) (patch [] (move (reg 0) (reg 1) 0 ∷ move (reg 0) (reg 1) 0 ∷ [])) 8 emptyCache) (Move (reg 1) (reg 0) 0 ∷ []) 0 []
   pub no-slot : resolve three (plain 0 0) (patch [] swap) 16 emptyCache ≡ refused 17
@@ -181,8 +181,8 @@ abbrev pub fixed : ℕ → ValueData
 fixed b = record { bank = b; cost = 0; class = 0 }
 
 -- of cost 2, rebuilt by the class
-abbrev pub rebuilt : ℕ → ValueData
-rebuilt c = record { bank = 0; cost = 2; class = c }
+abbrev pub rematValue : ℕ → ValueData
+rematValue c = record { bank = 0; cost = 2; class = c }
 
 -- a function of these values; N and L
 abbrev pub over : List ValueData → ℕ → ℕ → Function
@@ -216,7 +216,7 @@ pub record ToldApart : Type 0 where
       (Move (slot 0) (reg 2) 0 ∷ Move (reg 1) (reg 0) 1 ∷ Move (reg 5) (slot 0) 0 ∷ Move (reg 3) (slot 0) 0 ∷ []) 1 (0 ∷ [])
   -- a rebuild's scratch made available: r2 is evicted for the rebuild into slot 0, and r0 and r1 are not swapped through it
   pub scratch-unavailable :
-      Gives (resolve three (over (fixed 0 ∷ rebuilt 1 ∷ []) 2 2) (patch [] (move (reg 0) (reg 1) 0 ∷ move (reg 1) (reg 0) 1 ∷ move (slot 1) (slot 0) 1 ∷ [])) 21 emptyCache)
+      Gives (resolve three (over (fixed 0 ∷ rematValue 1 ∷ []) 2 2) (patch [] (move (reg 0) (reg 1) 0 ∷ move (reg 1) (reg 0) 1 ∷ move (slot 1) (slot 0) 1 ∷ [])) 21 emptyCache)
       (EmergencySpill 2 2 ∷ Move (slot 3) (reg 1) 1 ∷ Move (reg 1) (reg 0) 0 ∷ Move (reg 0) (slot 3) 1 ∷ Rematerialize (reg 2) 1 ∷ Move (slot 0) (reg 2) 1 ∷ EmergencyReload 2 2 ∷ []) 2 (2 ∷ 3 ∷ [])
   -- the destination made available after the source is made unavailable: r2, where r0 and r1 overlap, is not to be had
   pub source-last :
@@ -234,7 +234,7 @@ pub record ToldApart : Type 0 where
   pub first-usable : Gives (resolve three (plain 2 1) (patch (1 ∷ 2 ∷ []) (move (slot 0) (slot 1) 0 ∷ [])) 8 emptyCache) (Move (reg 1) (slot 0) 0 ∷ Move (slot 1) (reg 1) 0 ∷ []) 0 []
   -- rebuilds in the order of the entries: "Edits are made backwards"
   pub rebuilds-backwards :
-      Gives (resolve three (over (rebuilt 1 ∷ rebuilt 1 ∷ []) 0 1) (patch [] (remat (reg 0) 0 ∷ remat (reg 1) 1 ∷ [])) 2 emptyCache) (Rematerialize (reg 1) 1 ∷ Rematerialize (reg 0) 0 ∷ []) 0 []
+      Gives (resolve three (over (rematValue 1 ∷ rematValue 1 ∷ []) 0 1) (patch [] (remat (reg 0) 0 ∷ remat (reg 1) 1 ∷ [])) 2 emptyCache) (Rematerialize (reg 1) 1 ∷ Rematerialize (reg 0) 0 ∷ []) 0 []
   -- values let go in another order than received: the move to r1 carries value 1, then value 2
   pub let-go-as-received :
       Gives (resolve six (over (fixed 0 ∷ fixed 0 ∷ fixed 0 ∷ []) 0 2) (patch [] (move (reg 0) (reg 1) 0 ∷ move (reg 2) (reg 3) 1 ∷ move (reg 4) (reg 5) 2 ∷ [])) 24 emptyCache)
@@ -249,14 +249,14 @@ pub record ToldApart : Type 0 where
       (Move (slot 1) (reg 3) 3 ∷ Move (reg 3) (reg 2) 2 ∷ Move (reg 2) (slot 1) 3 ∷ []) 2 (updated 2 (1 ∷ []) (updated 3 (0 ∷ []) (λ z. [])))
   -- a rebuild that leaves its destination unavailable: r0 and r1 are swapped through r2
   pub rebuilt-available :
-      Gives (resolve three (over (fixed 0 ∷ fixed 0 ∷ rebuilt 1 ∷ []) 0 1) (patch [] (move (reg 0) (reg 1) 0 ∷ move (reg 1) (reg 0) 1 ∷ remat (reg 2) 2 ∷ [])) 17 emptyCache)
+      Gives (resolve three (over (fixed 0 ∷ fixed 0 ∷ rematValue 1 ∷ []) 0 1) (patch [] (move (reg 0) (reg 1) 0 ∷ move (reg 1) (reg 0) 1 ∷ remat (reg 2) 2 ∷ [])) 17 emptyCache)
       (Move (reg 2) (reg 1) 1 ∷ Move (reg 1) (reg 0) 0 ∷ Move (reg 0) (reg 2) 1 ∷ Rematerialize (reg 2) 2 ∷ []) 0 []
   -- the same of a rebuild with scratch
   pub rebuilt-by-scratch-available :
-      Gives (resolve slotsAlone (over (fixed 0 ∷ fixed 0 ∷ rebuilt 2 ∷ []) 0 2) (patch [] (move (reg 0) (reg 1) 0 ∷ move (reg 1) (reg 0) 1 ∷ remat (reg 2) 2 ∷ [])) 21 emptyCache)
+      Gives (resolve slotsAlone (over (fixed 0 ∷ fixed 0 ∷ rematValue 2 ∷ []) 0 2) (patch [] (move (reg 0) (reg 1) 0 ∷ move (reg 1) (reg 0) 1 ∷ remat (reg 2) 2 ∷ [])) 21 emptyCache)
       (Move (reg 2) (reg 1) 1 ∷ Move (reg 1) (reg 0) 0 ∷ Move (reg 0) (reg 2) 1 ∷ Rematerialize (slot 0) 2 ∷ Move (reg 2) (slot 0) 2 ∷ []) 1 (0 ∷ [])
   -- a memory register read like another, its value being rebuilt more cheaply than loaded
-  pub memory-rebuilt : Gives (resolve memory (over (rebuilt 1 ∷ []) 0 1) (patch [] (move (reg 2) (reg 0) 0 ∷ [])) 1 emptyCache) (Rematerialize (reg 0) 0 ∷ []) 0 []
+  pub memory-rebuilt : Gives (resolve memory (over (rematValue 1 ∷ []) 0 1) (patch [] (move (reg 2) (reg 0) 0 ∷ [])) 1 emptyCache) (Rematerialize (reg 0) 0 ∷ []) 0 []
   -- a value counted for each unit that its writer writes: r0 and r1 of two units are swapped
   pub writer-counted-once :
       Gives (resolve six (plain 0 1) (patch [] swap) 16 emptyCache) (Move (slot 0) (reg 1) 1 ∷ Move (reg 1) (reg 0) 0 ∷ Move (reg 0) (slot 0) 1 ∷ []) 1 (0 ∷ [])

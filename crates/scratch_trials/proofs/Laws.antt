@@ -34,7 +34,7 @@ use Rattle.target_check.specs.declared.TargetCheck.{TargetCheck}
 use Rattle.target_check.specs.Checked.{numberOf}
 use Rattle.target_check.proofs.TargetCheck.{the-type}
 use Rattle.scratch_trials.specs.Cells.{afterTrials}
-use Rattle.scratch_trials.specs.Steps.{Started, Ends, slotToSlot, slotsSwapped, rebuilt}
+use Rattle.scratch_trials.specs.Steps.{Started, Ends, slotToSlot, slotsSwapped, rematted}
 
 pub never : {A : Type 0} → false ≡ true → A
 never e = absurd (let x : _≡_ {A = ℕ} 0 1 = cc in omega arith)
@@ -103,13 +103,13 @@ module _ (t f cache : List ℕ) where
     swapped c d₂ k₁ k₂ k₃ k₄ x₂ x₃ x₄ x₅ eb ec first then last all few =
         record { is = rw (same-bank f w, same-bank f v, ← eb, ← ec, div .is, first .is, then .is, last .is) (ap some (sym (all .is))); few = few }
 
-  pub through-rebuilt : (b v c : ℕ) (barred : ℕ → Bool) (to : Place) (k k₁ k₂ k₃ k₄ k₅ : ScratchAllocator) (w w₁ : Tables) (r : Scratch) (w₂ w₃ : Tables) (e : List ℕ) (w₄ : Tables) (l : List Bool) (w₅ : Tables) → b ≡ valueBank (functionOf f) v
+  pub through-remat : (b v c : ℕ) (barred : ℕ → Bool) (to : Place) (k k₁ k₂ k₃ k₄ k₅ : ScratchAllocator) (w w₁ : Tables) (r : Scratch) (w₂ w₃ : Tables) (e : List ℕ) (w₄ : Tables) (l : List Bool) (w₅ : Tables) → b ≡ valueBank (functionOf f) v
       → Brought t f cache k w k₁ w₁ (rules.unevictForReg (T t) (F f) to) → Found t f cache k₁ w₁ r w₂ (rules.getScratchReg (T t) (F f) b c barred) → Moved t f cache (r .allocator) w₂ k₂ w₃ (rules.moveEdits (T t) (F f) b to (placeAt (r .place .0)) v)
       → editsOf e ≡ Rematerialize (placeAt (r .place .0)) v ∷ editsOf (w₃ .edits) → Released t f cache k₂ (tables e (w₃ .available) (w₃ .slots)) k₃ w₄ (rules.releasePlace (T t) (F f) (spillslotSize (T t) b) (placeAt (r .place .0)))
       → allocatorOf t k₄ (w₄ .edits) l (w₄ .slots) cache ≡ rules.makeAvailable (T t) (F f) to (stateOf t f cache k₃ w₄) → Brought t f cache k₄ (tables (w₄ .edits) l (w₄ .slots)) k₅ w₅ (rules.unevictAll (T t) (F f)) → countOf (w₅ .edits) ≤ 1024
-      → Ends t f cache (rebuilt (T t) (F f) barred to v c) k w k₅ w₅
-  unfolding rebuilt andThen
-  through-rebuilt b v c barred to k k₁ k₂ k₃ k₄ k₅ w w₁ r w₂ w₃ e w₄ l w₅ eb before found moved pushed released marked all few =
+      → Ends t f cache (rematted (T t) (F f) barred to v c) k w k₅ w₅
+  unfolding rematted andThen
+  through-remat b v c barred to k k₁ k₂ k₃ k₄ k₅ w w₁ r w₂ w₃ e w₄ l w₅ eb before found moved pushed released marked all few =
       let made : stateOf t f cache k₂ (tables e (w₃ .available) (w₃ .slots)) ≡ rules.push (Rematerialize (placeAt (r .place .0)) v) (stateOf t f cache k₂ w₃) = rw pushed in
       let done : stateOf t f cache k₅ w₅ ≡ rules.unevictAll (T t) (F f) (rules.makeAvailable (T t) (F f) to (rules.releasePlace (T t) (F f) (spillslotSize (T t) b) (placeAt (r .place .0)) (rules.push (Rematerialize (placeAt (r .place .0)) v) (stateOf t f cache k₂ w₃)))) =
       all .is ∙ ap (rules.unevictAll (T t) (F f)) (marked ∙ ap (rules.makeAvailable (T t) (F f) to) (released .is ∙ ap (rules.releasePlace (T t) (F f) (spillslotSize (T t) b) (placeAt (r .place .0))) made)) in

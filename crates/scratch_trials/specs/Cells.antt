@@ -25,12 +25,12 @@ abbrev pub movedValues : List (ℕ × ℕ)
 movedValues = (16384, 2) ∷ (16385, 2) ∷ (16386, 2) ∷ (16387, 1) ∷ []
 
 -- two values, of which class 1 rebuilds the first; N is 1
-abbrev pub rebuiltValue : List (ℕ × ℕ)
-rebuiltValue = (1, 2) ∷ (2, 1) ∷ (16384, 2) ∷ (16385, 1) ∷ []
+abbrev pub rematValue : List (ℕ × ℕ)
+rematValue = (1, 2) ∷ (2, 1) ∷ (16384, 2) ∷ (16385, 1) ∷ []
 
 -- the function's table after all trials, of which a target that is refused has none
 abbrev pub afterTrials : Option ℕ → List ℕ → List ℕ
-afterTrials none f = withCells rebuiltValue (withCells movedValues f)
+afterTrials none f = withCells rematValue (withCells movedValues f)
 afterTrials (some n) f = f
 
 -- the words of the edits made, and zeros behind them

@@ -38,8 +38,8 @@ module _ (t : RegInfo) (f : Function) where
       (λ z. andThen (undivertBy t f (valueBank f w) w (x .diversion) z)
       (λ e. some (rules.unevictAll t f (e .allocator))))))
 
-  unfoldable pub rebuilt : (ℕ → Bool) → Place → ℕ → ℕ → rules.ScratchAllocator → Option rules.ScratchAllocator
-  rebuilt barred to v c k =
+  unfoldable pub rematted : (ℕ → Bool) → Place → ℕ → ℕ → rules.ScratchAllocator → Option rules.ScratchAllocator
+  rematted barred to v c k =
       andThen (rules.getScratchReg t f (valueBank f v) c barred (rules.unevictForReg t f to k))
       (λ x. andThen (rules.moveEdits t f (valueBank f v) to (x .place) v (x .scratch))
       (λ y. some (rules.unevictAll t f (rules.makeAvailable t f to (rules.releasePlace t f (spillslotSize t (valueBank f v)) (x .place) (rules.push (Rematerialize (x .place) v) y))))))

@@ -32,8 +32,8 @@ ghost use Rattle.scratch.specs.State.{T, F, Fits, PlaceFits};
 ghost use Rattle.scratch.specs.Contracts.{tables};
 ghost use Rattle.scratch.specs.Diversions.{countAt, diversionAt};
 ghost use Rattle.search.specs.Search.{barredBy};
-ghost use Rattle.scratch_trials.specs.Steps.{Started, slotToSlot, slotsSwapped, rebuilt, Ends};
-ghost use Rattle.scratch_trials.specs.Cells.{withCells, threeRegisters, movedValues, rebuiltValue, afterTrials, handedOut, differFrom};
+ghost use Rattle.scratch_trials.specs.Steps.{Started, slotToSlot, slotsSwapped, rematted, Ends};
+ghost use Rattle.scratch_trials.specs.Cells.{withCells, threeRegisters, movedValues, rematValue, afterTrials, handedOut, differFrom};
 
 // Nothing made, nothing available, an empty cache.
 fn start(
@@ -117,7 +117,7 @@ fn slots_swapped(
 }
 
 // A rebuild into a place through a scratch of a class.
-fn rebuild(
+fn remat(
     k: ScratchAllocator,
     t: &RegInfo,
     f: &Function,
@@ -131,7 +131,7 @@ fn rebuild(
     c: RegClass,
 ) -> ScratchAllocator
     requires { ⌜ Checked (now t) (now f) × PlaceFits (now t) (to .0) × (v .0 < numValues (functionOf (now f))) × (c .0 < numClasses (T (now t))) × Fits 0 2 8 (now t) k (now edits) (now slots) (now cache) ⌝ }
-    ensures { λ r. ⌜ Ends (now (t .entry)) (now (f .entry)) (now (cache .entry)) (rebuilt (T (now (t .entry))) (F (now (f .entry))) (barredBy false (now (sources .entry))) (placeAt (to .0)) (v .0) (c .0)) k (tables (now (edits .entry)) (now (available .entry)) (now (slots .entry))) r (tables (now (edits .exit)) (now (available .exit)) (now (slots .exit))) ⌝ }
+    ensures { λ r. ⌜ Ends (now (t .entry)) (now (f .entry)) (now (cache .entry)) (rematted (T (now (t .entry))) (F (now (f .entry))) (barredBy false (now (sources .entry))) (placeAt (to .0)) (v .0) (c .0)) k (tables (now (edits .entry)) (now (available .entry)) (now (slots .entry))) r (tables (now (edits .exit)) (now (available .exit)) (now (slots .exit))) ⌝ }
 {
     let b = function::value_bank(f, v);
     let before = k.unevict_for_reg(t, f, cache, edits, slots, to);
@@ -276,7 +276,7 @@ fn report_slots_swapped(t: &RegInfo, f: &Function)
     report(b"slots swapped", differ(&edits, want));
 }
 
-fn report_rebuild(t: &RegInfo, f: &Function)
+fn report_remat(t: &RegInfo, f: &Function)
     requires { ⌜ Checked (now t) (now f) × (1 < numValues (functionOf (now f))) ⌝ }
 {
     let mut cache = [0u16; 65600];
@@ -288,7 +288,7 @@ fn report_rebuild(t: &RegInfo, f: &Function)
         return;
     }
     let k = start(&mut available, &mut edits, &mut slots, &mut cache);
-    rebuild(
+    remat(
         k,
         t,
         f,
@@ -345,16 +345,16 @@ fn move_trials(t: &RegInfo, f: &mut Function)
 }
 
 // The trial with a value that class 1 rebuilds; N is 1.
-fn rebuild_trial(t: &RegInfo, f: &mut Function)
+fn remat_trial(t: &RegInfo, f: &mut Function)
     requires { ⌜ reginfo.Accepted (regInfoOf (now t)) × Indexed (now t) ⌝ }
-    ensures { λ _. ⌜ now (f .exit) ≡ withCells rebuiltValue (now (f .entry)) ⌝ }
+    ensures { λ _. ⌜ now (f .exit) ≡ withCells rematValue (now (f .entry)) ⌝ }
 {
     f[1] = 2;
     f[2] = 1;
     f[16384] = 2;
     f[16385] = 1;
     if ready(t, f) {
-        report_rebuild(t, f);
+        report_remat(t, f);
     }
 }
 
@@ -366,7 +366,7 @@ fn trials(t: &mut RegInfo, f: &mut Function)
         return;
     };
     move_trials(t, f);
-    rebuild_trial(t, f);
+    remat_trial(t, f);
 }
 
 fn main() {

@@ -310,8 +310,8 @@ fn main() {
     let patches = arguments::narrow(number_at(2));
     let p = Prices {
         moves: arguments::narrow(number_at(3)),
-        rebuilds: arguments::narrow(number_at(4)),
-        saves: arguments::narrow(number_at(5)),
+        remats: arguments::narrow(number_at(4)),
+        spills: arguments::narrow(number_at(5)),
         reloads: arguments::narrow(number_at(6)),
     };
     let n = io::read_full(0, &mut job);

@@ -97,8 +97,8 @@ reported t p l n g =
     record {
       accepted = other 0 (λ e. omega arith) ∙ g 0 (omega arith);
       moves = other 1 (λ e. omega arith) ∙ g 1 (omega arith);
-      rebuilds = other 2 (λ e. omega arith) ∙ g 2 (omega arith);
-      saves = other 3 (λ e. omega arith) ∙ g 3 (omega arith);
+      remats = other 2 (λ e. omega arith) ∙ g 2 (omega arith);
+      spills = other 3 (λ e. omega arith) ∙ g 3 (omega arith);
       reloads = other 4 (λ e. omega arith) ∙ g 4 (omega arith);
       evictions = getD-set-same t 5 (getD t 4 0) 0 (omega arith) ∙ g 4 (omega arith);
       price = other 6 (λ e. omega arith) ∙ g 6 (omega arith);
@@ -121,8 +121,8 @@ untried t f f′ kept p seed count tally c g e n z =
           (record {
             accepted = zero-at 0 (omega arith);
             moves = zero-at 1 (omega arith);
-            rebuilds = zero-at 2 (omega arith);
-            saves = zero-at 3 (omega arith);
+            remats = zero-at 2 (omega arith);
+            spills = zero-at 3 (omega arith);
             reloads = zero-at 4 (omega arith);
             evictions = zero-at 5 (omega arith);
             price = zero-at 6 (omega arith);

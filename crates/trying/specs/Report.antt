@@ -47,8 +47,8 @@ ofKind k es = length (filter (λ e. eqb (kindOf e) k) es)
 pub record Reported (table : List ℕ) (p : Prices) (l : List Answer) : Type 0 where
   pub accepted : getD table 0 0 ≡ acceptedIn l
   pub moves : getD table 1 0 ≡ ofKind 1 (editsIn l)
-  pub rebuilds : getD table 2 0 ≡ ofKind 2 (editsIn l)
-  pub saves : getD table 3 0 ≡ ofKind 3 (editsIn l)
+  pub remats : getD table 2 0 ≡ ofKind 2 (editsIn l)
+  pub spills : getD table 3 0 ≡ ofKind 3 (editsIn l)
   pub reloads : getD table 4 0 ≡ ofKind 4 (editsIn l)
   pub evictions : getD table 5 0 ≡ ofKind 4 (editsIn l)
   pub price : getD table 6 0 ≡ fromFirst (priceOf p) (editsIn l)

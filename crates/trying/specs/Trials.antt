@@ -71,7 +71,7 @@ fiveValues =
     }
 
 abbrev pub prices : Prices
-prices = record { moves = 4; rebuilds = 6; saves = 16; reloads = 12 }
+prices = record { moves = 4; remats = 6; spills = 16; reloads = 12 }
 
 -- accepted, M, R, S, L, price, and how many are refused with 9, 10, 12, 14, 17 and 21
 abbrev pub row : Tries → List ℕ

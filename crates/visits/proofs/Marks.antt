@@ -11,14 +11,14 @@ use borrow.Author.Tests.{eqb-true, eqb-false, lt-ltb, ltb-true}
 use Rattle.entity.specs.Logic.{pick}
 use Rattle.entity.proofs.Laws.{drop-step, getD-built, length-built}
 use Rattle.rules.specs.Edit.{updated}
-use Rattle.rules.specs.Order.{KeptMove, noMove, New, Pending, Done, isNew, isPending}
+use Rattle.rules.specs.Order.{KeptMove, noMove, New, Pending, Done, isNew, isPending, noRemat}
 use Rattle.entries.specs.Table.{rematAt, sortedOf}
-use Rattle.visits.specs.Marks.{rematsOf, noRebuild, uncounted, stateAt, statesOf, allNew, isNoted}
+use Rattle.visits.specs.Marks.{rematsOf, uncounted, stateAt, statesOf, allNew, isNoted}
 
 -- a rebuild without scratch
-pub remat-is : (e : List ℕ) (i : ℕ) → i < length (rematsOf e) → getD (rematsOf e) i noRebuild ≡ rematAt 512 e i
+pub remat-is : (e : List ℕ) (i : ℕ) → i < length (rematsOf e) → getD (rematsOf e) i noRemat ≡ rematAt 512 e i
 unfolding sortedOf
-remat-is e i h = getD-built (rematAt 512 e) 0 (getD e 1025 0) i noRebuild (rw length-built at h) ∙ ap (rematAt 512 e) (omega arith)
+remat-is e i h = getD-built (rematAt 512 e) 0 (getD e 1025 0) i noRemat (rw length-built at h) ∙ ap (rematAt 512 e) (omega arith)
 
 new-at : (b : ℕ) → isNew (stateAt b) ≡ eqb b 0
 unfolding stateAt

@@ -21,7 +21,7 @@ use Rattle.rules.specs.Order.{KeptMove, noMove, State, isPending, writerFrom, w
 use Rattle.search.specs.Search.{unitsOf, withUnits}
 use Rattle.entries.specs.Table.{sortedOf}
 use Rattle.function.specs.Known.{Checked}
-use Rattle.entries.specs.Known.{Writable, orRebuilt, writerOf, Tracked, EntriesOk}
+use Rattle.entries.specs.Known.{Writable, orRemat, writerOf, Tracked, EntriesOk}
 use Rattle.entries.proofs.Fates.{writable}
 use Rattle.entries.proofs.Lists.{any-same, any-step}
 use Rattle.visits.specs.declared.Writer.{Writer}
@@ -55,14 +55,14 @@ module _ (t : RegInfo) (f : Function) (ms : List KeptMove) where
   writer-same g i [] u = refl
   writer-same g i (m ∷ l) u = ap (pick (has u (placeUnits t (m .dest))) (some i)) (writer-same g (i + 1) l u)
 
-  kept-from : (i : ℕ) (l : List KeptMove) (u : ℕ) (b : Bool) → i + length l ≤ 128 → keptOnly (orRebuilt (writerFrom t f ms i l u) b) ≡ writerFrom t f ms i l u
+  kept-from : (i : ℕ) (l : List KeptMove) (u : ℕ) (b : Bool) → i + length l ≤ 128 → keptOnly (orRemat (writerFrom t f ms i l u) b) ≡ writerFrom t f ms i l u
   unfolding writerFrom keptOnly
   kept-from i [] u true h = refl
   kept-from i [] u false h = refl
   kept-from i (m ∷ l) u b h = go (has u (placeUnits t (m .dest))) (kept-from (i + 1) l u b (omega arith))
     where
-      go : (c : Bool) → keptOnly (orRebuilt (writerFrom t f ms (i + 1) l u) b) ≡ writerFrom t f ms (i + 1) l u
-          → keptOnly (orRebuilt (pick c (some i) (writerFrom t f ms (i + 1) l u)) b) ≡ pick c (some i) (writerFrom t f ms (i + 1) l u)
+      go : (c : Bool) → keptOnly (orRemat (writerFrom t f ms (i + 1) l u) b) ≡ writerFrom t f ms (i + 1) l u
+          → keptOnly (orRemat (pick c (some i) (writerFrom t f ms (i + 1) l u)) b) ≡ pick c (some i) (writerFrom t f ms (i + 1) l u)
       go true e = rw (lt-ltb i 128 (omega arith))
       go false e = e
 

@@ -6,7 +6,6 @@ use mathlib.Core.List.{List, [], _∷_}
 use lib.Dec.{eqb, ltb}
 use lib.ListN.{length, getD, set}
 use Rattle.entity.specs.Logic.{pick}
-use Rattle.entity.specs.Place.{slot}
 use Rattle.rules.specs.Order.{KeptMove, Remat, noMove, State, New, Pending, Done}
 use Rattle.entries.specs.Table.{sortedOf}
 
@@ -18,9 +17,6 @@ rematsOf e = sortedOf e .remats
 
 abbrev pub rematsWithScratchOf : List ℕ → List Remat
 rematsWithScratchOf e = sortedOf e .rematsWithScratch
-
-abbrev pub noRebuild : Remat
-noRebuild = record { dest = slot 0; value = 0 }
 
 -- few moves, of values below the limit
 pub record Small (ms : List KeptMove) : Type 0 where

@@ -19,11 +19,11 @@ ghost use Rattle.reginfo.specs.RegInfo.{isMemory};
 ghost use Rattle.reginfo.specs.Table.{regInfoOf};
 ghost use Rattle.function.specs.Function.{Function};
 ghost use Rattle.rules.specs.Edit.{updated};
-ghost use Rattle.rules.specs.Order.{noMove, Pending, Done, isNew, isPending, carry, value, writers, cycleMoveSources};
+ghost use Rattle.rules.specs.Order.{noMove, Pending, Done, isNew, isPending, carry, value, writers, cycleMoveSources, noRemat};
 ghost use Rattle.sparse.specs.Map.{Linked};
 ghost use Rattle.small_set.specs.Set.{setOf};
 ghost use Rattle.carried.specs.Carried.{countOf};
-ghost use Rattle.visits.specs.Marks.{movesOf, rematsOf, rematsWithScratchOf, noRebuild, Small, uncounted, statesOf, allNew, isNoted};
+ghost use Rattle.visits.specs.Marks.{movesOf, rematsOf, rematsWithScratchOf, Small, uncounted, statesOf, allNew, isNoted};
 ghost use Rattle.visits.specs.Writers.{writerIs, keptWriter, isOpen, KeptOk, Ready};
 ghost use Rattle.visits.specs.Carry.{carryFor, CarriedAs};
 
@@ -88,14 +88,14 @@ pub fn num_remats(e: &Entries) -> usize
 
 pub fn remat_dest(e: &Entries, i: usize) -> Allocation
     requires { ⌜ (i < length (rematsOf (now e))) × (length (rematsOf (now e)) ≤ 128) ⌝ }
-    ensures { λ p. ⌜ placeAt (p .0) ≡ getD (rematsOf (now (e .entry))) i noRebuild .dest ⌝ }
+    ensures { λ p. ⌜ placeAt (p .0) ≡ getD (rematsOf (now (e .entry))) i noRemat .dest ⌝ }
 {
     Allocation(e[512 + i * 2])
 }
 
 pub fn remat_value(e: &Entries, i: usize) -> Value
     requires { ⌜ (i < length (rematsOf (now e))) × (length (rematsOf (now e)) ≤ 128) ⌝ }
-    ensures { λ v. ⌜ v .0 ≡ getD (rematsOf (now (e .entry))) i noRebuild .value ⌝ }
+    ensures { λ v. ⌜ v .0 ≡ getD (rematsOf (now (e .entry))) i noRemat .value ⌝ }
 {
     Value(e[513 + i * 2])
 }
@@ -108,14 +108,14 @@ pub fn num_remats_with_scratch(e: &Entries) -> usize
 
 pub fn remat_with_scratch_dest(e: &Entries, i: usize) -> Allocation
     requires { ⌜ (i < length (rematsWithScratchOf (now e))) × (length (rematsWithScratchOf (now e)) ≤ 128) ⌝ }
-    ensures { λ p. ⌜ placeAt (p .0) ≡ getD (rematsWithScratchOf (now (e .entry))) i noRebuild .dest ⌝ }
+    ensures { λ p. ⌜ placeAt (p .0) ≡ getD (rematsWithScratchOf (now (e .entry))) i noRemat .dest ⌝ }
 {
     Allocation(e[768 + i * 2])
 }
 
 pub fn remat_with_scratch_value(e: &Entries, i: usize) -> Value
     requires { ⌜ (i < length (rematsWithScratchOf (now e))) × (length (rematsWithScratchOf (now e)) ≤ 128) ⌝ }
-    ensures { λ v. ⌜ v .0 ≡ getD (rematsWithScratchOf (now (e .entry))) i noRebuild .value ⌝ }
+    ensures { λ v. ⌜ v .0 ≡ getD (rematsWithScratchOf (now (e .entry))) i noRemat .value ⌝ }
 {
     Value(e[769 + i * 2])
 }

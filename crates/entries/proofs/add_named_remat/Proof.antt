@@ -4,10 +4,10 @@ use Rattle.entity.specs.Place.{placeAt}
 use borrow.Author.Tests.{not-true, not-false}
 use Rattle.function.specs.Table.{functionOf}
 use Rattle.function.specs.Answers.{rematOf}
-use Rattle.function.proofs.Laws.{never-rebuilt, rebuilt}
+use Rattle.function.proofs.Laws.{never-remat, remat-known}
 use Rattle.entries.proofs.Table.{entries-count}
 use Rattle.entries.proofs.Fates.{writable, value-known, class-known}
-use Rattle.entries.proofs.Adding.{roomy, foreign-remat, not-rebuilt, added-remat}
+use Rattle.entries.proofs.Adding.{roomy, foreign-remat, not-remat, added-remat}
 use borrow.Author.Needs.{needs}
 use Rattle.entries.proofs.add_named_remat.Statement.{statement}
 use Rattle.entries.proofs.add_named_remat.Tie as tie
@@ -32,8 +32,8 @@ enum-told c = search needs
 enum-known-c : tie.Need-enum-known-c
 enum-known-c c = search needs
 
-rebuild-in-requires : tie.Need-rebuild-in-requires
-rebuild-in-requires c κs =
+new-remat-in-requires : tie.Need-new-remat-in-requires
+new-remat-in-requires c κs =
     let s = c .before .before .before .before .before .before .before .before .before in
     let t = s .args .t .now in
     let f = s .args .f .now in
@@ -42,8 +42,8 @@ rebuild-in-requires c κs =
 enum-known-c-2 : tie.Need-enum-known-c-2
 enum-known-c-2 c = search needs
 
-rebuild-in-requires-2 : tie.Need-rebuild-in-requires-2
-rebuild-in-requires-2 c κs =
+new-remat-in-requires-2 : tie.Need-new-remat-in-requires-2
+new-remat-in-requires-2 c κs =
     let s = c .before .before .before .before .before .before .before .before .before in
     let t = s .args .t .now in
     let f = s .args .f .now in
@@ -53,21 +53,21 @@ returns-2 : tie.Need-returns-2
 returns-2 c =
     let s = c .before .before .before .before .before .before in
     let f = s .args .f .now in
-    not-rebuilt _ _ _ _ (s .pre .0) (s .pre .1) _ _ (s .pre .2) (rw (← c .before .before .before .before .before .value-bank .ensures) (sym (c .before .before .before .before .of-bank .ensures) ∙ not-false _ (c .before .before .before .if1 .left))) (never-rebuilt (functionOf f) (s .args .v .0) (sym (ap rematOf (c .enum-told .given .1)) ∙ c .before .before .can-rematerialize .ensures))
+    not-remat _ _ _ _ (s .pre .0) (s .pre .1) _ _ (s .pre .2) (rw (← c .before .before .before .before .before .value-bank .ensures) (sym (c .before .before .before .before .of-bank .ensures) ∙ not-false _ (c .before .before .before .if1 .left))) (never-remat (functionOf f) (s .args .v .0) (sym (ap rematOf (c .enum-told .given .1)) ∙ c .before .before .can-rematerialize .ensures))
 
 returns-3 : tie.Need-returns-3
 returns-3 c =
     let s = c .before .before .before .before .before .before .before .before .before .before in
     let f = s .args .f .now in
-    let q = rebuilt (functionOf f) (s .args .v .0) _ (sym (ap rematOf (c .before .before .before .before .c .given .1)) ∙ c .before .before .before .before .before .before .can-rematerialize .ensures) in
-    added-remat _ _ _ _ (s .pre .0) (s .pre .1) _ (s .args .dest .0) (s .args .v .0) (s .pre .2) (rw (← c .before .before .before .before .before .before .before .before .before .value-bank .ensures) (sym (c .before .before .before .before .before .before .before .before .of-bank .ensures) ∙ not-false _ (c .before .before .before .before .before .before .before .if1 .left))) (q .0) (q .2) _ _ _ (c .rebuild-in .ensures)
+    let q = remat-known (functionOf f) (s .args .v .0) _ (sym (ap rematOf (c .before .before .before .before .c .given .1)) ∙ c .before .before .before .before .before .before .can-rematerialize .ensures) in
+    added-remat _ _ _ _ (s .pre .0) (s .pre .1) _ (s .args .dest .0) (s .args .v .0) (s .pre .2) (rw (← c .before .before .before .before .before .before .before .before .before .value-bank .ensures) (sym (c .before .before .before .before .before .before .before .before .of-bank .ensures) ∙ not-false _ (c .before .before .before .before .before .before .before .if1 .left))) (q .0) (q .2) _ _ _ (c .new-remat-in .ensures)
 
 returns-4 : tie.Need-returns-4
 returns-4 c =
     let s = c .before .before .before .before .before .before .before .before .before .before in
     let f = s .args .f .now in
-    let q = rebuilt (functionOf f) (s .args .v .0) _ (sym (ap rematOf (c .before .before .before .before .c2 .given .1)) ∙ c .before .before .before .before .before .before .can-rematerialize .ensures) in
-    added-remat _ _ _ _ (s .pre .0) (s .pre .1) _ (s .args .dest .0) (s .args .v .0) (s .pre .2) (rw (← c .before .before .before .before .before .before .before .before .before .value-bank .ensures) (sym (c .before .before .before .before .before .before .before .before .of-bank .ensures) ∙ not-false _ (c .before .before .before .before .before .before .before .if1 .left))) (q .0) (q .2) _ _ _ (c .rebuild-in2 .ensures)
+    let q = remat-known (functionOf f) (s .args .v .0) _ (sym (ap rematOf (c .before .before .before .before .c2 .given .1)) ∙ c .before .before .before .before .before .before .can-rematerialize .ensures) in
+    added-remat _ _ _ _ (s .pre .0) (s .pre .1) _ (s .args .dest .0) (s .args .v .0) (s .pre .2) (rw (← c .before .before .before .before .before .before .before .before .before .value-bank .ensures) (sym (c .before .before .before .before .before .before .before .before .of-bank .ensures) ∙ not-false _ (c .before .before .before .before .before .before .before .if1 .left))) (q .0) (q .2) _ _ _ (c .new-remat-in2 .ensures)
 
 pub add-named-remat-spec : {M : Type 1} → statement M
 add-named-remat-spec =
@@ -79,9 +79,9 @@ add-named-remat-spec =
     can-rematerialize-requires
     enum-told
     enum-known-c
-    rebuild-in-requires
+    new-remat-in-requires
     enum-known-c-2
-    rebuild-in-requires-2
+    new-remat-in-requires-2
     returns-2
     returns-3
     returns-4)

@@ -16,20 +16,20 @@ use Rattle.examine_run.proofs.Laws.{remat-no, remat-yes, takes-class}
 use Rattle.examine_run.proofs.do_remat.Statement.{statement}
 use Rattle.examine_run.proofs.do_remat.Tie as tie
 
-can-rebuild-requires : tie.Need-can-rebuild-requires
-can-rebuild-requires c κs = (c .pre .0, c .pre .3 .known, c .pre .4)
+can-remat-requires : tie.Need-can-remat-requires
+can-remat-requires c κs = (c .pre .0, c .pre .3 .known, c .pre .4)
 
 returns : tie.Need-returns
-returns c = let s = c .before .before in let t = regInfoOf (s .args .t .now) in let f = functionOf (s .args .f .now) in (remat-no t f (genericContent t f (sortedOf (s .args .e .now) .moves)) (memoryOf (s .args .c .now)) (placeAt (s .args .to .0)) (s .args .v .0) (sym (c .before .can-rebuild .ensures) ∙ not-true (c .before .can-rebuild .result) (c .if1 .taken)), s .pre .2, tt)
+returns c = let s = c .before .before in let t = regInfoOf (s .args .t .now) in let f = functionOf (s .args .f .now) in (remat-no t f (genericContent t f (sortedOf (s .args .e .now) .moves)) (memoryOf (s .args .c .now)) (placeAt (s .args .to .0)) (s .args .v .0) (sym (c .before .can-remat .ensures) ∙ not-true (c .before .can-remat .result) (c .if1 .taken)), s .pre .2, tt)
 
 content-requires : tie.Need-content-requires
 content-requires c κs = let s = c .before .before .before in (s .pre .0, s .pre .1, s .pre .4)
 
 write-requires : tie.Need-write-requires
-write-requires c κs = let s = c .before .before .before .before .before .before in let f = functionOf (s .args .f .now) in let k = c .before .before .content .ensures in let a = and-true (canRematerialize f (s .args .v .0)) (inClass (regInfoOf (s .args .t .now)) (rematClass f (s .args .v .0)) (placeAt (s .args .to .0))) (sym (c .before .before .before .before .before .can-rebuild .ensures) ∙ not-false (c .before .before .before .before .before .can-rebuild .result) (c .before .before .before .before .if1 .left)) in (s .pre .2, s .pre .3, k .2, λ z. k .1 ∙ takes-class (s .args .t .now) (s .args .f .now) (s .pre .0) (s .args .v .0) (s .pre .4) (placeAt (s .args .to .0)) (a .0) (a .1) z)
+write-requires c κs = let s = c .before .before .before .before .before .before in let f = functionOf (s .args .f .now) in let k = c .before .before .content .ensures in let a = and-true (canRematerialize f (s .args .v .0)) (inClass (regInfoOf (s .args .t .now)) (rematClass f (s .args .v .0)) (placeAt (s .args .to .0))) (sym (c .before .before .before .before .before .can-remat .ensures) ∙ not-false (c .before .before .before .before .before .can-remat .result) (c .before .before .before .before .if1 .left)) in (s .pre .2, s .pre .3, k .2, λ z. k .1 ∙ takes-class (s .args .t .now) (s .args .f .now) (s .pre .0) (s .args .v .0) (s .pre .4) (placeAt (s .args .to .0)) (a .0) (a .1) z)
 
 returns-2 : tie.Need-returns-2
-returns-2 c = let s = c .before .before .before .before .before .before .before in let t = regInfoOf (s .args .t .now) in let f = functionOf (s .args .f .now) in (remat-yes t f (genericContent t f (sortedOf (s .args .e .now) .moves)) (memoryOf (s .args .c .now)) (placeAt (s .args .to .0)) (s .args .v .0) _ _ (sym (c .before .before .before .before .before .before .can-rebuild .ensures) ∙ not-false (c .before .before .before .before .before .before .can-rebuild .result) (c .before .before .before .before .before .if1 .left)) (c .before .before .before .content .ensures .0) (c .write .ensures .0 f), c .write .ensures .1, tt)
+returns-2 c = let s = c .before .before .before .before .before .before .before in let t = regInfoOf (s .args .t .now) in let f = functionOf (s .args .f .now) in (remat-yes t f (genericContent t f (sortedOf (s .args .e .now) .moves)) (memoryOf (s .args .c .now)) (placeAt (s .args .to .0)) (s .args .v .0) _ _ (sym (c .before .before .before .before .before .before .can-remat .ensures) ∙ not-false (c .before .before .before .before .before .before .can-remat .result) (c .before .before .before .before .before .if1 .left)) (c .before .before .before .content .ensures .0) (c .write .ensures .0 f), c .write .ensures .1, tt)
 
 pub do-remat-spec : {M : Type 1} → statement M
-do-remat-spec = tie.close (tie.spec can-rebuild-requires returns content-requires write-requires returns-2)
+do-remat-spec = tie.close (tie.spec can-remat-requires returns content-requires write-requires returns-2)

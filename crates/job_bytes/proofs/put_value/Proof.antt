@@ -7,7 +7,7 @@ use Rattle.number.specs.Number.{encoded}
 use Rattle.entity.specs.Logic.{pick}
 use Rattle.job_numbers.specs.Numbers.{bytesOf}
 use Rattle.job_bytes.proofs.Putting.{puts-as, first-over, then-puts}
-use Rattle.job_bytes.proofs.Parts.{plain-bytes, rebuilt-bytes, either-bytes}
+use Rattle.job_bytes.proofs.Parts.{plain-bytes, remat-bytes, either-bytes}
 use borrow.Author.Needs.{needs}
 use Rattle.job_bytes.proofs.put_value.Statement.{statement}
 use Rattle.job_bytes.proofs.put_value.Tie as tie
@@ -79,7 +79,7 @@ returns-3 c =
     let next = c .before .before .before .before .before .next in
     let if1 = c .before .before .before .if1 in
     let put-cell = c .put-cell in
-    then-puts (encoded (getD (args .f .now) (2 + args .v * 4) 0)) (rebuilt-bytes (args .f .now) (args .v) (if1 .left)) (put-two .ensures) (next .given .1) (put-cell .ensures)
+    then-puts (encoded (getD (args .f .now) (2 + args .v * 4) 0)) (remat-bytes (args .f .now) (args .v) (if1 .left)) (put-two .ensures) (next .given .1) (put-cell .ensures)
 
 pub put-value-spec : {M : Type 1} → statement M
 put-value-spec =

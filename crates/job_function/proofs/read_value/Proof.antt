@@ -2,7 +2,7 @@
 use borrow.Author.Needs.{needs}
 use native.Mathlib.Omega.{arith}
 use Rattle.reginfo.proofs.Accepted.{banks-fit}
-use Rattle.job_function.proofs.Values.{below-limit, no-bank, no-cost, never-rebuilt, can-rebuild}
+use Rattle.job_function.proofs.Values.{below-limit, no-bank, no-cost, never-remat, can-remat}
 use Rattle.job_function.proofs.read_value.Statement.{statement}
 use Rattle.job_function.proofs.read_value.Tie as tie
 
@@ -34,7 +34,7 @@ cast-t17 : tie.Need-cast-t17
 cast-t17 c = omega (arith, c .before .before .before .before .before .before .before .before .before .num-banks .ensures, banks-fit _ (c .before .before .before .before .before .before .before .before .before .before .before .pre) .1, below-limit _ _ _ _ _ (rw (c .before .before .before .before .before .before .bank .given .1) at (c .before .before .before .before .before .before .before .before .below .ensures)))
 
 returns : tie.Need-returns
-returns c = never-rebuilt _ _ _ _ (c .before .before .before .before .before .before .before .before .before .num-banks .ensures) _ _ (rw (c .before .before .before .before .before .before .bank .given .1) at (c .before .before .before .before .before .before .before .before .below .ensures)) _ _ (rw (c .before .before .cost .given .1) at (c .before .before .before .before .below2 .ensures)) (c .if1 .taken)
+returns c = never-remat _ _ _ _ (c .before .before .before .before .before .before .before .before .before .num-banks .ensures) _ _ (rw (c .before .before .before .before .before .before .bank .given .1) at (c .before .before .before .before .before .before .before .before .below .ensures)) _ _ (rw (c .before .before .cost .given .1) at (c .before .before .before .before .below2 .ensures)) (c .if1 .taken)
 
 cast-t20 : tie.Need-cast-t20
 cast-t20 c = omega (arith, c .before .before .before .before .before .before .before .before .before .num-banks .ensures, banks-fit _ (c .before .before .before .before .before .before .before .before .before .before .before .pre) .1, below-limit _ _ _ _ _ (rw (c .before .before .before .before .before .before .bank .given .1) at (c .before .before .before .before .before .before .before .before .below .ensures)))
@@ -52,7 +52,7 @@ returns-3 : tie.Need-returns-3
 returns-3 c = no-cost _ _ _ _ (c .before .before .before .before .before .before .before .before .num-banks .ensures) _ _ (rw (c .before .before .before .before .before .bank .given .1) at (c .before .before .before .before .before .before .before .below .ensures)) _ (rw (c .before .k2 .given .1) at (c .before .before .before .below2 .ensures))
 
 returns-4 : tie.Need-returns-4
-returns-4 c = can-rebuild _ _ _ _ (c .before .before .before .before .before .before .before .before .before .before .num-banks .ensures) _ _ (rw (c .before .before .before .before .before .before .before .bank .given .1) at (c .before .before .before .before .before .before .before .before .before .below .ensures)) _ _ (rw (c .before .before .before .cost .given .1) at (c .before .before .before .before .before .below2 .ensures)) (c .before .if1 .left) _ (c .read-remat-class .ensures)
+returns-4 c = can-remat _ _ _ _ (c .before .before .before .before .before .before .before .before .before .before .num-banks .ensures) _ _ (rw (c .before .before .before .before .before .before .before .bank .given .1) at (c .before .before .before .before .before .before .before .before .before .below .ensures)) _ _ (rw (c .before .before .before .cost .given .1) at (c .before .before .before .before .before .below2 .ensures)) (c .before .if1 .left) _ (c .read-remat-class .ensures)
 
 pub read-value-spec : {M : Type 1} → statement M
 read-value-spec =

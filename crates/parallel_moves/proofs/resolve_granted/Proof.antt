@@ -2,7 +2,7 @@
 use mathlib.Core.Path.{sym, _∙_}
 use Rattle.scratch.specs.Contracts.{tables}
 use Rattle.entries.specs.Known.{freeIn}
-use Rattle.rebuilds.proofs.Known.{remats-fit}
+use Rattle.remats.proofs.Known.{remats-fit}
 use Rattle.parallel_moves.proofs.Resolving.{turned-away, remats-room, gives-remats, can-hand-over, gives}
 use borrow.Author.Needs.{needs}
 use Rattle.parallel_moves.proofs.resolve_granted.Statement.{statement}

@@ -1,7 +1,7 @@
 -- `run` meets its contract.
 use mathlib.Core.Path.{_≡_}
-use Rattle.rebuilds.specs.Rebuilds.{Rematted}
-use Rattle.rebuilds.proofs.Known.{remats-fit, remats-ok}
+use Rattle.remats.specs.Remats.{Rematted}
+use Rattle.remats.proofs.Known.{remats-fit, remats-ok}
 use native.Mathlib.Omega.{arith}
 use Rattle.scratch.specs.Contracts.{tables}
 use Rattle.visits.specs.Marks.{rematsOf}

@@ -4,7 +4,7 @@ use mathlib.Core.Path.{sym, ap, _∙_}
 use mathlib.Core.Option.{Option}
 use Rattle.reginfo.specs.Refused.{targetRefusal}
 use Rattle.target_check.specs.Checked.{numberOf}
-use Rattle.scratch_trials.specs.Cells.{withCells, rebuiltValue, afterTrials}
+use Rattle.scratch_trials.specs.Cells.{withCells, rematValue, afterTrials}
 use Rattle.scratch_trials.proofs.Laws.{refused-stays}
 use borrow.Author.Needs.{needs}
 use Rattle.scratch_trials.proofs.trials.Statement.{statement}
@@ -12,7 +12,7 @@ use Rattle.scratch_trials.proofs.trials.Tie as tie
 use Rattle.scratch_trials.proofs.trials.Reads as reads
 use Rattle.scratch_trials.proofs.trials.Lts as lts
 use Rattle.scratch_trials.proofs.move_trials.Reads as move-trials-reads
-use Rattle.scratch_trials.proofs.rebuild_trial.Reads as rebuild-trial-reads
+use Rattle.scratch_trials.proofs.remat_trial.Reads as remat-trial-reads
 use Rattle.target_check.proofs.check.Reads as check-reads
 
 check-requires : tie.Need-check-requires
@@ -29,15 +29,15 @@ returns c =
 move-trials-requires : tie.Need-move-trials-requires
 move-trials-requires c κs = let said = c .before .before .before .before .check .ensures in let told = c .before .before .enum-told .given .1 in (ap targetRefusal (said .1 .1 .0) ∙ sym (said .0) ∙ ap numberOf told, said .1 .1 .1 told)
 
-rebuild-trial-requires : tie.Need-rebuild-trial-requires
-rebuild-trial-requires c κs = let said = c .before .before .before .before .before .before .before .check .ensures in let told = c .before .before .before .before .before .enum-told .given .1 in (ap targetRefusal (said .1 .1 .0) ∙ sym (said .0) ∙ ap numberOf told, said .1 .1 .1 told)
+remat-trial-requires : tie.Need-remat-trial-requires
+remat-trial-requires c κs = let said = c .before .before .before .before .before .before .before .check .ensures in let told = c .before .before .before .before .before .enum-told .given .1 in (ap targetRefusal (said .1 .1 .0) ∙ sym (said .0) ∙ ap numberOf told, said .1 .1 .1 told)
 
 returns-2 : tie.Need-returns-2
 returns-2 c =
     let k = c .before .before .before .before .before .before .before .before in
     let said = k .check .ensures in
     let told = c .before .before .before .before .before .before .enum-told .given .1 in
-    (said .1 .1 .0, c .rebuild-trial .ensures ∙ ap (withCells rebuiltValue) (c .before .before .before .move-trials .ensures) ∙ ap (λ (o : Option ℕ). afterTrials o (k .before .before .args .f .now)) (sym (ap numberOf told) ∙ said .0))
+    (said .1 .1 .0, c .remat-trial .ensures ∙ ap (withCells rematValue) (c .before .before .before .move-trials .ensures) ∙ ap (λ (o : Option ℕ). afterTrials o (k .before .before .args .f .now)) (sym (ap numberOf told) ∙ said .0))
 
 pub trials-spec : {M : Type 1} → statement M
 trials-spec =
@@ -47,5 +47,5 @@ trials-spec =
     enum-told
     returns
     move-trials-requires
-    rebuild-trial-requires
+    remat-trial-requires
     returns-2)

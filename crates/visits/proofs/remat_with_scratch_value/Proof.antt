@@ -2,7 +2,7 @@
 use borrow.Author.Needs.{needs}
 use Rattle.entries.specs.Table.{rematAt}
 use Rattle.entries.proofs.Table.{scratch-is}
-use Rattle.visits.specs.Marks.{noRebuild}
+use Rattle.rules.specs.Order.{noRemat}
 use Rattle.visits.proofs.remat_with_scratch_value.Statement.{statement}
 use Rattle.visits.proofs.remat_with_scratch_value.Tie as tie
 
@@ -20,7 +20,7 @@ element-copy-out-t8 c = search needs
 
 returns : tie.Need-returns
 unfolding rematAt
-returns c = rw (scratch-is (c .before .args .e .now) (c .before .args .i) noRebuild (c .before .pre .0))
+returns c = rw (scratch-is (c .before .args .e .now) (c .before .args .i) noRemat (c .before .pre .0))
 
 pub remat-with-scratch-value-spec : {M : Type 1} → statement M
 remat-with-scratch-value-spec =

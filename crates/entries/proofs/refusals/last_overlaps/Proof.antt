@@ -8,9 +8,8 @@ use Rattle.entity.specs.Logic.{any}
 use Rattle.reginfo.specs.Table.{regInfoOf}
 use Rattle.function.specs.Function.{rematClass}
 use Rattle.function.specs.Table.{functionOf}
-use Rattle.rules.specs.Order.{Remat}
+use Rattle.rules.specs.Order.{Remat, noRemat}
 use Rattle.rules.specs.Patch.{lastOverlaps}
-use Rattle.rules.specs.Sorted.{noRemat}
 use Rattle.entries.specs.Table.{rematAt, sortedOf}
 use Rattle.entries.specs.Known.{lastClashes}
 use Rattle.entries.proofs.Lists.{any-step}
@@ -63,7 +62,7 @@ unfolding rematAt
 remat-clashes-requires c κs =
     let s = c .before .before .before .before .before .before in
     let l = c .before .before .before .loop in
-    (s .pre .0, rw (scratch-is (s .args .e .now) (l .i) (noRemat (regInfoOf (s .args .t .now)) (functionOf (s .args .f .now))) (omega arith)) at (s .pre .1 .rematsWithScratch (l .i) (omega arith)))
+    (s .pre .0, rw (scratch-is (s .args .e .now) (l .i) noRemat (omega arith)) at (s .pre .1 .rematsWithScratch (l .i) (omega arith)))
 
 returns : tie.Need-returns Inv-loop μ-loop
 unfolding rematAt
@@ -71,7 +70,7 @@ returns c =
     let s = c .before .before .before .before .before .before .before .before in
     let l = c .before .before .before .before .before .loop in
     let h : lastClashes (regInfoOf (s .args .t .now)) (rematClass (functionOf (s .args .f .now)) (rematAt 768 (s .args .e .now) (l .i) .value)) (rematAt 768 (s .args .e .now) (l .i) .dest) ≡ true = sym (c .before .remat-clashes .ensures) ∙ c .if1 .taken in
-    sym (l .inv .0 ∙ any-step (λ (r : Remat). lastClashes (regInfoOf (s .args .t .now)) (rematClass (functionOf (s .args .f .now)) (r .value)) (r .dest)) (sortedOf (s .args .e .now) .rematsWithScratch) (l .i) (noRemat (regInfoOf (s .args .t .now)) (functionOf (s .args .f .now))) (omega arith) ∙ rw (scratch-is (s .args .e .now) (l .i) (noRemat (regInfoOf (s .args .t .now)) (functionOf (s .args .f .now))) (omega arith), h))
+    sym (l .inv .0 ∙ any-step (λ (r : Remat). lastClashes (regInfoOf (s .args .t .now)) (rematClass (functionOf (s .args .f .now)) (r .value)) (r .dest)) (sortedOf (s .args .e .now) .rematsWithScratch) (l .i) noRemat (omega arith) ∙ rw (scratch-is (s .args .e .now) (l .i) noRemat (omega arith), h))
 
 add-i : tie.Need-add-i Inv-loop μ-loop
 add-i c = search needs
@@ -85,7 +84,7 @@ loop-again c =
     let s = c .before .before .before .before .before .before .before .before in
     let l = c .before .before .before .before .before .loop in
     let h : lastClashes (regInfoOf (s .args .t .now)) (rematClass (functionOf (s .args .f .now)) (rematAt 768 (s .args .e .now) (l .i) .value)) (rematAt 768 (s .args .e .now) (l .i) .dest) ≡ false = sym (c .before .remat-clashes .ensures) ∙ c .if1 .left in
-    (l .inv .0 ∙ any-step (λ (r : Remat). lastClashes (regInfoOf (s .args .t .now)) (rematClass (functionOf (s .args .f .now)) (r .value)) (r .dest)) (sortedOf (s .args .e .now) .rematsWithScratch) (l .i) (noRemat (regInfoOf (s .args .t .now)) (functionOf (s .args .f .now))) (omega arith) ∙ rw (scratch-is (s .args .e .now) (l .i) (noRemat (regInfoOf (s .args .t .now)) (functionOf (s .args .f .now))) (omega arith), h), omega arith, l .inv .2, l .inv .3)
+    (l .inv .0 ∙ any-step (λ (r : Remat). lastClashes (regInfoOf (s .args .t .now)) (rematClass (functionOf (s .args .f .now)) (r .value)) (r .dest)) (sortedOf (s .args .e .now) .rematsWithScratch) (l .i) noRemat (omega arith) ∙ rw (scratch-is (s .args .e .now) (l .i) noRemat (omega arith), h), omega arith, l .inv .2, l .inv .3)
 
 returns-2 : tie.Need-returns-2 Inv-loop μ-loop
 unfolding any

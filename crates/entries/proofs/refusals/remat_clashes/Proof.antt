@@ -4,7 +4,7 @@ use mathlib.Core.Bool.{true≢false}
 use Rattle.entity.specs.Place.{placeAt}
 use Rattle.function.specs.Table.{functionOf}
 use Rattle.function.specs.Answers.{rematOf}
-use Rattle.function.proofs.Laws.{never-rebuilt, rebuilt}
+use Rattle.function.proofs.Laws.{never-remat, remat-known}
 use Rattle.entries.proofs.Fates.{writable, value-known, class-low}
 use borrow.Author.Needs.{needs}
 use Rattle.entries.proofs.refusals.remat_clashes.Statement.{statement}
@@ -35,17 +35,17 @@ last-clashes-requires-2 c κs =
 returns : tie.Need-returns
 returns c =
     let s = c .before .before .before in
-    absurd (true≢false (sym (s .pre .1 .can) ∙ never-rebuilt (functionOf (s .args .f .now)) (s .args .v .0) (sym (ap rematOf (c .enum-told .given .1)) ∙ c .before .before .can-rematerialize .ensures)))
+    absurd (true≢false (sym (s .pre .1 .can) ∙ never-remat (functionOf (s .args .f .now)) (s .args .v .0) (sym (ap rematOf (c .enum-told .given .1)) ∙ c .before .before .can-rematerialize .ensures)))
 
 returns-2 : tie.Need-returns-2
 returns-2 c =
     let s = c .before .before .before .before .before in
-    rw (rebuilt (functionOf (s .args .f .now)) (s .args .v .0) _ (sym (ap rematOf (c .before .before .c .given .1)) ∙ c .before .before .before .before .can-rematerialize .ensures) .2) (c .last-clashes .ensures)
+    rw (remat-known (functionOf (s .args .f .now)) (s .args .v .0) _ (sym (ap rematOf (c .before .before .c .given .1)) ∙ c .before .before .before .before .can-rematerialize .ensures) .2) (c .last-clashes .ensures)
 
 returns-3 : tie.Need-returns-3
 returns-3 c =
     let s = c .before .before .before .before .before in
-    rw (rebuilt (functionOf (s .args .f .now)) (s .args .v .0) _ (sym (ap rematOf (c .before .before .c2 .given .1)) ∙ c .before .before .before .before .can-rematerialize .ensures) .2) (c .last-clashes2 .ensures)
+    rw (remat-known (functionOf (s .args .f .now)) (s .args .v .0) _ (sym (ap rematOf (c .before .before .c2 .given .1)) ∙ c .before .before .before .before .can-rematerialize .ensures) .2) (c .last-clashes2 .ensures)
 
 pub remat-clashes-spec : {M : Type 1} → statement M
 remat-clashes-spec =

@@ -1,6 +1,6 @@
 -- `put_remat` meets its contract: the rebuild is stored in its list and counted.
 use native.Mathlib.Omega.{arith}
-use Rattle.entries.proofs.Table.{remat-count, remat-done-index, rebuilt-done, scratch-done}
+use Rattle.entries.proofs.Table.{remat-count, remat-done-index, remat-done, scratch-done}
 use borrow.Author.Needs.{needs}
 use Rattle.entries.proofs.writing.put_remat.Statement.{statement}
 use Rattle.entries.proofs.writing.put_remat.Tie as tie
@@ -31,7 +31,7 @@ count-entry-requires-2 c κs =
 returns-2 : tie.Need-returns-2
 returns-2 c =
     let s = c .before .before .before .before .before in (
-      rw (c .before .before .before .before .if1 .left) (rebuilt-done (s .args .e .now) (s .pre .0) _ _ (c .count-entry2 .ensures .1) (c .count-entry2 .ensures .0) (s .args .dest .0) (s .args .v .0) (c .before .before .store-remat2 .ensures)),
+      rw (c .before .before .before .before .if1 .left) (remat-done (s .args .e .now) (s .pre .0) _ _ (c .count-entry2 .ensures .1) (c .count-entry2 .ensures .0) (s .args .dest .0) (s .args .v .0) (c .before .before .store-remat2 .ensures)),
       remat-done-index (s .args .e .now) _ _ 512 1025 (s .args .dest .0) (s .args .v .0) (omega arith) (omega arith) (omega arith) (c .before .before .store-remat2 .ensures) (c .count-entry2 .ensures .0),
     )
 

@@ -2,7 +2,7 @@
 use mathlib.Core.Path.{sym, _∙_}
 use Rattle.scratch.specs.Contracts.{tables}
 use Rattle.entries.specs.Known.{freeIn}
-use Rattle.rebuilds.proofs.Known.{remats-fit}
+use Rattle.remats.proofs.Known.{remats-fit}
 use Rattle.parallel_moves.proofs.Resolving.{asked-away, remats-room, asks-remats, can-hand-over, asks}
 use borrow.Author.Needs.{needs}
 use Rattle.parallel_moves.proofs.asking.ask_granted.Statement.{statement}

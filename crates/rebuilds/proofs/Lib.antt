@@ -1,4 +1,0 @@
-pub mod Known
-pub mod Direct
-pub mod Rebuilt
-pub mod Handing

@@ -1,0 +1,4 @@
+pub mod Known
+pub mod Direct
+pub mod RemattedWithScratch
+pub mod Handing
