@@ -23,7 +23,7 @@ use Rattle.job_target.specs.Target.{bank, reg, class, target}
 use Rattle.job_function.specs.Reads.{value, function}
 use Rattle.job_patch.specs.Patches.{rising, place, entry, patch}
 use Rattle.job_rules.specs.Job.{opening}
-use Rattle.job_rules.specs.Conditions.{afterGot, inNumber, afterNumber, inTested, afterTested, inTimes, inDistinct, inBank, inReg, inClass, inClasses, inTarget, ofTarget, inRematValue, inValue, inFunction, inRising, afterResolved, inPlace, inEntry, inEntries, inPatch, ofCall, inPatches, inOpening, jobConditions}
+use Rattle.job_rules.specs.Conditions.{afterGot, inNumber, afterNumber, inTested, afterTested, inTimes, inDistinct, inBank, inReg, inClass, inClasses, inTarget, ofTarget, inRematValue, inValue, inFunction, inRising, afterResolved, inPlace, inEntry, inEntries, inPatch, runsOut, ofCall, inPatchesBy, inPatches, inOpening, jobConditionsBy, jobConditions}
 use Rattle.job_rules.proofs.Conditions.{refusals}
 use Rattle.answer.specs.Words.{OfTable, Numbered}
 
@@ -185,16 +185,16 @@ module _ (t : RegInfo) (f : Function) where
       (λ free q. after-number q _
       (λ n p. in-entries n nothingSorted p)))
 
-  of-call : (p : Patch) (c : Cache) → Numbers (ofCall t f p c)
+  of-call : (p : Patch) (c : Cache) → Numbers (ofCall runsOut t f p c)
   unfolding ofCall patchConditions
   of-call p c = (refl, (refl, (refl, (refl, tt))))
 
   in-patches : (n : ℕ) (c : Cache) (l : List ℕ) → Numbers (inPatches t f n c l)
-  unfolding inPatches
+  unfolding inPatchesBy
   in-patches zero c l = (refl, tt)
   in-patches (suc n) c l =
       part (inPatch t f l) (patch t f l) _ (in-patch l)
-      (λ p r. both (ofCall t f p c) _ (of-call p c) (after-resolved (resolve t f p 1024 c) _ (λ c′. in-patches n c′ r)))
+      (λ p r. both (ofCall runsOut t f p c) _ (of-call p c) (after-resolved (resolve t f p 1024 c) _ (λ c′. in-patches n c′ r)))
 
 -- ---- the job
 in-opening : (kept : ℕ) (l : List ℕ) → Numbers (inOpening kept l)
@@ -210,7 +210,7 @@ in-opening kept l = (
 )
 
 in-job : (kept : ℕ) (l : List ℕ) → Numbers (jobConditions kept l)
-unfolding jobConditions
+unfolding jobConditionsBy
 in-job kept l = part (inOpening kept l) (opening kept l) _ (in-opening kept l) (λ h r. in-patches (h .target) (h .function) (h .patches) emptyCache r)
 
 at : (l : List Condition) (i : ℕ) → Numbers l → i < length l → OfTable (conditionAt l i .number)

@@ -12,10 +12,11 @@ use Rattle.reginfo.specs.Given.{Given, NoneHolds}
 use Rattle.function.specs.Function.{Function}
 use Rattle.rules.specs.Edit.{Edit}
 use Rattle.rules.specs.Scratch.{Cache, emptyCache}
-use Rattle.rules.specs.Patch.{Patch, nothingSorted, Answer, refused, resolved, sorted, bound, freeDestination, lastOverlaps, run, resolve}
-use Rattle.rules.specs.Refusals.{ranOut, entriesConditions}
+use Rattle.rules.specs.Patch.{Patch, nothingSorted, Answer, refused, resolved, sorted, bound, freeDestination, lastOverlaps, resolve}
+use Rattle.rules.specs.Refusals.{entriesConditions}
 use Rattle.job_patch.specs.Patches.{patch}
 use Rattle.job_rules.specs.Job.{Resolver, Answers, afterRead, afterCall, leftOver, opening, jobBy}
+use Rattle.job_rules.specs.Conditions.{Out, runsOut}
 
 -- no word is left for the head
 abbrev pub headless : Answer → Answer
@@ -39,7 +40,7 @@ module _ (by : Resolver) (t : RegInfo) (f : Function) where
   patchesIn (suc n) c left l =
       afterRead (patch t f l) (λ p r. afterCall (callIn p left c) (λ c′. patchesIn n c′ (left - wordsTaken (callIn p left c)) r))
 
-module _ (t : RegInfo) (f : Function) where
+module _ (out : Out) (t : RegInfo) (f : Function) where
   -- all conditions of a call in their order: the entries', "then 13, 14, 16, 17"; 16: "lent list shorter than the bound of demand 3"
   unfoldable pub conditionsIn : Patch → (left : ℕ) → Cache → List Condition
   conditionsIn p left c =
@@ -47,13 +48,16 @@ module _ (t : RegInfo) (f : Function) where
       ++ (cond 13 (freeDestination t f p (sorted t f p))
       ∷ cond 14 (lastOverlaps t f (sorted t f p))
       ∷ cond 16 (ltb left (1 + bound (sorted t f p)))
-      ∷ cond 17 (ranOut (run t f p (sorted t f p) c))
+      ∷ cond 17 (out t f p c)
       ∷ [])
 
-  -- "Each is given when its condition holds and none earlier does, else not."
-  pub record RefusalsIn (p : Patch) (left : ℕ) (c : Cache) : Type 0 where
-    pub given : (n : ℕ) → (callIn resolve t f p left c ≡ refused n) ↔ Given (conditionsIn p left c) n
-    pub taken : ((es : List Edit) × (c′ : Cache) × (n : ℕ) × (callIn resolve t f p left c ≡ resolved es c′ n)) ↔ NoneHolds (conditionsIn p left c)
+-- "Each is given when its condition holds and none earlier does, else not."
+pub record RefusalsInBy (by : Resolver) (out : Out) (t : RegInfo) (f : Function) (p : Patch) (left : ℕ) (c : Cache) : Type 0 where
+  pub given : (n : ℕ) → (callIn by t f p left c ≡ refused n) ↔ Given (conditionsIn out t f p left c) n
+  pub taken : ((es : List Edit) × (c′ : Cache) × (n : ℕ) × (callIn by t f p left c ≡ resolved es c′ n)) ↔ NoneHolds (conditionsIn out t f p left c)
+
+abbrev pub RefusalsIn : RegInfo → Function → Patch → (left : ℕ) → Cache → Type 0
+RefusalsIn t f p left c = RefusalsInBy resolve runsOut t f p left c
 
 -- a whole job of a function with `kept` kept evictions, answered into `room` words
 unfoldable pub jobInBy : Resolver → (room kept : ℕ) → List ℕ → Answers

@@ -1,3 +1,4 @@
 pub mod Reading
 pub mod Groups
+pub mod Refused
 pub mod Trials

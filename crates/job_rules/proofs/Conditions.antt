@@ -3,7 +3,6 @@ use Prim.Native.Nat.{ℕ, zero, suc, _<_}
 use mathlib.Core.Path.{_≡_, refl, sym, ap, _∙_}
 use mathlib.Core.Bool.{Bool, true, false}
 use mathlib.Core.List.{List, [], _∷_, _++_}
-use mathlib.Core.Option.{Option, none, some}
 use mathlib.Core.Logic.{_↔_}
 use native.Mathlib.Omega.{arith}
 use lib.Dec.{eqb, ltb, leb}
@@ -12,12 +11,14 @@ use borrow.Author.Tests.{lt-ltb}
 use Rattle.entity.specs.Logic.{and, no}
 use Rattle.entity.specs.Place.{Place, placeAt}
 use Rattle.reginfo.specs.RegInfo.{RegInfo, bankForClass}
+use Rattle.reginfo.specs.Refused as target
 use Rattle.reginfo.specs.Refused.{Condition, cond, outsideLimits, listedTwice, firstOf, targetRefusal}
 use Rattle.reginfo.proofs.First.{first-none, none-first, given-first, first-given}
 use Rattle.function.specs.Function.{Function, numValues, isSetting}
-use Rattle.rules.specs.Scratch.{Cache, ScratchAllocator, emptyCache}
-use Rattle.rules.specs.Patch.{Entry, Patch, Sorted, nothingSorted, answerOf, unlessRefused, namesPlace, entryConditions, add, sorted, patchConditions, run, resolveSorted, resolve}
-use Rattle.rules.specs.Refusals.{ranOut}
+use Rattle.rules.specs.Scratch.{Cache, emptyCache}
+use Rattle.rules.specs.Patch.{Entry, Patch, Sorted, nothingSorted, Answer, namesPlace, entryConditions, add, resolve}
+use Rattle.rules.specs.Patch as rules
+use Rattle.rules.specs.Refusals.{entriesConditions}
 use Rattle.parallel_moves.proofs.First.{orThen, first-append}
 use Rattle.price.specs.declared.Prices.{Prices}
 use Rattle.price.specs.Price.{inRange}
@@ -28,12 +29,14 @@ use Rattle.reading.specs.Reading.{tested, below, between, times, distinct}
 use Rattle.job_target.specs.Target.{bank, reg, class, classes, target}
 use Rattle.job_function.specs.Reads.{rematValue, value, valued, function}
 use Rattle.job_patch.specs.Patches.{unlessGiven, rising, place, entry, entries, patch}
-use Rattle.job_rules.specs.Job.{Header, Answers, afterRead, afterCall, leftOver, afterTarget, header, opening, patchesBy, patches, jobBy, job}
-use Rattle.job_rules.specs.Conditions.{afterGot, unread, inNumber, inTested, inTimes, inDistinct, inBank, inReg, inClass, inClasses, inTarget, ofTarget, inRematValue, inValue, inFunction, inRising, afterResolved, inPlace, inEntry, inEntries, inPatch, ofCall, inPatches, inOpening, jobConditions, Refusals, NoNumber}
+use Rattle.job_rules.specs.Job.{Resolver, Header, Answers, afterRead, afterCall, leftOver, afterTarget, header, opening, patchesBy, jobBy}
+use Rattle.job_rules.specs.Conditions.{afterGot, unread, inNumber, inTested, inTimes, inDistinct, inBank, inReg, inClass, inClasses, inTarget, ofTarget, inRematValue, inValue, inFunction, inRising, afterResolved, inPlace, inEntry, inEntries, inPatch, Out, runsOut, ofCall, inPatchesBy, inOpening, jobConditionsBy, RefusalsBy, Refusals, NoNumber}
 use Rattle.job_rules.specs.Priced.{unlessOutside, openingIf, openingPriced, jobPriced, inOpeningPriced, conditionsPriced, RefusalsPriced}
 use Rattle.job_rules.proofs.Exactly.{refusalOf, Exactly, nothing, after, made, unless, within, passing, given, either, number-exactly, tested-exactly, times-exactly, distinct-exactly, rising-exactly}
-use Rattle.job_rules.proofs.WasRead.{entry-named, settled, patch-called}
+use Rattle.job_rules.proofs.WasRead.{entry-named, settled, patch-taken}
 use Rattle.job_rules.proofs.ReadTarget.{target-read}
+use Rattle.job_rules.proofs.Calls.{numberOf, ExactCalls, resolve-exact}
+use Rattle.job_rules.proofs.Enough.{opens}
 
 -- a number that passes a test, then the rest
 tested-then : {B : Type 0} (ok : ℕ → Bool) (l : List ℕ) (next : ℕ → List ℕ → Read B) (ns : ℕ → List ℕ → List Condition)
@@ -165,30 +168,27 @@ unfolding firstOf
 left-exactly [] = refl
 left-exactly (b ∷ l) = rw (lt-ltb 0 (length (b ∷ l)) (omega arith))
 
-module _ (t : RegInfo) (f : Function) where
-  -- a call of a patch that was read, then what is answered
-  called : (p : Patch) (c : Cache) (next : Cache → Answers) (ns : Cache → List Condition)
-      → resolve t f p 1024 c ≡ resolveSorted t f p 1024 c (sorted t f p) → ((c′ : Cache) → firstOf (ns c′) ≡ next c′ .refusal)
-      → firstOf (ofCall t f p c ++ afterResolved (resolve t f p 1024 c) ns) ≡ afterCall (resolve t f p 1024 c) next .refusal
-  unfolding firstOf ofCall resolveSorted
-  called p c next ns e on =
-      first-append (ofCall t f p c) (afterResolved (resolve t f p 1024 c) ns)
-      ∙ rw (first-append (patchConditions t f p 1024 (sorted t f p)) (cond 17 (ranOut (run t f p (sorted t f p) c)) ∷ []), e)
-      (go (firstOf (patchConditions t f p 1024 (sorted t f p))) (run t f p (sorted t f p) c))
-    where
-      go : (o : Option ℕ) (k : Option ScratchAllocator)
-          → orThen (orThen o (firstOf (cond 17 (ranOut k) ∷ []))) (firstOf (afterResolved (unlessRefused o (answerOf k)) ns))
-          ≡ afterCall (unlessRefused o (answerOf k)) next .refusal
-      go (some n) k = refl
-      go none none = refl
-      go none (some k) = on (k .cache)
+-- a call, then what is answered
+called : (cs : List Condition) (a : Answer) (next : Cache → Answers) (ns : Cache → List Condition) → firstOf cs ≡ numberOf a → ((c : Cache) → firstOf (ns c) ≡ next c .refusal)
+    → firstOf (cs ++ afterResolved a ns) ≡ afterCall a next .refusal
+called cs a next ns e on = first-append cs (afterResolved a ns) ∙ rw e (go a)
+  where
+    go : (a : Answer) → orThen (numberOf a) (firstOf (afterResolved a ns)) ≡ afterCall a next .refusal
+    go (rules.refused k) = refl
+    go (rules.resolved es c n) = on c
 
-  patches-exactly : (n : ℕ) (c : Cache) (l : List ℕ) → firstOf (inPatches t f n c l) ≡ patches t f n c l .refusal
-  unfolding patchesBy inPatches
+module _ (by : Resolver) (out : Out) (t : RegInfo) (f : Function) (exact : ExactCalls by out t f) where
+  -- the entries of a patch that was read are refused no more
+  call-exactly : (l : List ℕ) (p : Patch) (r : List ℕ) → patch t f l ≡ got p r → (c : Cache) → firstOf (ofCall out t f p c) ≡ numberOf (by t f p 1024 c)
+  unfolding ofCall
+  call-exactly l p r e c = rw (first-append (entriesConditions t f (p .entries) nothingSorted) (ofCall out t f p c), patch-taken t f l p r e) at (exact p 1024 c)
+
+  patches-exactly : (n : ℕ) (c : Cache) (l : List ℕ) → firstOf (inPatchesBy by out t f n c l) ≡ patchesBy by t f n c l .refusal
+  unfolding patchesBy inPatchesBy
   patches-exactly zero c l = left-exactly l
   patches-exactly (suc n) c l =
       answered (patch t f l) (inPatch t f l) _ _ (patch-exactly t f l)
-      (λ p r e. called p c _ _ (patch-called t f l p r e 1024 c) (λ c′. patches-exactly n c′ r))
+      (λ p r e. called (ofCall out t f p c) (by t f p 1024 c) _ _ (call-exactly l p r e c) (λ c′. patches-exactly n c′ r))
 
 -- 2 and 3 are settled when the target's rules are tested
 target-settled : (t : RegInfo) → outsideLimits t ≡ false → listedTwice t ≡ false → targetRefusal t ≡ firstOf (ofTarget t)
@@ -226,26 +226,32 @@ priced-exactly p kept l =
     (λ t r e. rules-exactly l t r e (unlessOutside (inRange p) (afterTarget t kept r)) (cond 19 (no (inRange p)) ∷ behindRules t kept r)
     (within (inRange p) 19 (afterTarget t kept r) (behindRules t kept r) (behind-exactly t kept r)))))
 
-job-exactly : (kept : ℕ) (l : List ℕ) → firstOf (jobConditions kept l) ≡ job kept l .refusal
-unfolding jobBy jobConditions
-job-exactly kept l =
-    answered (opening kept l) (inOpening kept l) _ _ (opening-exactly kept l)
-    (λ h r e. patches-exactly (h .target) (h .function) (h .patches) emptyCache r)
+-- whatever answers the calls, over every accepted target
+module _ (by : Resolver) (out : Out) (exact : (t : RegInfo) (f : Function) → target.Accepted t → ExactCalls by out t f) where
+  job-exactly : (kept : ℕ) (l : List ℕ) → firstOf (jobConditionsBy by out kept l) ≡ jobBy by kept l .refusal
+  unfolding jobBy jobConditionsBy
+  job-exactly kept l =
+      answered (opening kept l) (inOpening kept l) _ _ (opening-exactly kept l)
+      (λ h r e. patches-exactly by out (h .target) (h .function) (exact (h .target) (h .function) (opens kept l h r e .target-taken)) (h .patches) emptyCache r)
+
+  -- for every setting and every list of bytes
+  pub refusals-by : (kept : ℕ) (l : List ℕ) → RefusalsBy by out kept l
+  refusals-by kept l =
+      let e = job-exactly kept l in
+      let cs : List Condition = jobConditionsBy by out kept l in
+      record {
+        given = λ n. (λ g. first-given cs n (e ∙ g), λ g. sym e ∙ given-first cs n g);
+        taken = (λ g. first-none cs (e ∙ g), λ h. sym e ∙ none-first cs h);
+      }
+
+pub refusals : (kept : ℕ) (l : List ℕ) → Refusals kept l
+refusals = refusals-by resolve runsOut (λ t f _. resolve-exact t f)
 
 job-priced-exactly : (p : Prices) (kept : ℕ) (l : List ℕ) → firstOf (conditionsPriced p kept l) ≡ jobPriced p kept l .refusal
 unfolding jobPriced conditionsPriced
 job-priced-exactly p kept l =
     answered (openingPriced p kept l) (inOpeningPriced p kept l) _ _ (priced-exactly p kept l)
-    (λ h r e. patches-exactly (h .target) (h .function) (h .patches) emptyCache r)
-
--- for every setting and every list of bytes
-pub refusals : (kept : ℕ) (l : List ℕ) → Refusals kept l
-refusals kept l =
-    let e = job-exactly kept l in
-    record {
-      given = λ n. (λ g. first-given (jobConditions kept l) n (e ∙ g), λ g. sym e ∙ given-first (jobConditions kept l) n g);
-      taken = (λ g. first-none (jobConditions kept l) (e ∙ g), λ h. sym e ∙ none-first (jobConditions kept l) h);
-    }
+    (λ h r e. patches-exactly resolve runsOut (h .target) (h .function) (resolve-exact (h .target) (h .function)) (h .patches) emptyCache r)
 
 -- with prices too
 pub refusals-priced : (p : Prices) (kept : ℕ) (l : List ℕ) → RefusalsPriced p kept l

@@ -17,7 +17,7 @@ use Rattle.rules.specs.Scratch.{Cache, emptyCache}
 use Rattle.rules.specs.Patch.{Patch, Sorted, nothingSorted, Call, resolve, cacheAfter, namesPlace, entryConditions, add}
 use Rattle.rules.specs.Patch as rules
 use Rattle.rules.proofs.Tested.{entry-other}
-use Rattle.machine.specs.Enough as rules-enough
+use Rattle.machine.specs.Enough.{numSizes, NeverOut, EnoughWith}
 use Rattle.machine.proofs.EnoughSlots.{enough, fewer-enough, enough-for-calls}
 use Rattle.number.specs.Read.{Read, got, refused, then}
 use Rattle.number.specs.Number.{number}
@@ -27,8 +27,8 @@ use Rattle.job_target.specs.Target.{target}
 use Rattle.job_function.specs.Reads as reads
 use Rattle.job_function.proofs.Accepted.{then-got, read-accepted}
 use Rattle.job_patch.specs.Patches.{unlessGiven, rising, place, entry, entries, patch}
-use Rattle.job_rules.specs.Job.{Header, Opened, Done, withFunction, beginning, opening, job}
-use Rattle.job_rules.specs.Claim.{Ends, all-done, left-over, not-read, not-resolved, OneByOne, EnoughWith, Enough, FewerEnough}
+use Rattle.job_rules.specs.Job.{Resolver, Header, Opened, Done, withFunction, beginning, opening, jobBy}
+use Rattle.job_rules.specs.Claim.{Ends, all-done, left-over, not-read, not-resolved, OneByOne, EveryJobBy, EnoughBy, Enough, FewerEnough}
 use Rattle.job_rules.proofs.WasRead.{early-got, given-got}
 use Rattle.job_rules.specs.Formula.{counted}
 use Rattle.job_rules.proofs.Opening.{opening-is}
@@ -98,19 +98,21 @@ module _ (t : RegInfo) (f : Function) where
       (λ free q. after (number q) _ (of-number q)
       (λ n p. after (entries t f n nothingSorted p) _ (of-entries n nothingSorted p) (λ es o. tt))))
 
-  -- ---- the patches, where no list of calls gets 17
-  abbrev Never : Cache → Type 0
-  Never c = (calls : List Call) → rules-enough.NeverOut t f calls c
+-- calls that keep what is asked of a cache: none gets 17
+pub record Spares (by : Resolver) (t : RegInfo) (f : Function) (Good : Cache → Type 0) : Type 0 where
+  pub first : Good emptyCache
+  pub one : (p : Patch) (c : Cache) → Good c → (by t f p 1024 c ≡ rules.refused 17 → ⊥) × Good (cacheAfter c (by t f p 1024 c))
 
-  ended : (n : ℕ) (c : Cache) (l : List ℕ) → Never c → Ends resolve t f n c l (some 17) → ⊥
-  ended n c l all (all-done z e k) = let z : _≡_ {A = ℕ} 0 1 = cc in omega arith
-  ended n c l all (left-over z e k) = let q : _≡_ {A = ℕ} 17 8 = cc in omega arith
-  ended n c l all (not-read m z e k) = let q : m ≡ 17 = cc in subst Other e (of-patch l) q
-  ended n c l all (not-resolved m p r z e i k) = let q : m ≡ 17 = cc in all (record { patch = p; room = 1024 } ∷ []) .0 (i ∙ ap rules.refused q)
+module _ (by : Resolver) (t : RegInfo) (f : Function) (Good : Cache → Type 0) (spares : Spares by t f Good) where
+  ended : (n : ℕ) (c : Cache) (l : List ℕ) → Good c → Ends by t f n c l (some 17) → ⊥
+  ended n c l good (all-done z e k) = let z : _≡_ {A = ℕ} 0 1 = cc in omega arith
+  ended n c l good (left-over z e k) = let q : _≡_ {A = ℕ} 17 8 = cc in omega arith
+  ended n c l good (not-read m z e k) = let q : m ≡ 17 = cc in subst Other e (of-patch t f l) q
+  ended n c l good (not-resolved m p r z e i k) = let q : m ≡ 17 = cc in spares .one p c good .0 (i ∙ ap rules.refused q)
 
-  never : (ds : List Done) (n : ℕ) (c : Cache) (l : List ℕ) → Never c → OneByOne resolve t f ds (some 17) n c l → ⊥
-  never [] n c l all h = ended n c l all h
-  never (d ∷ ds) n c l all h = let x = h .1 in never ds (n - 1) (x .after) (x .rest) (λ calls. rw (x .calls) at (all (record { patch = x .p; room = 1024 } ∷ calls) .1)) (h .2)
+  never : (ds : List Done) (n : ℕ) (c : Cache) (l : List ℕ) → Good c → OneByOne by t f ds (some 17) n c l → ⊥
+  never [] n c l good h = ended n c l good h
+  never (d ∷ ds) n c l good h = let x = h .1 in never ds (n - 1) (x .after) (x .rest) (rw (x .calls) at (spares .one (x .p) c good .1)) (h .2)
 
 -- ---- the opening: an accepted target and function, with its setting
 pub record Begun (kept : ℕ) (x : Opened) : Type 0 where
@@ -129,19 +131,32 @@ begun kept l x r e =
     let is : record { target = b .0; function = d .0 } ≡ x = cc in
     subst (Begun kept) is (record { target-taken = c .0; function-taken = v .0; setting = v .1 })
 
-opens : (kept : ℕ) (l : List ℕ) (h : Header) (r : List ℕ) → opening kept l ≡ got h r → Begun kept (record { target = h .target; function = h .function })
+pub opens : (kept : ℕ) (l : List ℕ) (h : Header) (r : List ℕ) → opening kept l ≡ got h r → Begun kept (record { target = h .target; function = h .function })
 opens kept l h r e =
     let a = then-got (beginning kept l) (λ x q. counted x q) h r (sym (opening-is kept l) ∙ e) in
     let b = then-got (between 1 1024 (a .1)) _ h r (a .3) in
     let is : record { target = a .0 .target; function = a .0 .function; patches = b .0 } ≡ h = cc in
     subst (λ (y : Header). Begun kept (record { target = y .target; function = y .function })) is (begun kept l (a .0) (a .1) (a .2))
 
--- whatever the number of each size that is enough by the rules
-enough-with : (n : ℕ) → rules-enough.EnoughWith n → EnoughWith n
-enough-with n by kept l h r e g q =
+-- whatever answers the calls and whatever number of each size is enough for them
+pub enough-by : (by : Resolver) → EveryJobBy by → (n : ℕ) (Good : RegInfo → Function → Cache → Type 0)
+    → ((t : RegInfo) (f : Function) → target.Accepted t → function.Accepted t f → (n + f .kept) * numSizes t f ≤ f .limit → Spares by t f (Good t f)) → EnoughBy by n
+enough-by by every n Good spares kept l h r e g q =
     let o = opens kept l h r e in
-    never (h .target) (h .function) (job kept l .done) (h .patches) emptyCache r
-    (enough-for-calls n by (h .target) (h .function) (o .target-taken) (o .function-taken) (subst (λ (k : ℕ). (n + k) * rules-enough.numSizes (h .target) (h .function) ≤ h .function .limit) (sym (o .setting)) g)) (rw (e, q) at (every-job kept l))
+    let s = spares (h .target) (h .function) (o .target-taken) (o .function-taken) (subst (λ (k : ℕ). (n + k) * numSizes (h .target) (h .function) ≤ h .function .limit) (sym (o .setting)) g) in
+    never by (h .target) (h .function) (Good (h .target) (h .function)) s (jobBy by kept l .done) (h .patches) emptyCache r (s .first) (rw (e, q) at (every kept l))
+
+-- by `resolve`: no list of calls from the cache on gets 17
+abbrev Never : RegInfo → Function → Cache → Type 0
+Never t f c = (calls : List Call) → NeverOut t f calls c
+
+enough-with : (n : ℕ) → EnoughWith n → EnoughBy resolve n
+enough-with n enough =
+    enough-by resolve every-job n Never
+    (λ t f ta fa g. record {
+      first = enough-for-calls n enough t f ta fa g;
+      one = λ p c all. (all (record { patch = p; room = 1024 } ∷ []) .0, λ calls. all (record { patch = p; room = 1024 } ∷ calls) .1);
+    })
 
 pub enough-for-a-job : Enough
 enough-for-a-job = enough-with 128 enough

@@ -2,6 +2,7 @@ pub mod Opening
 pub mod Claimed
 pub mod Exactly
 pub mod WasRead
+pub mod Calls
 pub mod Conditions
 pub mod ReadTarget
 pub mod Trials

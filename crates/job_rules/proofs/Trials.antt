@@ -15,13 +15,13 @@ use Rattle.job_target.specs.Target.{bank, reg, class, classes, target}
 use Rattle.job_function.specs.Reads.{rematValue, value, valued, function}
 use Rattle.job_patch.specs.Patches.{rising, place, entry, entries, patch}
 use Rattle.job_rules.specs.Job.{afterTarget, header, patchesBy, opening, jobBy}
-use Rattle.job_rules.specs.Conditions.{inNumber, inTested, inTimes, inDistinct, inBank, inReg, inClass, inClasses, inTarget, ofTarget, inRematValue, inValue, inFunction, inRising, inPlace, inEntry, inEntries, inPatch, ofCall, inPatches, inOpening, jobConditions}
+use Rattle.job_rules.specs.Conditions.{inNumber, inTested, inTimes, inDistinct, inBank, inReg, inClass, inClasses, inTarget, ofTarget, inRematValue, inValue, inFunction, inRising, inPlace, inEntry, inEntries, inPatch, ofCall, inPatchesBy, inOpening, jobConditionsBy}
 use Rattle.price.specs.Price.{inRange}
 use Rattle.job_rules.specs.Priced.{openingIf, jobPriced}
 use Rattle.job_rules.specs.Trials.{sameMoves, Trials, PricedTrials}
 
 pub trials : Trials
-unfolding placeAt any all has meets twice lastOr indices spillslotSize topLevelClass stackToStackClass regMemory bankForReg regUnits bankForClass classSlots classMembers allocationOrder orderTotal countsFit bankFits regFits classFits outsideLimits listedTwice unequalWidths foreignMember sharedMemory unfitClass firstOf targetRefusal valueBank rematCost rematClass isSetting updated andThen each find firstAt filter acquireFrom unevict unevictBut unevictForReg makeRoom slotScratch evictLast reuse orScratch getScratchReg moveEdits doMove carryOne carry remats rematWithScratch writerFrom writersOf writers cycleMoveSources divert lead undivert undivertAll close visit visitUnlessMemory start moves destinations add sortedFrom entryConditions patchConditions run resolveSorted resolveFrom resolve groups number tested times distinct bank reg class classes target rematValue value valued function rising place entry entries patch afterTarget header patchesBy opening jobBy inNumber inTested inTimes inDistinct inBank inReg inClass inClasses inTarget ofTarget inRematValue inValue inFunction inRising inPlace inEntry inEntries inPatch ofCall inPatches inOpening jobConditions sameMoves
+unfolding placeAt any all has meets twice lastOr indices spillslotSize topLevelClass stackToStackClass regMemory bankForReg regUnits bankForClass classSlots classMembers allocationOrder orderTotal countsFit bankFits regFits classFits outsideLimits listedTwice unequalWidths foreignMember sharedMemory unfitClass firstOf targetRefusal valueBank rematCost rematClass isSetting updated andThen each find firstAt filter acquireFrom unevict unevictBut unevictForReg makeRoom slotScratch evictLast reuse orScratch getScratchReg moveEdits doMove carryOne carry remats rematWithScratch writerFrom writersOf writers cycleMoveSources divert lead undivert undivertAll close visit visitUnlessMemory start moves destinations add sortedFrom entryConditions patchConditions run resolveSorted resolveFrom resolve groups number tested times distinct bank reg class classes target rematValue value valued function rising place entry entries patch afterTarget header patchesBy opening jobBy inNumber inTested inTimes inDistinct inBank inReg inClass inClasses inTarget ofTarget inRematValue inValue inFunction inRising inPlace inEntry inEntries inPatch ofCall inPatchesBy inOpening jobConditionsBy sameMoves
 trials = record {
   swap-full = refl;
   in-order = refl;

@@ -14,7 +14,7 @@ use Rattle.machine.specs.Claim.{Accepted}
 use Rattle.machine.specs.Enough.{numSizes}
 use Rattle.number.specs.Read.{Read, got, refused}
 use Rattle.job_patch.specs.Patches.{patch}
-use Rattle.job_rules.specs.Job.{Resolver, Header, Done, Answers, opening, jobBy, job}
+use Rattle.job_rules.specs.Job.{Resolver, Header, Done, Answers, opening, jobBy}
 
 module _ (by : Resolver) (t : RegInfo) (f : Function) where
   -- the bytes l begin with a patch that is read, and d is what its call gives from the cache c: its edits, which are as demand 3 says, how
@@ -62,15 +62,15 @@ abbrev pub AllDone : Type 0
 AllDone = AllDoneBy resolve
 
 -- 02 j: so many slots a size and so many more as evictions are kept
-abbrev pub EnoughWith : ℕ → Type 0
-EnoughWith n =
+abbrev pub EnoughBy : Resolver → ℕ → Type 0
+EnoughBy by n =
     (kept : ℕ) (l : List ℕ) (h : Header) (r : List ℕ) → opening kept l ≡ got h r → (n + kept) * numSizes (h .target) (h .function) ≤ h .function .limit
-    → job kept l .refusal ≡ some 17 → ⊥
+    → jobBy by kept l .refusal ≡ some 17 → ⊥
 
 -- "a function never meets 17 if L is at least 129 times the number of different slot sizes among its banks [..]. With two, 130 stands for 129."
 abbrev pub Enough : Type 0
-Enough = EnoughWith 128
+Enough = EnoughBy resolve 128
 
 -- one fewer of each size is enough too
 abbrev pub FewerEnough : Type 0
-FewerEnough = EnoughWith 127
+FewerEnough = EnoughBy resolve 127

@@ -26,7 +26,7 @@ use Rattle.reading.specs.Reading.{tested, times, distinct}
 use Rattle.job_target.specs.Target.{bank, reg, class, unknownClass, target}
 use Rattle.job_function.specs.Reads.{value, function}
 use Rattle.job_patch.specs.Patches.{rising, place, entry, patch}
-use Rattle.job_rules.specs.Job.{opening, job}
+use Rattle.job_rules.specs.Job.{Resolver, opening, jobBy}
 
 -- ---- one part after another
 -- the conditions of what is read next, where this part was read
@@ -155,14 +155,25 @@ module _ (t : RegInfo) (f : Function) where
       (λ free q. afterNumber q
       (λ n p. inEntries n nothingSorted p)))
 
-  -- "then 13, 14, 16, 17"
-  unfoldable pub ofCall : Patch → Cache → List Condition
-  ofCall p c = patchConditions t f p 1024 (sorted t f p) ++ (cond 17 (ranOut (run t f p (sorted t f p) c)) ∷ [])
+-- whether a patch's call from a cache on is out of slots: by `resolve`, where its run is
+abbrev pub Out : Type 0
+Out = RegInfo → Function → Patch → Cache → Bool
 
-  -- one patch after the other, "8 last"
-  unfoldable pub inPatches : ℕ → Cache → List ℕ → List Condition
-  inPatches zero c l = cond 8 (ltb 0 (length l)) ∷ []
-  inPatches (suc n) c l = inPatch l ++ afterGot (patch t f l) (λ p r. ofCall p c ++ afterResolved (resolve t f p 1024 c) (λ c′. inPatches n c′ r))
+abbrev pub runsOut : Out
+runsOut t f p c = ranOut (run t f p (sorted t f p) c)
+
+-- "then 13, 14, 16, 17"
+unfoldable pub ofCall : Out → RegInfo → Function → Patch → Cache → List Condition
+ofCall out t f p c = patchConditions t f p 1024 (sorted t f p) ++ (cond 17 (out t f p c) ∷ [])
+
+-- one patch after the other, "8 last"
+unfoldable pub inPatchesBy : Resolver → Out → RegInfo → Function → ℕ → Cache → List ℕ → List Condition
+inPatchesBy by out t f zero c l = cond 8 (ltb 0 (length l)) ∷ []
+inPatchesBy by out t f (suc n) c l =
+    inPatch t f l ++ afterGot (patch t f l) (λ p r. ofCall out t f p c ++ afterResolved (by t f p 1024 c) (λ c′. inPatchesBy by out t f n c′ r))
+
+abbrev pub inPatches : RegInfo → Function → ℕ → Cache → List ℕ → List Condition
+inPatches t f n c l = inPatchesBy resolve runsOut t f n c l
 
 -- ---- the job
 -- 22: "a setting other than 1 or 2, tested before the job"; 2: "a job over 65,536 bytes, tested first"
@@ -174,13 +185,19 @@ inOpening kept l =
     (λ t r. ofTarget t ++ (inFunction t r ++ afterGot (function t kept r)
     (λ f q. inTested (λ x. and (leb 1 x) (leb x 1024)) q))))
 
-unfoldable pub jobConditions : (kept : ℕ) → List ℕ → List Condition
-jobConditions kept l = inOpening kept l ++ afterGot (opening kept l) (λ h r. inPatches (h .target) (h .function) (h .patches) emptyCache r)
+unfoldable pub jobConditionsBy : Resolver → Out → (kept : ℕ) → List ℕ → List Condition
+jobConditionsBy by out kept l = inOpening kept l ++ afterGot (opening kept l) (λ h r. inPatchesBy by out (h .target) (h .function) (h .patches) emptyCache r)
+
+abbrev pub jobConditions : (kept : ℕ) → List ℕ → List Condition
+jobConditions kept l = jobConditionsBy resolve runsOut kept l
 
 -- "Each is given when its condition holds and none earlier does, else not."
-pub record Refusals (kept : ℕ) (l : List ℕ) : Type 0 where
-  pub given : (n : ℕ) → (job kept l .refusal ≡ some n) ↔ Given (jobConditions kept l) n
-  pub taken : (job kept l .refusal ≡ none) ↔ NoneHolds (jobConditions kept l)
+pub record RefusalsBy (by : Resolver) (out : Out) (kept : ℕ) (l : List ℕ) : Type 0 where
+  pub given : (n : ℕ) → (jobBy by kept l .refusal ≡ some n) ↔ Given (jobConditionsBy by out kept l) n
+  pub taken : (jobBy by kept l .refusal ≡ none) ↔ NoneHolds (jobConditionsBy by out kept l)
+
+abbrev pub Refusals : (kept : ℕ) → List ℕ → Type 0
+Refusals kept l = RefusalsBy resolve runsOut kept l
 
 -- 1, said of the bytes alone: they do not begin with a number in its form
 abbrev pub NoNumber : Type 0
