@@ -2,13 +2,16 @@
 //! `price_job` and `try_settings`, which print the same.
 
 mod common;
+#[path = "command/programs.rs"]
+mod programs;
+#[path = "command/several.rs"]
+mod several;
 
-use std::fs::{self, File};
 use std::io::Write;
-use std::path::{Path, PathBuf};
+use std::path::Path;
 use std::process::{Command, Output, Stdio};
 
-use common::{jobs, kept_evictions, options, positions_met, printed, root};
+use common::{jobs, kept_evictions, positions_met, printed, root};
 
 fn run(words: &str) -> Output {
     Command::new(env!("CARGO_BIN_EXE_parallel-moves"))
@@ -210,81 +213,6 @@ refused 12          1661        1661
     );
 }
 
-/// Gives a program of `target/bin` the job of a file and words, and the command the same:
-/// the command's result is what the program prints; where it is refused, the program's last
-/// line has the number.
-fn same(program: &str, command: &str, file: &str, words: &str) -> bool {
-    let path = root().join("target/bin").join(program);
-    assert!(path.is_file(), "run `rt check {program}`");
-    let job = File::open(root().join(file)).unwrap();
-    let given = words.split(' ');
-    let printed = Command::new(path).args(given).stdin(job).output().unwrap();
-    assert!(printed.stderr.is_empty());
-    let printed = String::from_utf8(printed.stdout).unwrap();
-    let output = run(&format!("{command} {} {file}", options(command, words)));
-    if output.status.success() {
-        assert_eq!(
-            String::from_utf8_lossy(&output.stdout),
-            printed,
-            "{file} {words}"
-        );
-        return true;
-    }
-    let said = String::from_utf8(output.stderr).unwrap();
-    let (_, number) = said.split_once("refused ").unwrap();
-    let (number, _) = number.split_once(':').unwrap();
-    let last = format!("refused {number}");
-    assert_eq!(printed.lines().last(), Some(&last[..]), "{file} {words}");
-    false
-}
-
-#[test]
-fn price_job_prints_the_same() {
-    let mut priced = 0;
-    for (name, _) in jobs("compare/trials") {
-        let file = format!("compare/trials/{name}.job");
-        for words in ["1 4 6 16 12", "2 65535 0 1 65535"] {
-            priced += u32::from(same("price_job", "price", &file, words));
-        }
-    }
-    assert!(priced > 100, "{priced}");
-    for words in [
-        "1 4 6 16 12 67108863",
-        "1 4 6 16 12 67108864",
-        "2 0 0 0 65536",
-        "0 4 6 16 65536",
-        "1 4 6 16 1x",
-    ] {
-        same("price_job", "price", SWAP, words);
-        same("price_job", "price", UNFIT, words);
-    }
-    for words in ["1 4 6 16 12", "2 4 6 16 12", "1 4 6 16 65536"] {
-        same("price_job", "price", "examples/refused-17.job", words);
-    }
-}
-
-#[test]
-fn try_settings_prints_the_same() {
-    let mut tried = 0;
-    for (name, _) in jobs("compare/trials") {
-        let file = format!("compare/trials/{name}.job");
-        tried += u32::from(same("try_settings", "try", &file, "7 30 4 6 16 12"));
-    }
-    assert!(tried > 50, "{tried}");
-    for words in [
-        "0 1024 4 6 16 12",
-        "4294967295 10 1 2 3 65535",
-        "4294967296 10 1 2 3 4",
-        "7 0 1 2 3 65536",
-        "7 1025 1 2 3 4",
-        "x 1 1 2 3 4",
-        "1 1 1 2 3 65536",
-    ] {
-        same("try_settings", "try", SWAP, words);
-        same("try_settings", "try", UNFIT, words);
-    }
-}
-
 /// `resolve` prints of each trial what the program does.
 #[test]
 fn resolves() {
@@ -387,120 +315,6 @@ fn positions() {
     let output = run("positions examples/refused-17.job");
     assert_eq!(output.status.code(), Some(1));
     assert_eq!(output.stdout, b"patch 1 position 0\n");
-}
-
-/// A folder for a test, with nothing in it.
-fn folder(name: &str) -> PathBuf {
-    let path = Path::new(env!("CARGO_TARGET_TMPDIR")).join(name);
-    let _ = fs::remove_dir_all(&path);
-    fs::create_dir_all(&path).unwrap();
-    path
-}
-
-/// What a job's file is answered alone: the text and what is said.
-fn alone(file: &str) -> (String, String) {
-    let output = run(&format!("resolve {file}"));
-    let said = String::from_utf8(output.stderr).unwrap();
-    let said = said.replace("parallel-moves: ", &format!("parallel-moves: {file}: "));
-    (String::from_utf8(output.stdout).unwrap(), said)
-}
-
-/// Several jobs and folders of jobs, however many at once: what comes out is what comes out
-/// of each alone, one after the other.
-#[test]
-fn many() {
-    let (mut text, mut said) = (String::new(), String::new());
-    for (name, _) in jobs("compare/trials") {
-        let (of_one, said_of_one) = alone(&format!("compare/trials/{name}.job"));
-        text += &of_one;
-        said += &said_of_one;
-    }
-    for at_once in ["", "--jobs 1 ", "--jobs 2 ", "--jobs=7 ", "--jobs 1000 "] {
-        let output = run(&format!("resolve {at_once}compare/trials"));
-        assert_eq!(output.status.code(), Some(1));
-        assert!(output.stdout == text.as_bytes(), "{at_once}");
-        assert_eq!(String::from_utf8_lossy(&output.stderr), said, "{at_once}");
-    }
-    // A file and a folder, and an order that is the words'.
-    let twice = run(&format!("resolve {SWAP} compare/trials {SWAP}"));
-    let swap = alone(SWAP).0;
-    assert!(twice.stdout == [&swap[..], &text, &swap].concat().as_bytes());
-
-    let out = folder("many");
-    let output = run(&format!("resolve --to {} compare/trials", out.display()));
-    assert_eq!((output.status.code(), output.stdout.len()), (Some(1), 0));
-    assert_eq!(String::from_utf8_lossy(&output.stderr), said);
-    let mut written = String::new();
-    for (name, _) in jobs("compare/trials") {
-        written += &fs::read_to_string(out.join(format!("{name}.out"))).unwrap();
-    }
-    assert!(written == text);
-
-    // Texts have no file where there is none, and bytes come back from them.
-    let texts = folder("texts");
-    fs::write(texts.join("refused-1-empty.txt"), "of an earlier time").unwrap();
-    let output = run(&format!("text --to {} compare/trials", texts.display()));
-    assert_eq!(output.status.code(), Some(1));
-    assert!(!texts.join("refused-1-empty.txt").exists());
-    let back = folder("back");
-    run(&format!(
-        "bytes --to {} {}",
-        back.display(),
-        texts.display()
-    ));
-    for (name, job) in jobs("compare/trials") {
-        if let Ok(bytes) = fs::read(back.join(format!("{name}.job"))) {
-            assert_eq!(bytes, job, "{name}");
-        }
-    }
-    assert!(fs::read_dir(&back).unwrap().count() > 90);
-}
-
-/// What is wrong with words and files; the jobs that can be answered are.
-#[test]
-fn wrong_words() {
-    says(
-        "resolve --jobs 0 examples",
-        2,
-        "--jobs is given a number from 1 on; ",
-    );
-    says(
-        "resolve --jobs x examples",
-        2,
-        "--jobs is given a number from 1 on; ",
-    );
-    says("resolve --jobs", 2, "--jobs is given N; ");
-    says("resolve --what", 2, "--what is no option; ");
-    says("resolve --kept 1 --kept 2", 2, "--kept is said twice; ");
-    says("resolve - -", 2, "standard input is named twice; ");
-    says("resolve crates", 2, "crates has no file that ends in .job");
-    says("price --kept 1", 2, "--prices is missing; ");
-    says("try --seed 1 --prices 1,2,3,4", 2, "--patches is missing; ");
-    says("stamp it", 2, "stamp is given nothing; ");
-    says(
-        &format!("resolve --to /dev/null/no {SWAP}"),
-        2,
-        "/dev/null/no was not made: ",
-    );
-    let both = "compare/trials/swap-full.job";
-    says(
-        &format!("resolve --to /tmp {SWAP} {both}"),
-        2,
-        "examples/swap-full.job and compare/trials/swap-full.job have results of one name",
-    );
-    let output = run(&format!(
-        "resolve /nowhere/at.all {SWAP} examples/refused-17.job"
-    ));
-    assert_eq!(output.status.code(), Some(2));
-    let expected = alone(SWAP).0 + &alone("examples/refused-17.job").0;
-    assert_eq!(String::from_utf8_lossy(&output.stdout), expected);
-    let said = String::from_utf8(output.stderr).unwrap();
-    let lines: Vec<&str> = said.lines().collect();
-    assert_eq!(lines.len(), 2);
-    assert!(lines[0].starts_with("parallel-moves: /nowhere/at.all was not read: "));
-    assert!(lines[1].starts_with("parallel-moves: examples/refused-17.job: byte 55: patch 2: "));
-    // A word after `--` is a file, whatever it is.
-    says("resolve -- --kept", 2, "--kept was not read: ");
 }
 
 #[test]

@@ -307,7 +307,10 @@ fn archives_agree() {
         .collect();
     assert_eq!(stamped, LIBRARIES);
     for name in LIBRARIES {
-        for file in ["bench/src/ours.rs", "compare/src/beside/ours.rs"] {
+        for file in [
+            "bench/src/ours/library.rs",
+            "compare/src/beside/ours/library.rs",
+        ] {
             assert!(
                 read(file).contains(&format!("link(name = {name:?}, kind")),
                 "{file}"

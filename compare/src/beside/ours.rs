@@ -1,181 +1,28 @@
 //! Ours: the static library, with the memory that it is lent.
 
+#[path = "ours/lent.rs"]
+mod lent;
+#[path = "ours/library.rs"]
+mod library;
+
 use std::ops::Range;
 
 use judge::answer::{MOST_BYTES, MOST_PATCHES};
 use judge::calls::MOST_EDITS;
-use judge::prices::{Asked, Prices};
+use judge::prices::Asked;
 use judge::tries;
+use lent::{Lent, WATCHED};
+use library::{
+    parallel_moves_answer, parallel_moves_cheaper, parallel_moves_enough_slots,
+    parallel_moves_made, parallel_moves_open, parallel_moves_price, parallel_moves_price_edits,
+    parallel_moves_resolve, parallel_moves_text, parallel_moves_try, parallel_moves_write,
+};
 
 /// The words of the longest answer: a move has four bytes of a job and at most
 /// 8 edits, a rebuild three and 5.
 const MOST_WORDS: usize = 2 * MOST_BYTES + MOST_PATCHES;
 /// A line of an edit has at most 19 bytes, one of a patch or refusal at most 36.
 const MOST_TEXT: usize = 19 * 2 * MOST_BYTES + 36 * (MOST_PATCHES + 1);
-
-#[cfg(stub)]
-extern crate stub;
-
-#[cfg_attr(not(stub), link(name = "parallel_moves_c", kind = "static"))]
-#[cfg_attr(not(stub), link(name = "calls_c", kind = "static"))]
-#[cfg_attr(not(stub), link(name = "asking_c", kind = "static"))]
-#[cfg_attr(not(stub), link(name = "groups_c", kind = "static"))]
-#[cfg_attr(not(stub), link(name = "answer_groups_c", kind = "static"))]
-#[cfg_attr(not(stub), link(name = "frame_c", kind = "static"))]
-#[cfg_attr(not(stub), link(name = "job_writer_c", kind = "static"))]
-#[cfg_attr(not(stub), link(name = "price_c", kind = "static"))]
-#[cfg_attr(not(stub), link(name = "trying_c", kind = "static"))]
-#[cfg_attr(not(stub), link(name = "examine_c", kind = "static"))]
-unsafe extern "C" {
-    #[link_name = "parallel_moves_open_4"]
-    fn parallel_moves_open(
-        kept_evictions: u32,
-        bytes: *const u8,
-        bytes_len: usize,
-        target: *mut u16,
-        function: *mut u16,
-        cache: *mut u16,
-    ) -> u8;
-
-    #[link_name = "parallel_moves_resolve_4"]
-    fn parallel_moves_resolve(
-        target: *const u16,
-        function: *const u16,
-        free_units: *const u32,
-        free_units_len: usize,
-        numbers: *const u32,
-        numbers_len: usize,
-        cache: *mut u16,
-        list: *mut u64,
-        list_len: usize,
-        refusal: *mut u8,
-        position: *mut u16,
-        entries: *mut u16,
-        writers: *mut u16,
-        available: *mut u8,
-        sources: *mut u8,
-        edits: *mut u64,
-        slots: *mut u16,
-        diverted: *mut u16,
-        marks: *mut u8,
-        carried: *mut u16,
-    ) -> usize;
-
-    #[link_name = "parallel_moves_made_4"]
-    fn parallel_moves_made(cache: *const u16) -> u16;
-
-    #[link_name = "parallel_moves_enough_slots_4"]
-    fn parallel_moves_enough_slots(
-        kept_evictions: u32,
-        bytes: *const u8,
-        bytes_len: usize,
-        refusal: *mut u8,
-        target: *mut u16,
-        function: *mut u16,
-    ) -> u16;
-
-    #[link_name = "parallel_moves_answer_4"]
-    fn parallel_moves_answer(
-        kept_evictions: u32,
-        job: *const u8,
-        job_len: usize,
-        words: *mut u64,
-        words_len: usize,
-        refusal: *mut u8,
-        target: *mut u16,
-        function: *mut u16,
-        cache: *mut u16,
-        free_units: *mut u8,
-        entries: *mut u16,
-        writers: *mut u16,
-        available: *mut u8,
-        sources: *mut u8,
-        edits: *mut u64,
-        slots: *mut u16,
-        diverted: *mut u16,
-        marks: *mut u8,
-        carried: *mut u16,
-    ) -> usize;
-
-    #[link_name = "parallel_moves_price_4"]
-    fn parallel_moves_price(
-        words: *const u64,
-        words_len: usize,
-        patch: usize,
-        prices: &Prices,
-        runs: u64,
-        total: &mut u64,
-        runs_as_double: &mut f64,
-        product: &mut f64,
-    ) -> u8;
-
-    #[link_name = "parallel_moves_price_edits_4"]
-    fn parallel_moves_price_edits(
-        list: *const u64,
-        list_len: usize,
-        prices: &Prices,
-        runs: u64,
-        total: &mut u64,
-        runs_as_double: &mut f64,
-        product: &mut f64,
-    ) -> u8;
-
-    #[link_name = "parallel_moves_cheaper_4"]
-    fn parallel_moves_cheaper(
-        first: *const u64,
-        first_len: usize,
-        second: *const u64,
-        second_len: usize,
-        prices: &Prices,
-    ) -> u8;
-
-    #[link_name = "parallel_moves_try_4"]
-    fn parallel_moves_try(
-        job: *const u8,
-        job_len: usize,
-        prices: &Prices,
-        seed: u32,
-        patches: u32,
-        one: &mut [u64; TALLY],
-        two: &mut [u64; TALLY],
-        target: *mut u16,
-        function: *mut u16,
-        cache: *mut u16,
-        entries: *mut u16,
-        writers: *mut u16,
-        available: *mut u8,
-        sources: *mut u8,
-        edits: *mut u64,
-        slots: *mut u16,
-        diverted: *mut u16,
-        marks: *mut u8,
-        carried: *mut u16,
-    ) -> u8;
-
-    #[link_name = "parallel_moves_text_4"]
-    fn parallel_moves_text(
-        words: *const u64,
-        words_len: usize,
-        refusal: u8,
-        text: *mut u8,
-        text_len: usize,
-    ) -> usize;
-
-    #[link_name = "parallel_moves_write_4"]
-    fn parallel_moves_write(
-        numbers: *const u32,
-        numbers_len: usize,
-        bytes: *mut u8,
-        bytes_len: usize,
-        refusal: *mut u8,
-        work: *mut u8,
-        target: *mut u16,
-        function: *mut u16,
-        available: *mut u8,
-        entries: *mut u16,
-        writers: *mut u16,
-    ) -> usize;
-}
 
 /// How many cells a tally has, and what is found in one that is not set.
 pub const TALLY: usize = 263;
@@ -202,40 +49,8 @@ impl Record {
     }
 }
 
-/// An array that is lent, and past its end some that is not.
-struct Lent<T> {
-    all: Vec<T>,
-    len: usize,
-    not_lent: T,
-}
-
 /// What a position is before a call.
 pub const NO_POSITION: u16 = 0x5a5a;
-
-/// How many numbers past the end of an array are watched.
-const WATCHED: usize = 32;
-
-impl<T: Copy + PartialEq> Lent<T> {
-    /// An array of any content, here two numbers in turn.
-    fn new(len: usize, content: [T; 2]) -> Self {
-        let all = (0..len + WATCHED).map(|index| content[index % 2]).collect();
-        let mut lent = Lent {
-            all,
-            len,
-            not_lent: content[1],
-        };
-        lent.all[len..].fill(content[1]);
-        lent
-    }
-
-    fn pointer(&mut self) -> *mut T {
-        self.all.as_mut_ptr()
-    }
-
-    fn is_kept(&self) -> bool {
-        self.all[self.len..].iter().all(|&n| n == self.not_lent)
-    }
-}
 
 /// What a lent byte is before a job is written.
 fn not_written(at: usize) -> u8 {
