@@ -50,7 +50,7 @@ impl ResolvedPatch<'_> {
     /// ```
     /// use parallel_moves::{Prices, Refusal, Resolver};
     ///
-    /// let prices = Prices { moves: 4, rebuilds: 6, saves: 16, reloads: 12 };
+    /// let prices = Prices { moves: 4, remats: 6, spills: 16, reloads: 12 };
     /// let job = std::fs::read("../examples/swap-full.job").unwrap();
     /// let answer = Resolver::new().answer(1, &job).unwrap();
     /// // M s0 r1 1, M r1 r0 0 and M r0 s0 1.
@@ -99,7 +99,7 @@ impl<'a> Edits<'a> {
 /// ```
 /// use parallel_moves::{Prices, cheaper};
 ///
-/// let prices = Prices { moves: 4, rebuilds: 6, saves: 16, reloads: 12 };
+/// let prices = Prices { moves: 4, remats: 6, spills: 16, reloads: 12 };
 /// let (three_moves, save_and_reload) = ([1, 1, 1], [3, 4]);
 /// assert_eq!(cheaper(&save_and_reload, &three_moves, prices), Ok(&three_moves[..]));
 /// // 12 and 12: the first.

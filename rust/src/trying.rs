@@ -20,7 +20,7 @@ use crate::sys;
 /// ```
 /// use parallel_moves::{Prices, Refusal, try_settings};
 ///
-/// let prices = Prices { moves: 4, rebuilds: 6, saves: 16, reloads: 12 };
+/// let prices = Prices { moves: 4, remats: 6, spills: 16, reloads: 12 };
 /// let job = std::fs::read("../examples/swap-full.job").unwrap();
 /// let [one, two] = try_settings(&job, prices, 0, 1024).unwrap();
 /// // Three registers, of which a draw's source is mostly its destination.

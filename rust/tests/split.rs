@@ -74,7 +74,7 @@ fn registers() -> Vec<Register> {
 }
 
 /// A job over these registers. Value v has the bank `banks[v]`, and can be
-/// rebuilt in any register that is not memory if `rebuilt` says so. Memory is
+/// rebuilt in any register that is not memory if `remat` says so. Memory is
 /// taken first for scratch where it may be.
 fn job(
     registers: &[Register],
