@@ -257,7 +257,6 @@ pub struct FramePreview {
 
 impl FramePreview {
     /// The edits that carry the patch out.
-    #[must_use]
     pub fn edits(&self) -> Edits<'_> {
         Edits::new(&self.edits)
     }

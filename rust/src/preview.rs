@@ -22,7 +22,6 @@ pub struct Preview {
 
 impl Preview {
     /// The edits that carry the patch out.
-    #[must_use]
     pub fn edits(&self) -> Edits<'_> {
         Edits::new(&self.edits)
     }

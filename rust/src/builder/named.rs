@@ -6,8 +6,7 @@ use super::TargetBuilder;
 use crate::entity::RegBank;
 use crate::{reading, sys};
 
-/// The names, and what they stand for.
-const NAMED: &[(&str, fn() -> TargetBuilder)] = &[("shipped", shipped)];
+const SHIPPED: &str = "shipped";
 
 impl TargetBuilder {
     /// The target with a name, of which there is one, `shipped`:
@@ -35,27 +34,24 @@ impl TargetBuilder {
     /// ```
     #[must_use]
     pub fn named(name: &str) -> Option<Self> {
-        let named = NAMED.iter().find(|(of, _)| *of == name);
-        named.map(|(_, target)| target())
+        (name == SHIPPED).then(shipped)
     }
 
     /// The name of this target, if it has one.
     #[must_use]
     pub fn name(&self) -> Option<&'static str> {
-        let is_it = |target: TargetBuilder| {
-            self.unit_count() == target.unit_count()
-                && self.banks == target.banks
-                && self.registers == target.registers
-                && self.classes == target.classes
-        };
-        let named = NAMED.iter().find(|(_, target)| is_it(target()));
-        named.map(|(name, _)| *name)
+        let target = shipped();
+        let is_it = self.unit_count() == target.unit_count()
+            && self.banks == target.banks
+            && self.registers == target.registers
+            && self.classes == target.classes;
+        is_it.then_some(SHIPPED)
     }
 }
 
 /// As the library has it, where it is proved to be the one of the papers.
 fn shipped() -> TargetBuilder {
-    static SHIPPED: LazyLock<TargetBuilder> = LazyLock::new(|| {
+    static TARGET: LazyLock<TargetBuilder> = LazyLock::new(|| {
         let target = reading::target(&sys::shipped());
         let mut target = target.expect("its bytes are those of a target");
         // What is added is of the last bank, and there are as many units as the registers name.
@@ -63,5 +59,5 @@ fn shipped() -> TargetBuilder {
         target.of_bank(RegBank::new(target.banks.len() - 1));
         target
     });
-    SHIPPED.clone()
+    TARGET.clone()
 }

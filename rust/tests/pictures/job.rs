@@ -34,7 +34,7 @@ impl Job {
             let (mut number, mut shift) = (0, 0);
             loop {
                 let byte = u32::from(*rest.next().unwrap());
-                number |= byte % 128 << shift;
+                number |= (byte % 128) << shift;
                 shift += 7;
                 if byte < 128 {
                     return number;
