@@ -491,7 +491,8 @@ size_t parallel_moves_write(
     PARALLEL_MOVES_SYMBOL("parallel_moves_write");
 
 /* Writes the shipped target (docs/JOB.md, 'Writing a job') to the front of `work`,
- * as the bytes that a job on it begins with, and returns how many there are. */
+ * as the bytes that a job on it begins with, and returns how many there are. What stands
+ * past them in `work` may be anything. */
 size_t parallel_moves_shipped(
     uint8_t work[PARALLEL_MOVES_MOST_BYTES],
     uint16_t target[PARALLEL_MOVES_TARGET])

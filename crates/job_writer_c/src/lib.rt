@@ -53,7 +53,7 @@ pub extern "C" fn parallel_moves_write_4(
     }
 }
 
-// Writes the shipped target to the front of `work`, as a job on it begins, and answers how many bytes it has.
+// Writes the shipped target to the front of `work`, as a job on it begins, and answers how many bytes it has. What stands past them may be anything.
 #[no_mangle]
 pub extern "C" fn parallel_moves_shipped_4(work: &mut Work, target: &mut RegInfo) -> usize
     ensures { λ n. ⌜ (n ≡ length (bytesOf (targetNumbers shipped))) × (take n (now (work .exit)) ≡ bytesOf (targetNumbers shipped)) × Anything (now (target .exit)) ⌝ }

@@ -1,4 +1,3 @@
-pub mod Numbers
 pub mod Done
 pub mod Lengths
 pub mod Stood

@@ -1,11 +1,11 @@
 -- 02 e: what the program prints, of its arguments and a job.
-use Prim.Native.Nat.{ℕ, suc, _+_, _-_, _*_}
+use Prim.Native.Nat.{ℕ, suc}
 use mathlib.Core.Path.{_≡_}
 use mathlib.Core.Bool.{Bool}
 use mathlib.Core.List.{List, [], _∷_, map}
-use lib.Dec.{eqb, ltb, leb}
+use lib.Dec.{eqb}
 use lib.ListN.{length}
-use Rattle.entity.specs.Logic.{pick, and, or}
+use Rattle.entity.specs.Logic.{pick, or}
 use Rattle.edit.specs.Word.{wordOf}
 use Rattle.price.specs.declared.Prices.{Prices}
 use Rattle.number.specs.Read.{Read, got, refused}
@@ -15,25 +15,6 @@ use Rattle.job_rules.specs.Priced.{openingPriced}
 use Rattle.edges.specs.Patches.{patchNumbered, nth}
 use Rattle.answer.specs.Words.{wordsOf, numberOf, AllPacked}
 use Rattle.price_text.specs.Lines.{edgesText}
-
--- ---- an argument as a number: digits, and below 2^32; else 2^32 or more, which is outside every range
-abbrev pub isDigit : ℕ → Bool
-isDigit b = and (leb 48 b) (leb b 57)
-
-abbrev pub stepped : ℕ → ℕ → ℕ
-stepped n b = pick (and (ltb n 4294967296) (isDigit b)) (n * 10 + (b - 48)) 4294967296
-
-unfoldable pub numberFrom : ℕ → List ℕ → ℕ
-numberFrom n [] = n
-numberFrom n (b ∷ l) = numberFrom (stepped n b) l
-
-abbrev pub numberIn : List ℕ → ℕ
-numberIn [] = 4294967296
-numberIn (b ∷ l) = numberFrom 0 (b ∷ l)
-
--- as a setting or a price
-abbrev pub narrowed : ℕ → ℕ
-narrowed n = pick (ltb n 4294967295) n 4294967295
 
 -- ---- "Their number is 0 or the patch count, else 2 when that is read."
 abbrev pub runsFit : (given patches : ℕ) → Bool

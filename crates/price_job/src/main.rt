@@ -22,50 +22,7 @@ ghost use lib.ListN.{length, take};
 ghost use Rattle.entity.specs.Logic.{Anything};
 ghost use Rattle.price.specs.Price.{inRange};
 ghost use Rattle.print.specs.Put.{Put};
-ghost use Rattle.price_job.specs.Text.{stepped, numberIn, narrowed, runsFit, pricesDone, jobPrices};
-
-// A digit behind a number, or 2^32, which is outside every range.
-fn step(n: u64, byte: u8) -> u64
-    requires { ⌜ n ≤ 42949672969 ⌝ }
-    ensures { λ r. ⌜ (r ≡ stepped n byte) × (r ≤ 42949672969) ⌝ }
-{
-    if 4294967296 <= n {
-        return 4294967296;
-    }
-    if byte < 48 {
-        return 4294967296;
-    }
-    if 57 < byte {
-        return 4294967296;
-    }
-    n * 10 + (byte - 48) as u64
-}
-
-// The number that an argument is.
-fn number_in(arg: &[u8]) -> u64
-    ensures { λ r. ⌜ r ≡ numberIn (now (arg .entry)) ⌝ }
-{
-    if arg.len() == 0 {
-        return 4294967296;
-    }
-    let mut n: u64 = 0;
-    let mut i = 0;
-    while i < arg.len() {
-        n = step(n, arg[i]);
-        i += 1;
-    }
-    n
-}
-
-// A setting or a price: what is outside every range stays so.
-fn narrow(n: u64) -> u32
-    ensures { λ r. ⌜ r ≡ narrowed n ⌝ }
-{
-    if n < 4294967295 {
-        return n as u32;
-    }
-    4294967295
-}
+ghost use Rattle.price_job.specs.Text.{runsFit, pricesDone, jobPrices};
 
 // Whether there are no run counts, or one for each patch.
 fn runs_fit(given: usize, patches: u32) -> bool
@@ -187,7 +144,7 @@ fn put_job(
 fn number_at(i: usize) -> u64 {
     let mut arg = [0u8; 64];
     let n = os::arg(i, &mut arg);
-    number_in(&arg[..n])
+    arguments::number_in(&arg[..n])
 }
 
 // The run counts that follow the prices, as many as there is room for.
@@ -225,12 +182,12 @@ fn main() {
     let mut d = [0u16; 12288];
     let mut marks = [0u8; 129];
     let mut c = [0u16; 2049];
-    let kept_evictions = narrow(number_at(1));
+    let kept_evictions = arguments::narrow(number_at(1));
     let p = Prices {
-        moves: narrow(number_at(2)),
-        remats: narrow(number_at(3)),
-        spills: narrow(number_at(4)),
-        reloads: narrow(number_at(5)),
+        moves: arguments::narrow(number_at(2)),
+        remats: arguments::narrow(number_at(3)),
+        spills: arguments::narrow(number_at(4)),
+        reloads: arguments::narrow(number_at(5)),
     };
     let given = read_runs(&mut runs);
     let n = io::read_full(0, &mut job);

@@ -10,7 +10,7 @@ use Rattle.price_job.proofs.main.Lts as lts
 use Rattle.io.proofs.read_full.Reads as read-full-reads
 use Rattle.io.proofs.write_all.Reads as write-all-reads
 use Rattle.os.proofs.fail.Reads as fail-reads
-use Rattle.price_job.proofs.narrow.Reads as narrow-reads
+use Rattle.arguments.proofs.narrow.Reads as narrow-reads
 use Rattle.price_job.proofs.number_at.Reads as number-at-reads
 use Rattle.price_job.proofs.put_job.Reads as put-job-reads
 use Rattle.price_job.proofs.read_runs.Reads as read-runs-reads
