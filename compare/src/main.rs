@@ -213,8 +213,10 @@ fn write_trials(file: &str, folder: &Path) -> Outcome {
 
 fn write_replay(seed: &str, folder: &Path) -> Outcome {
     let seed = seed.parse().map_err(|_| "SEED is not a number")?;
-    let records = replay::records(seed, replay::trials(folder)?)?;
+    let mut records = replay::records(seed, replay::trials(folder)?)?;
     eprint!("{}", replay::table(&records));
+    let wrong = replay::wrong(&records)?;
+    records.extend(wrong);
     write_records(&records)
 }
 

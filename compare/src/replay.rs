@@ -138,6 +138,42 @@ pub fn trials(folder: &Path) -> io::Result<Vec<Record>> {
     Ok(records)
 }
 
+/// Records whose text is not the answer's, each for one reason, made of the first trials that
+/// serve: a program that holds answers against texts says of each that it differs. The text is a
+/// line short, has a line more, another last byte, is that of the other setting, ends in a
+/// refusal that is none, and in a number too low.
+pub fn wrong(records: &[Record]) -> Result<Vec<Record>, String> {
+    let first = |wanted: &dyn Fn(&&Record) -> bool| {
+        let found = records.iter().find(wanted);
+        found.ok_or("no trial to make a wrong record of")
+    };
+    let accepted = first(&|record| record.refusal() == 0 && record.text.lines().count() > 2)?;
+    let other = first(&|record| {
+        let judged = Record::new("wrong", 3 - record.kept_evictions, record.job.clone());
+        record.refusal() == 0 && judged.text != record.text
+    })?;
+    // Not by 17 or 22, which no reader gives.
+    let refused = first(&|record| (3..=15).contains(&record.refusal()))?;
+    let lines: Vec<&str> = accepted.text.split_inclusive('\n').collect();
+    let changed = accepted.text.trim_end_matches('\n');
+    let texts = [
+        (accepted, lines[..lines.len() - 1].concat()),
+        (accepted, format!("{}{}", accepted.text, lines[1])),
+        (accepted, format!("{}9\n", &changed[..changed.len() - 1])),
+        (other, Record::new("wrong", 3 - other.kept_evictions, other.job.clone()).text),
+        (accepted, format!("{}refused 5\n", accepted.text)),
+        (refused, "refused 2\n".to_owned()),
+    ];
+    let wrong = texts.map(|(record, text)| Record {
+        mode: "wrong",
+        kept_evictions: record.kept_evictions,
+        job: record.job.clone(),
+        text,
+        place: record.place,
+    });
+    Ok(wrong.into())
+}
+
 /// The records that a seed decides, after those of the trials.
 pub fn records(seed: u64, trials: Vec<Record>) -> Result<Vec<Record>, String> {
     let mut records = trials;

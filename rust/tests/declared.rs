@@ -297,7 +297,7 @@ fn archives_agree() {
     let rust = read("rust/build.rs");
     assert!(listed(between(&rust, "LIBRARIES: &[&str] = &[", "];")).eq(build));
     let listed = format!("libraries=({})", LIBRARIES.join(" "));
-    for file in ["rust/test", "bench/run", "compare/link"] {
+    for file in ["build", "bench/run", "compare/link"] {
         assert!(read(file).contains(&listed), "{file}");
     }
     let stamp = read("c/stamp");

@@ -18,22 +18,22 @@ unfolding any all has meets lastOr indices spillslotSize topLevelClass stackToSt
 group-trials =
     record {
       accepted = refl;
-      spared = (refl, refl, refl);
-      spared-after = (refl, refl, refl);
-      between = (refl, refl, refl);
+      spared = refl;
+      spared-after = refl;
+      between = refl;
       between-labels = refl;
-      linked = (refl, refl, refl);
+      linked = refl;
       linked-labels = refl;
-      rebuilt-source = (refl, refl, refl);
-      own-source = (refl, refl, refl);
-      slot-handed-on = (refl, refl, refl);
+      rebuilt-source = refl;
+      own-source = refl;
+      slot-handed-on = refl;
       later-17 = refl;
       later-17-stays = refl;
-      dropped = (refl, refl, refl);
+      dropped = refl;
       dropped-16 = refl;
       whole-first = refl;
       position-first = refl;
       position-last = refl;
-      no-entries = (refl, refl, refl);
+      no-entries = refl;
       no-groups = refl;
     }

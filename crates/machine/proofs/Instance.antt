@@ -29,8 +29,8 @@ use Rattle.machine.proofs.Demand.{demand-3}
 
 module _ (t : RegInfo) (f : Function) (p : Patch) where
   given : (r : Answer) (es : List Edit) (made : ℕ) (stack : List ℕ) → Gives r es made stack → Answered t f p r → Accepted t f p es
-  given (refused n) es made stack g h = absurd g
-  given (resolved es′ c n) es made stack g h = rw (g .0) at h
+  given (refused n) es made stack g h = let z : _≡_ {A = ℕ} 0 1 = cc in absurd (omega arith)
+  given (resolved es′ c n) es made stack g h = let e : es′ ≡ es = cc in rw e at h
 
 swap-fits : function.Accepted three (plain 0 1)
 unfolding three indices valueBank rematCost rematClass isSetting function.countsFit function.valueFits function.foreignClass function.valuesRefusal function.functionRefusal

@@ -160,9 +160,9 @@ not-accepted =
     record {
       target-taken = refl;
       function-taken = refl;
-      one-taken = (refl, refl, refl);
-      three-taken = (refl, refl, refl);
-      stored-taken = (refl, refl, refl);
+      one-taken = refl;
+      three-taken = refl;
+      stored-taken = refl;
       foreign-register = plainly-wrong _ (omega arith) (λ r. let e : 70 ≡ 71 = stopped _ _ _ _ r 2 .units 2 (omega arith) refl refl .0 in omega arith);
       foreign-word = plainly-wrong _ (omega arith) (λ r. differ (λ (z : 70 ≡ 80). omega arith) (stopped _ _ _ _ r 2 .units 8 (omega arith) refl refl .1));
       foreign-slot = plainly-wrong _ (omega arith) (λ r. differ (λ (z : 70 ≡ 9). omega arith) (stopped _ _ _ _ r 2 .slots 1 (omega arith) refl));

@@ -16,30 +16,53 @@ fn replayed(kept_evictions: u32, job: &[u8], text: &[u8]) -> bool
     records::same(text, &out[..n])
 }
 
+// What became of a record; or there is none.
+enum Outcome {
+    Same,
+    Differs,
+    End,
+}
+
 // The record after the first k: whether there is one and its job is answered as recorded. If not, a line says why.
-fn replay_next(k: u64) -> bool
+fn replay_next(k: u64) -> Outcome
     requires { ⌜ k < 100000 ⌝ }
 {
     let mut job = [0u8; 16384];
     let mut text = [0u8; 65536];
     match records::read_record(&mut job, &mut text) {
-        Record::End => records::say(b"", k, b" answers, all the same\n"),
-        Record::Cut => records::say(b"record ", k + 1, b" is cut off or too long\n"),
+        Record::End => Outcome::End,
+        Record::Cut => {
+            records::say(b"record ", k + 1, b" is cut off or too long\n");
+            Outcome::End
+        }
         Record::Is(kept_evictions, n, m) => {
             if replayed(kept_evictions, &job[..n], &text[..m]) {
-                return true;
+                return Outcome::Same;
             }
             records::say(b"answer ", k + 1, b" differs\n");
+            Outcome::Differs
         }
     }
-    false
+}
+
+// What became of all records. The last of them are wrong on purpose, so that a comparison that finds nothing is seen.
+fn tell(same: u64, differ: u64) {
+    records::say(b"", same, b" answers are the same\n");
+    records::say(b"", differ, b" differ\n");
 }
 
 fn main() {
     let mut k: u64 = 0;
+    let mut same: u64 = 0;
+    let mut differ: u64 = 0;
     while k < 100000 {
-        if !replay_next(k) {
-            return;
+        match replay_next(k) {
+            Outcome::Same => same += 1,
+            Outcome::Differs => differ += 1,
+            Outcome::End => {
+                tell(same, differ);
+                return;
+            }
         }
         k += 1;
     }

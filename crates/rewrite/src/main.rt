@@ -169,11 +169,12 @@ fn rewrite_next(k: u64) -> Outcome
     }
 }
 
-// What became of all jobs.
-fn tell(same: u64, refused: u64, others: u64) {
-    records::say(b"", same, b" jobs written, all with their bytes\n");
-    records::say(b"", refused, b" refused, all with the reader's number\n");
+// What became of all jobs. The last records are wrong on purpose, so that a comparison that finds nothing is seen.
+fn tell(same: u64, refused: u64, others: u64, differ: u64) {
+    records::say(b"", same, b" jobs written with their bytes\n");
+    records::say(b"", refused, b" refused with the reader's number\n");
     records::say(b"", others, b" are no numbers\n");
+    records::say(b"", differ, b" differ\n");
 }
 
 fn main() {
@@ -181,6 +182,7 @@ fn main() {
     let mut same: u64 = 0;
     let mut refused: u64 = 0;
     let mut others: u64 = 0;
+    let mut differ: u64 = 0;
     while k < 100000 {
         match rewrite_next(k) {
             Outcome::Same => same += 1,
@@ -188,10 +190,10 @@ fn main() {
             Outcome::NoNumbers => others += 1,
             Outcome::Differs => {
                 records::say(b"job ", k + 1, b" differs\n");
-                return;
+                differ += 1;
             }
             Outcome::End => {
-                tell(same, refused, others);
+                tell(same, refused, others, differ);
                 return;
             }
         }

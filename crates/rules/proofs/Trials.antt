@@ -16,48 +16,48 @@ all-trials : Trials × ToldApart × Overlaps × Sources × ArgumentWords × Posi
 unfolding any all has meets lastOr indices spillslotSize topLevelClass stackToStackClass regMemory bankForReg regUnits bankForClass classSlots classMembers allocationOrder firstOf valueBank rematCost rematClass updated andThen each find firstAt filter acquireFrom unevict unevictBut unevictForReg makeRoom slotScratch evictLast reuse orScratch getScratchReg moveEdits doMove carryOne carry remats rematWithScratch writerFrom writersOf writers cycleMoveSources divert lead undivert undivertAll close visit visitUnlessMemory start moves destinations add entryConditions patchConditions run resolveSorted resolveFrom resolve three chained five six halves between sizes slotsAlone memory eight ordered orderTotal countsFit bankFits regFits classFits outsideLimits listedTwice unequalWidths foreignMember sharedMemory unfitClass targetRefusal twice doubled
 all-trials = (
   record {
-    swap-full = (refl, refl, refl);
-    unit-free = (refl, refl, refl);
-    chain = (refl, refl, refl);
-    slot-to-slot = (refl, refl, refl);
-    slots-swapped = (refl, refl, refl);
-    rebuild = (refl, refl, refl);
-    no-entries = (refl, refl, refl);
-    twice = (refl, refl, refl);
+    swap-full = refl;
+    unit-free = refl;
+    chain = refl;
+    slot-to-slot = refl;
+    slots-swapped = refl;
+    rebuild = refl;
+    no-entries = refl;
+    twice = refl;
     no-slot = refl;
     no-slot-cache = (refl, refl);
   },
   record {
     targets = (refl, refl, refl, refl, refl, refl, refl, refl, refl, refl);
-    closed-first = (refl, refl, refl);
-    sources-spared = (refl, refl, refl);
-    scratch-on-evicted = (refl, refl, refl);
-    two-writers = (refl, refl, refl);
-    join-counts = (refl, refl, refl);
-    join-keeps-source = (refl, refl, refl);
-    scratch-unavailable = (refl, refl, refl);
-    source-last = (refl, refl, refl);
-    source-brought-back = (refl, refl, refl);
-    stack-first = (refl, refl, refl);
-    first-usable = (refl, refl, refl);
-    rebuilds-backwards = (refl, refl, refl);
-    let-go-as-received = (refl, refl, refl);
-    brought-back-first = (refl, refl, refl);
-    slot-of-its-bank = (refl, refl, refl);
-    rebuilt-available = (refl, refl, refl);
-    rebuilt-by-scratch-available = (refl, refl, refl);
-    memory-rebuilt = (refl, refl, refl);
-    writer-counted-once = (refl, refl, refl);
-    received-once = (refl, refl, refl);
-    fan-out = (refl, refl, refl);
-    fan-out-repeated = (refl, refl, refl);
+    closed-first = refl;
+    sources-spared = refl;
+    scratch-on-evicted = refl;
+    two-writers = refl;
+    join-counts = refl;
+    join-keeps-source = refl;
+    scratch-unavailable = refl;
+    source-last = refl;
+    source-brought-back = refl;
+    stack-first = refl;
+    first-usable = refl;
+    rebuilds-backwards = refl;
+    let-go-as-received = refl;
+    brought-back-first = refl;
+    slot-of-its-bank = refl;
+    rebuilt-available = refl;
+    rebuilt-by-scratch-available = refl;
+    memory-rebuilt = refl;
+    writer-counted-once = refl;
+    received-once = refl;
+    fan-out = refl;
+    fan-out-repeated = refl;
     sources-differ = refl;
     values-differ = refl;
   },
   record {
     targets = (refl, refl, refl);
-    wider-evicted = (refl, refl, refl);
-    narrower-evicted = (refl, refl, refl);
+    wider-evicted = refl;
+    narrower-evicted = refl;
     last-overlaps = refl;
   },
   record {
@@ -65,22 +65,22 @@ all-trials = (
     whole-then-half = refl;
     half-then-whole = refl;
     with-any-kept = refl;
-    equal-sources = (refl, refl, refl);
+    equal-sources = refl;
     after-12 = refl;
     before-9 = refl;
     before-13 = refl;
-    rebuilt-then-whole = (refl, refl, refl);
-    whole-then-rebuilt = (refl, refl, refl);
-    over-a-destination = (refl, refl, refl);
+    rebuilt-then-whole = refl;
+    whole-then-rebuilt = refl;
+    over-a-destination = refl;
   },
   record {
     targets = (refl, refl);
     wide-memory = refl;
     wider-memory = refl;
     unequal = refl;
-    through-a-word = (refl, refl, refl);
-    words-swapped = (refl, refl, refl);
-    word-stored = (refl, refl, refl);
+    through-a-word = refl;
+    words-swapped = refl;
+    word-stored = refl;
   },
   record {
     target = refl;
@@ -120,13 +120,13 @@ two-kept =
       target = refl;
       functions = (refl, refl);
       settings = (refl, refl, refl, refl);
-      alternates = (refl, refl, refl);
-      one-alternates = (refl, refl, refl);
-      both-wait = (refl, refl, refl);
+      alternates = refl;
+      one-alternates = refl;
+      both-wait = refl;
       second-slot = refl;
-      one-slot = (refl, refl, refl);
-      older-read = (refl, refl, refl);
-      newer-read = (refl, refl, refl);
+      one-slot = refl;
+      older-read = refl;
+      newer-read = refl;
     }
 
 pub brought-back : BroughtBack
@@ -135,10 +135,10 @@ brought-back =
     record {
       targets = (refl, refl, refl, refl, refl);
       functions = (refl, refl, refl, refl, refl, refl);
-      both-read = (refl, refl, refl);
-      both-rebuilt = (refl, refl, refl);
-      source-first = (refl, refl, refl);
-      older-stays = (refl, refl, refl);
-      by-eviction = (refl, refl, refl);
-      newest-member = (refl, refl, refl);
+      both-read = refl;
+      both-rebuilt = refl;
+      source-first = refl;
+      older-stays = refl;
+      by-eviction = refl;
+      newest-member = refl;
     }

@@ -43,10 +43,18 @@ patch free es = record { free = free; entries = es }
 abbrev pub swap : List Entry
 swap = move (reg 0) (reg 1) 0 ∷ move (reg 1) (reg 0) 1 ∷ []
 
--- what an answer must be: the edits, the slots made and the 32 stacks
+-- what an answer tells: the number, or the edits, the slots made and the 32 stacks
+pub data Told : Type 0 where
+  number : ℕ → Told
+  leaves : List Edit → ℕ → List (List ℕ) → Told
+
+abbrev pub told : Answer → Told
+told (refused n) = number n
+told (resolved es c n) = leaves es (c .made) (map (c .stacks) (indices 0 32))
+
+-- what an answer must be, as one equation, so that it is computed once
 abbrev pub Leaves : Answer → List Edit → ℕ → (ℕ → List ℕ) → Type 0
-Leaves (refused n) es made stacks = ⊥
-Leaves (resolved es′ c n) es made stacks = (es′ ≡ es) × (c .made ≡ made) × (map (c .stacks) (indices 0 32) ≡ map stacks (indices 0 32))
+Leaves r es made stacks = told r ≡ leaves es made (map stacks (indices 0 32))
 
 -- the same, where all stacks but that of size 3 are empty
 abbrev pub Gives : Answer → List Edit → ℕ → List ℕ → Type 0

@@ -34,6 +34,18 @@ fn same(program: &str, command: &str, file: &str, words: &str) -> bool {
     false
 }
 
+/// Run counts that are fewer or more than the job's patches are refused, and nothing is priced.
+#[test]
+fn run_counts_are_those_of_the_patches() {
+    let path = root().join("target/bin/price_job");
+    for (runs, refused) in [("7 7 7", false), ("7 7", true), ("7 7 7 7", true)] {
+        let job = File::open(root().join("examples/enough-two-sizes.job")).unwrap();
+        let given = "1 4 6 16 12".split(' ').chain(runs.split(' '));
+        let printed = Command::new(&path).args(given).stdin(job).output().unwrap();
+        assert_eq!(printed.stdout == b"refused 2\n", refused, "{runs}");
+    }
+}
+
 #[test]
 fn price_job_prints_the_same() {
     let mut priced = 0;

@@ -25,29 +25,20 @@ read-record-requires c κs = search needs
 enum-told : tie.Need-enum-told
 enum-told c = search needs
 
+enum-told-2 : tie.Need-enum-told-2
+enum-told-2 c = search needs
+
 slice-aggregate-say : tie.Need-slice-aggregate-say
 slice-aggregate-say c = search needs
+
+add-say : tie.Need-add-say
+add-say c = search needs
 
 slice-aggregate-say-2 : tie.Need-slice-aggregate-say-2
 slice-aggregate-say-2 c = search needs
 
 say-requires : tie.Need-say-requires
 say-requires c κs = search needs
-
-enum-told-2 : tie.Need-enum-told-2
-enum-told-2 c = search needs
-
-slice-aggregate-say-3 : tie.Need-slice-aggregate-say-3
-slice-aggregate-say-3 c = search needs
-
-add-say : tie.Need-add-say
-add-say c = search needs
-
-slice-aggregate-say-4 : tie.Need-slice-aggregate-say-4
-slice-aggregate-say-4 c = search needs
-
-say-requires-2 : tie.Need-say-requires-2
-say-requires-2 c κs = search needs
 
 enum-known-kept-evictions : tie.Need-enum-known-kept-evictions
 enum-known-kept-evictions c = search needs
@@ -82,17 +73,17 @@ replayed-requires c κs = search needs
 returns : tie.Need-returns
 returns c = search needs
 
-slice-aggregate-say-5 : tie.Need-slice-aggregate-say-5
-slice-aggregate-say-5 c = search needs
+slice-aggregate-say-3 : tie.Need-slice-aggregate-say-3
+slice-aggregate-say-3 c = search needs
 
 add-say-2 : tie.Need-add-say-2
 add-say-2 c = search needs
 
-slice-aggregate-say-6 : tie.Need-slice-aggregate-say-6
-slice-aggregate-say-6 c = search needs
+slice-aggregate-say-4 : tie.Need-slice-aggregate-say-4
+slice-aggregate-say-4 c = search needs
 
-say-requires-3 : tie.Need-say-requires-3
-say-requires-3 c κs = search needs
+say-requires-2 : tie.Need-say-requires-2
+say-requires-2 c κs = search needs
 
 returns-2 : tie.Need-returns-2
 returns-2 c = search needs
@@ -111,14 +102,11 @@ replay-next-spec =
     slice-aggregate-read-record-2
     read-record-requires
     enum-told
+    enum-told-2
     slice-aggregate-say
+    add-say
     slice-aggregate-say-2
     say-requires
-    enum-told-2
-    slice-aggregate-say-3
-    add-say
-    slice-aggregate-say-4
-    say-requires-2
     enum-known-kept-evictions
     array-share-prefix-job
     slice-aggregate-replayed
@@ -126,10 +114,10 @@ replay-next-spec =
     slice-aggregate-replayed-2
     replayed-requires
     returns
-    slice-aggregate-say-5
+    slice-aggregate-say-3
     add-say-2
-    slice-aggregate-say-6
-    say-requires-3
+    slice-aggregate-say-4
+    say-requires-2
     returns-2
     returns-3
     returns-4)

@@ -7,45 +7,40 @@ use Rattle.rewrite.proofs.main.Statement.{statement}
 use Rattle.rewrite.proofs.main.Tie as tie
 
 abbrev Inv-loop : tie.InvT-loop
-Inv-loop k₀ same₀ refused₀ others₀ t5 t6 t7 t8 k same refused others = (same ≤ k) × (refused ≤ k) × (others ≤ k)
+Inv-loop k₀ same₀ refused₀ others₀ differ₀ t6 t7 t8 t9 k same refused others differ = (same ≤ k) × (refused ≤ k) × (others ≤ k) × (differ ≤ k)
 
 abbrev μ-loop : tie.MeasureT-loop
-μ-loop k₀ same₀ refused₀ others₀ t5 t6 t7 t8 k same refused others = 100000 - k
+μ-loop k₀ same₀ refused₀ others₀ differ₀ t6 t7 t8 t9 k same refused others differ = 100000 - k
 
 loop-holds : tie.Need-loop-holds Inv-loop μ-loop
-loop-holds c = (omega arith, omega arith, omega arith)
+loop-holds c = (omega arith, omega arith, omega arith, omega arith)
 
 rewrite-next-requires : tie.Need-rewrite-next-requires Inv-loop μ-loop
-rewrite-next-requires c κs =
-    let loop-test = c .loop-test in
-    loop-test .taken
+rewrite-next-requires c κs = c .loop-test .taken
 
 enum-told : tie.Need-enum-told Inv-loop μ-loop
 enum-told c = search needs
 
 add-same : tie.Need-add-same Inv-loop μ-loop
 add-same c =
-    let loop = c .before .before .before .before .loop in
-    let loop-test = c .before .before .before .loop-test in
-    omega (arith, loop .inv .0, loop .inv .1, loop .inv .2, loop-test .taken)
+    let i = c .before .before .before .before .loop .inv in
+    omega (arith, i .0, i .1, i .2, i .3, c .before .before .before .loop-test .taken)
 
 enum-told-2 : tie.Need-enum-told-2 Inv-loop μ-loop
 enum-told-2 c = search needs
 
 add-refused : tie.Need-add-refused Inv-loop μ-loop
 add-refused c =
-    let loop = c .before .before .before .before .loop in
-    let loop-test = c .before .before .before .loop-test in
-    omega (arith, loop .inv .0, loop .inv .1, loop .inv .2, loop-test .taken)
+    let i = c .before .before .before .before .loop .inv in
+    omega (arith, i .0, i .1, i .2, i .3, c .before .before .before .loop-test .taken)
 
 enum-told-3 : tie.Need-enum-told-3 Inv-loop μ-loop
 enum-told-3 c = search needs
 
 add-others : tie.Need-add-others Inv-loop μ-loop
 add-others c =
-    let loop = c .before .before .before .before .loop in
-    let loop-test = c .before .before .before .loop-test in
-    omega (arith, loop .inv .0, loop .inv .1, loop .inv .2, loop-test .taken)
+    let i = c .before .before .before .before .loop .inv in
+    omega (arith, i .0, i .1, i .2, i .3, c .before .before .before .loop-test .taken)
 
 enum-told-4 : tie.Need-enum-told-4 Inv-loop μ-loop
 enum-told-4 c = search needs
@@ -62,8 +57,10 @@ slice-aggregate-say-2 c = search needs
 say-requires : tie.Need-say-requires Inv-loop μ-loop
 say-requires c κs = search needs
 
-returns : tie.Need-returns Inv-loop μ-loop
-returns c = tt
+add-differ : tie.Need-add-differ Inv-loop μ-loop
+add-differ c =
+    let i = c .before .before .before .before .before .before .before .loop .inv in
+    omega (arith, i .0, i .1, i .2, i .3, c .before .before .before .before .before .before .loop-test .taken)
 
 enum-told-5 : tie.Need-enum-told-5 Inv-loop μ-loop
 enum-told-5 c = search needs
@@ -71,27 +68,23 @@ enum-told-5 c = search needs
 tell-requires : tie.Need-tell-requires Inv-loop μ-loop
 tell-requires c κs = search needs
 
-returns-2 : tie.Need-returns-2 Inv-loop μ-loop
-returns-2 c = tt
+returns : tie.Need-returns Inv-loop μ-loop
+returns c = tt
 
 add-k : tie.Need-add-k Inv-loop μ-loop
 add-k c =
-    let loop = c .before .before .before .loop in
-    let loop-test = c .before .before .loop-test in
-    omega (arith, loop .inv .0, loop .inv .1, loop .inv .2, loop-test .taken)
+    let i = c .before .before .before .loop .inv in
+    omega (arith, i .0, i .1, i .2, i .3, c .before .before .loop-test .taken)
 
 loop-less : tie.Need-loop-less Inv-loop μ-loop
 loop-less c =
-    let loop = c .before .before .before .loop in
-    let loop-test = c .before .before .loop-test in
-    omega (arith, loop .inv .0, loop .inv .1, loop .inv .2, loop-test .taken)
+    let i = c .before .before .before .loop .inv in
+    omega (arith, i .0, i .1, i .2, i .3, c .before .before .loop-test .taken)
 
 loop-again : tie.Need-loop-again Inv-loop μ-loop
 loop-again c =
-    let loop = c .before .before .before .loop in
-    let match = c .match in
-    let i = loop .inv in
-    ⊎-elim (λ w. (omega arith, omega arith, omega arith)) (⊎-elim (λ w. (omega arith, omega arith, omega arith)) (λ w. (omega arith, omega arith, omega arith))) (match .came)
+    let i = c .before .before .before .loop .inv in
+    ⊎-elim (λ w. (omega arith, omega arith, omega arith, omega arith)) (⊎-elim (λ w. (omega arith, omega arith, omega arith, omega arith)) (⊎-elim (λ w. (omega arith, omega arith, omega arith, omega arith)) (λ w. (omega arith, omega arith, omega arith, omega arith)))) (c .match .came)
 
 slice-aggregate-say-3 : tie.Need-slice-aggregate-say-3 Inv-loop μ-loop
 slice-aggregate-say-3 c = search needs
@@ -102,8 +95,8 @@ slice-aggregate-say-4 c = search needs
 say-requires-2 : tie.Need-say-requires-2 Inv-loop μ-loop
 say-requires-2 c κs = search needs
 
-returns-3 : tie.Need-returns-3 Inv-loop μ-loop
-returns-3 c = tt
+returns-2 : tie.Need-returns-2 Inv-loop μ-loop
+returns-2 c = tt
 
 pub main-spec : {M : Type 1} → statement M
 main-spec =
@@ -124,14 +117,14 @@ main-spec =
     add-say
     slice-aggregate-say-2
     say-requires
-    returns
+    add-differ
     enum-told-5
     tell-requires
-    returns-2
+    returns
     add-k
     loop-less
     loop-again
     slice-aggregate-say-3
     slice-aggregate-say-4
     say-requires-2
-    returns-3)
+    returns-2)
