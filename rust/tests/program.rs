@@ -107,6 +107,9 @@ impl Faulty {
     }
 }
 
+/// How many records at the end of `crates/replay/stdin` are wrong on purpose.
+const WRONG: usize = 6;
+
 /// The whole answer on standard output, and nothing on standard error.
 fn answers(output: &Output, job: &[u8]) {
     let text = text_of(&Resolver::new().answer(1, job));
@@ -124,7 +127,9 @@ fn says_so(output: &Output) {
 fn recorded_jobs() {
     let mut seen: HashMap<u8, usize> = HashMap::new();
     let mut settings = [0; 2];
-    for (index, (setting, job, text)) in records().into_iter().enumerate() {
+    let records = records();
+    let right = records.len() - WRONG;
+    for (index, (setting, job, text)) in records.into_iter().enumerate() {
         let path = file("recorded.job", &job);
         let mut command = Command::new(program());
         // 1 is the setting without an argument too.
@@ -135,8 +140,9 @@ fn recorded_jobs() {
             *count += 1;
         }
         let output = command.stdin(File::open(path).unwrap()).output().unwrap();
-        assert!(
+        assert_eq!(
             output.stdout == text,
+            index < right,
             "record {index} of crates/replay/stdin"
         );
         assert!(output.stderr.is_empty());
