@@ -55,7 +55,7 @@ module _ (by : Resolver) where
     pub known : HeaderAt s (opening kept s) (N.Is count at) t f → Checked t f
     known h = header-known (opening kept s) h
 
-    pub all-answered : (words cache words′ : List ℕ) (r : Whole) → HeaderAt s (opening kept s) (N.Is count at) t f → Cleared cache
+    pub all-answered : {before : List ℕ} (words cache words′ : List ℕ) (r : Whole) → HeaderAt s (opening kept s) (N.Is count at) t f → Cleared before cache
         → Wholly words (patchesIn by (regInfoOf t) (functionOf f) count (cacheOf cache) (length words) (drop at s)) r words′ → Wholly words (jobInBy by (length words) kept s) r words′
     all-answered words cache words′ r h c w =
         let e : patchesIn by (regInfoOf t) (functionOf f) count (cacheOf cache) (length words) (drop at s) ≡ jobInBy by (length words) kept s =

@@ -63,7 +63,7 @@ module _ (t f : List ℕ) where
   claims (x ∷ l) cache c e ok h g = step x l cache c (refusalOf x) refl e ok (rw e at (h .0 ok)) g (λ c′ e′ ok′ g′. claims l (x .cache) c′ e′ ok′ (h .1) g′)
 
 -- an opened function's tables and cache
-pub known : (x : Read job.Opened) (t f cache cache′ : List ℕ) → OpenedAs x Yes t f cache cache′ → Checked t f × Cleared cache′ × CacheOk f cache′
+pub known : (x : Read job.Opened) (t f cache cache′ : List ℕ) → OpenedAs x Yes t f cache cache′ → Checked t f × Cleared cache cache′ × CacheOk f cache′
 known (read.refused k) t f cache cache′ h = absurd (let z : _≡_ {A = ℕ} 0 1 = cc in omega arith)
 known (read.got x rest) t f cache cache′ h = (h .3, h .4, h .5)
 

@@ -55,6 +55,6 @@ module _ (t f cache : List ℕ) where
   cache-kept (refused j) k h = (h .0, tt, tt, refl)
   cache-kept (got x rest) k h = absurd (let z : _≡_ {A = ℕ} 0 1 = cc in omega arith)
 
-  pub cache-cleared : (x : Read job.Opened) (cache′ : List ℕ) → TablesAs x Yes t f → Cleared cache′ → OpenedAs x Yes t f cache cache′
+  pub cache-cleared : (x : Read job.Opened) (cache′ : List ℕ) → TablesAs x Yes t f → Cleared cache cache′ → OpenedAs x Yes t f cache cache′
   cache-cleared (refused j) cache′ h cleared = absurd (let z : _≡_ {A = ℕ} 0 1 = cc in omega arith)
   cache-cleared (got x rest) cache′ h cleared = (refl, h .1, h .2, h .3, cleared, fresh f cache′ cleared)

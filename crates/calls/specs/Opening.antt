@@ -28,7 +28,7 @@ abbrev pub TablesAs : Read job.Opened → Opened → (t f : List ℕ) → Type 0
 TablesAs (refused k) r t f = (r ≡ Refused k) × Anything t × Anything f
 TablesAs (got x rest) r t f = (r ≡ Yes) × (regInfoOf t ≡ x .target) × (functionOf f ≡ x .function) × Checked t f
 
--- the tables hold them, and the cache is one with no slot made; where they are refused, the tables hold anything and the cache is as it was
+-- the tables hold them, and the cache is one with no slot made, its stamp raised; where they are refused, the tables hold anything and the cache is as it was
 abbrev pub OpenedAs : Read job.Opened → Opened → (t f cache cache′ : List ℕ) → Type 0
 OpenedAs (refused k) r t f cache cache′ = (r ≡ Refused k) × Anything t × Anything f × (cache′ ≡ cache)
-OpenedAs (got x rest) r t f cache cache′ = (r ≡ Yes) × (regInfoOf t ≡ x .target) × (functionOf f ≡ x .function) × Checked t f × Cleared cache′ × CacheOk f cache′
+OpenedAs (got x rest) r t f cache cache′ = (r ≡ Yes) × (regInfoOf t ≡ x .target) × (functionOf f ≡ x .function) × Checked t f × Cleared cache cache′ × CacheOk f cache′

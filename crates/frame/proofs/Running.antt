@@ -16,6 +16,8 @@ use Rattle.reading.specs.Reading.{between}
 use Rattle.reading.specs.Answer.{ReadAt}
 use Rattle.reading.proofs.Laws.{in-range}
 use Rattle.job_rules.specs.Job as job
+use Rattle.slots.specs.Stacks.{stampOf}
+use Rattle.slots.proofs.Stamps.{fresh-cleared, stamp-first}
 use Rattle.frame_table.specs.Table.{numberOf}
 use Rattle.frame_table.specs.Held.{FrameOk}
 use Rattle.frame_table.proofs.Held.{filled-ok}
@@ -62,7 +64,7 @@ module _ (frame frame′ : List ℕ) (i : ℕ) (s : List ℕ) (at next : ℕ) (t
           record {
             fine = o .7;
             on = noted-on frame i (a .function .slots) frame′ (o .6);
-            stands = λ slots l. record { checked = o .3; in-frame = o .5; stamp = omega (arith, o .4 .stamp); waits = tt };
+            stands = λ slots l. record { checked = o .3; in-frame = o .5; start = stampOf cache′; count = 0; stamp = stamp-first (stampOf cache′) (fresh-cleared cache′ (o .4) .stamp); low = omega arith; waits = tt };
             ahead = omega (arith, e, y .3);
             within = omega (arith, e, y .4);
           }

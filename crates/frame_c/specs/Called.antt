@@ -34,7 +34,7 @@ FrameBy limit shares none r frame frame′ = (r ≡ 0) × Filled limit shares fr
 abbrev pub FormulaBy : (frame frame′ : List ℕ) (i : ℕ) → Read job.Opened → (r : ℕ) (t f cache cache′ : List ℕ) → Type 0
 FormulaBy frame frame′ i (read.refused k) r t f cache cache′ = (r ≡ k) × Anything t × Anything f × (cache′ ≡ cache) × (frame′ ≡ frame)
 FormulaBy frame frame′ i (read.got x rest) r t f cache cache′ =
-    (r ≡ 0) × (regInfoOf t ≡ x .target) × (functionOf f ≡ x .function) × Checked t f × Cleared cache′ × InFrame frame′ f cache′ × SlotsNoted frame i (x .function .slots) frame′ × FrameOk frame′
+    (r ≡ 0) × (regInfoOf t ≡ x .target) × (functionOf f ≡ x .function) × Checked t f × Cleared cache cache′ × InFrame frame′ f cache′ × SlotsNoted frame i (x .function .slots) frame′ × FrameOk frame′
 
 -- `GivesIn`, as a count and numbers
 abbrev pub ResolvedBy : (frame frame′ : List ℕ) (i : ℕ) (f : List ℕ) → Answer → (r refusal position position′ : ℕ) (list list′ cache cache′ : List ℕ) → Type 0

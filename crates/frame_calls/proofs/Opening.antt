@@ -57,7 +57,7 @@ most-low frame i k = go (eqb i 0)
     go false = k .slots
 
 -- a cache with no slot made
-fresh-in : (frame f cache : List ℕ) → Cleared cache → InFrame frame f cache
+fresh-in : {before : List ℕ} (frame f cache : List ℕ) → Cleared before cache → InFrame frame f cache
 fresh-in frame f cache h =
     let s = slots-empty (functionOf f) .stacked in
     record { fits = h .fits; stacks = rw (h .empty) (record { once = s .once; sole = s .sole; low = s .low; below = λ x z a. omega (arith, s .below x z a) }) }
@@ -106,7 +106,7 @@ module _ (frame : List ℕ) (i kept : ℕ) (s t f cache : List ℕ) (least most 
         go (refused j) h = let e = h .0 in absurd (let z : _≡_ {A = ℕ} 0 1 = cc in omega arith)
         go (got x rest) h = few-slots (regInfoOf t) (functionOf f) (h .6 .function)
 
-    pub all-read : length s ≤ next → FrameOk frame → (cache′ frame′ : List ℕ) → Cleared cache′ → SlotsNoted frame i (functionOf f .slots) frame′ → OpenedAs frame frame′ i (openedIn frame i kept s) Yes t f cache cache′
+    pub all-read : length s ≤ next → FrameOk frame → (cache′ frame′ : List ℕ) → Cleared cache cache′ → SlotsNoted frame i (functionOf f .slots) frame′ → OpenedAs frame frame′ i (openedIn frame i kept s) Yes t f cache cache′
     unfolding openedIn
     all-read l k cache′ frame′ cleared noted = go begun (rw (low, high, eq) at h)
       where

@@ -18,7 +18,7 @@ use Rattle.rules.specs.Patch.{unlessRefused}
 use Rattle.rules.specs.Take.{Counted, stampedBy}
 use Rattle.rules.proofs.Steps.{same?, updated-same, updated-other}
 use Rattle.machine.specs.Slots.{Stacked}
-use Rattle.slots.specs.Stacks.{cacheOf, stampOf, raised, stacksOf, CacheFits}
+use Rattle.slots.specs.Stacks.{cacheOf, stampOf, stampAfter, stacksOf, CacheFits}
 use Rattle.parallel_moves.specs.Given.{withMade}
 use Rattle.parallel_moves.specs.Answers.{CanTake}
 use Rattle.calls.specs.Call.{patchOf, callOf}
@@ -55,10 +55,6 @@ one-more [] x = refl
 one-more (y ∷ l) x = omega (arith, one-more l x)
 
 -- ---- stamps and stacks
-pub raised-is : (n : ℕ) → n + 1 < 18446744073709551616 → raised n ≡ n + 1
-unfolding raised
-raised-is n h = omega arith
-
 restack : (F G : Function) (c d : Cache) → F .slots ≡ G .slots → c .stacks ≡ d .stacks → c .made ≡ d .made → Stacked F c → Stacked G d
 restack F G c d e st m s =
     record {
@@ -87,28 +83,28 @@ stays-holds frame s k i c a e =
     }
 
 module _ (t f : ℕ → List ℕ) (limit : ℕ) (l : List Inlined) (e : openRefusal limit l ≡ none)
-    (tg : (i : ℕ) → i < length l → getD l i noFormula .target ≡ regInfoOf (t i)) (fn : (i : ℕ) → i < length l → getD l i noFormula .function ≡ functionOf (f i)) where
+    (tg : (i : ℕ) → i < length l → getD l i noFormula .target ≡ regInfoOf (t i)) (fn : (i : ℕ) → i < length l → getD l i noFormula .function ≡ functionOf (f i)) (starts : ℕ → ℕ) where
   -- what an asking left, beside the answer of the rules: while the formula took and resolved nothing and the counter stands, it can be taken
-  pub record LeftIs (cache : List ℕ) (count counter : ℕ) (x : Left) (a : Asked) : Type 0 where
+  pub record LeftIs (start : ℕ) (cache : List ℕ) (count counter : ℕ) (x : Left) (a : Asked) : Type 0 where
     pub to : x .preview .to ≡ a .preview .after .made
-    pub stamp : x .preview .stamp ≡ a .preview .count
+    pub stamp : x .preview .stamp ≡ stampAfter start (a .preview .count)
     pub counter-is : x .preview .counter ≡ a .counter
     pub pending : a .preview .count ≡ count → a .counter ≡ counter → CanTake (x .slots) cache × (stacksOf (x .slots) cache ≡ a .preview .after .stacks)
 
-  abbrev pub LeftBeside : List ℕ → ℕ → ℕ → Option Left → Option Asked → Type 0
-  LeftBeside cache count counter none none = Unit {0}
-  LeftBeside cache count counter none (some a) = ⊥
-  LeftBeside cache count counter (some x) none = ⊥
-  LeftBeside cache count counter (some x) (some a) = LeftIs cache count counter x a
+  abbrev pub LeftBeside : ℕ → List ℕ → ℕ → ℕ → Option Left → Option Asked → Type 0
+  LeftBeside start cache count counter none none = Unit {0}
+  LeftBeside start cache count counter none (some a) = ⊥
+  LeftBeside start cache count counter (some x) none = ⊥
+  LeftBeside start cache count counter (some x) (some a) = LeftIs start cache count counter x a
 
   pub record Beside (k : State) (s : Frame) : Type 0 where
     pub holds : Holds (k .frame) s
     pub ok : FrameOk (k .frame)
     pub stacks : (i : ℕ) → i < length l → cacheOf (k .cache i) .stacks ≡ s .formulas i .stacks
     pub fits : (i : ℕ) → i < length l → CacheFits (k .cache i)
-    pub stamp : (i : ℕ) → i < length l → stampOf (k .cache i) ≡ s .formulas i .count
+    pub stamp : (i : ℕ) → i < length l → stampOf (k .cache i) ≡ stampAfter (starts i) (s .formulas i .count)
     pub many : (i : ℕ) → length (k .asked i) ≡ length (s .formulas i .asked)
-    pub asked : (i n : ℕ) → LeftBeside (k .cache i) (s .formulas i .count) (s .counter) (getD (k .asked i) n none) (getD (s .formulas i .asked) n none)
+    pub asked : (i n : ℕ) → LeftBeside (starts i) (k .cache i) (s .formulas i .count) (s .counter) (getD (k .asked i) n none) (getD (s .formulas i .asked) n none)
     pub sim : Sim limit l e s
 
   module _ (k : State) (s : Frame) (b : Beside k s) where
@@ -180,18 +176,18 @@ module _ (t f : ℕ → List ℕ) (limit : ℕ) (l : List Inlined) (e : openRefu
 
     -- what the formula's own askings left, after a call that is counted
     module _ (up : s .formulas i .count < c .count) where
-      own-left : (n : ℕ) (o : Option Left) (a : Option Asked) → getD (s .formulas i .asked) n none ≡ a → LeftBeside (k .cache i) (s .formulas i .count) (s .counter) o a
-          → LeftBeside cache′ (c .count) (c .cache .made) o a
+      own-left : (n : ℕ) (o : Option Left) (a : Option Asked) → getD (s .formulas i .asked) n none ≡ a → LeftBeside (starts i) (k .cache i) (s .formulas i .count) (s .counter) o a
+          → LeftBeside (starts i) cache′ (c .count) (c .cache .made) o a
       own-left n none none q g = tt
       own-left n (some y) (some a) q g =
           let st = b .sim .previews i n a q in
           record { to = g .to; stamp = g .stamp; counter-is = g .counter-is; pending = λ u v. absurd (omega (arith, st .count-low, up, u)) }
 
-      pub own-stays : (n : ℕ) → LeftBeside cache′ (c .count) (c .cache .made) (getD (k .asked i) n none) (getD (s .formulas i .asked) n none)
+      pub own-stays : (n : ℕ) → LeftBeside (starts i) cache′ (c .count) (c .cache .made) (getD (k .asked i) n none) (getD (s .formulas i .asked) n none)
       own-stays n = own-left n (getD (k .asked i) n none) (getD (s .formulas i .asked) n none) refl (b .asked i n)
 
-    other-left : (j : ℕ) → (j ≡ i → ⊥) → (n : ℕ) (o : Option Left) (a : Option Asked) → getD (s .formulas j .asked) n none ≡ a → LeftBeside (k .cache j) (s .formulas j .count) (s .counter) o a
-        → LeftBeside (k .cache j) (s .formulas j .count) (c .cache .made) o a
+    other-left : (j : ℕ) → (j ≡ i → ⊥) → (n : ℕ) (o : Option Left) (a : Option Asked) → getD (s .formulas j .asked) n none ≡ a → LeftBeside (starts j) (k .cache j) (s .formulas j .count) (s .counter) o a
+        → LeftBeside (starts j) (k .cache j) (s .formulas j .count) (c .cache .made) o a
     other-left j d n none none q g = tt
     other-left j d n (some y) (some a) q g =
         let st = b .sim .previews j n a q in
@@ -208,23 +204,24 @@ module _ (t f : ℕ → List ℕ) (limit : ℕ) (l : List Inlined) (e : openRefu
     other-is j d = at-other s i c (askedIn s i x) j d
 
     -- what holds of each formula, of its own and of the others
-    each : (P : Formula → List ℕ → List (Option Left) → Type 0) → P (record { target = s .formulas i .target; function = s .formulas i .function; share = s .formulas i .share; stacks = c .cache .stacks; made = madeTo s i (c .cache .made); count = c .count; asked = askedIn s i x }) cache′ asked′
-        → (j : ℕ) → ((j ≡ i → ⊥) → P (s .formulas j) (k .cache j) (k .asked j)) → P (F j) (k′ .cache j) (k′ .asked j)
-    each P own j other =
+    each : (P : Formula → List ℕ → List (Option Left) → Type 0) (j : ℕ) → (j ≡ i → P (record { target = s .formulas i .target; function = s .formulas i .function; share = s .formulas i .share; stacks = c .cache .stacks; made = madeTo s i (c .cache .made); count = c .count; asked = askedIn s i x }) cache′ asked′)
+        → ((j ≡ i → ⊥) → P (s .formulas j) (k .cache j) (k .asked j)) → P (F j) (k′ .cache j) (k′ .asked j)
+    each P j own other =
         ⊎-elim
-        (λ q. subst (λ (m : ℕ). P (F m) (k′ .cache m) (k′ .asked m)) (sym q) (rw (own-is, updated-same i cache′ (k .cache), updated-same i asked′ (k .asked)) own))
+        (λ q. subst (λ (m : ℕ). P (F m) (k′ .cache m) (k′ .asked m)) (sym q) (rw (own-is, updated-same i cache′ (k .cache), updated-same i asked′ (k .asked)) (own q)))
         (λ d. rw (other-is j d, updated-other i cache′ (k .cache) j d, updated-other i asked′ (k .asked) j d) (other d)) (same? j i)
 
-    pub beside-after : Holds frame′ s′ → FrameOk frame′ → cacheOf cache′ .stacks ≡ c .cache .stacks → CacheFits cache′ → stampOf cache′ ≡ c .count
-        → length asked′ ≡ length (askedIn s i x) → ((n : ℕ) → LeftBeside cache′ (c .count) (c .cache .made) (getD asked′ n none) (getD (askedIn s i x) n none)) → Beside k′ s′
+    pub beside-after : Holds frame′ s′ → FrameOk frame′ → cacheOf cache′ .stacks ≡ c .cache .stacks → CacheFits cache′ → stampOf cache′ ≡ stampAfter (starts i) (c .count)
+        → length asked′ ≡ length (askedIn s i x) → ((n : ℕ) → LeftBeside (starts i) cache′ (c .count) (c .cache .made) (getD asked′ n none) (getD (askedIn s i x) n none)) → Beside k′ s′
     beside-after H O st fi sp mn ls =
         record {
           holds = H;
           ok = O;
-          stacks = λ j g. each (λ y z a. cacheOf z .stacks ≡ y .stacks) st j (λ d. b .stacks j g);
-          fits = λ j g. each (λ y z a. CacheFits z) fi j (λ d. b .fits j g);
-          stamp = λ j g. each (λ y z a. stampOf z ≡ y .count) sp j (λ d. b .stamp j g);
-          many = λ j. each (λ y z a. length a ≡ length (y .asked)) mn j (λ d. b .many j);
-          asked = λ j n. each (λ y z a. LeftBeside z (y .count) (c .cache .made) (getD a n none) (getD (y .asked) n none)) (ls n) j (λ d. other-left j d n (getD (k .asked j) n none) (getD (s .formulas j .asked) n none) refl (b .asked j n));
+          stacks = λ j g. each (λ y z a. cacheOf z .stacks ≡ y .stacks) j (λ q. st) (λ d. b .stacks j g);
+          fits = λ j g. each (λ y z a. CacheFits z) j (λ q. fi) (λ d. b .fits j g);
+          stamp = λ j g. each (λ y z a. stampOf z ≡ stampAfter (starts j) (y .count)) j (λ q. subst (λ (m : ℕ). stampOf cache′ ≡ stampAfter (starts m) (c .count)) (sym q) sp) (λ d. b .stamp j g);
+          many = λ j. each (λ y z a. length a ≡ length (y .asked)) j (λ q. mn) (λ d. b .many j);
+          asked = λ j n. each (λ y z a. LeftBeside (starts j) z (y .count) (c .cache .made) (getD a n none) (getD (y .asked) n none)) j
+              (λ q. subst (λ (m : ℕ). LeftBeside (starts m) cache′ (c .count) (c .cache .made) (getD asked′ n none) (getD (askedIn s i x) n none)) (sym q) (ls n)) (λ d. other-left j d n (getD (k .asked j) n none) (getD (s .formulas j .asked) n none) refl (b .asked j n));
           sim = sim-after limit l e s (b .sim) i h x;
         }

@@ -1,17 +1,20 @@
 -- Call by call: the tables stay beside the frame of the rules.
 use Prim.Native.Nat.{ℕ, _+_, _<_}
 use mathlib.Core.Path.{_≡_, refl, sym, ap, subst, _∙_}
+use mathlib.Core.Bool.{Bool, true, false}
 use mathlib.Core.List.{List, [], _∷_, _++_}
 use mathlib.Core.Option.{Option, none, some}
 use mathlib.Core.Logic.{_⊎_, inl, inr, ⊎-elim}
 use native.Mathlib.Omega.{arith}
 use lib.ListN.{length, getD}
+use Rattle.entity.specs.Logic.{or, any}
 use Rattle.rules.specs.Edit.{updated}
 use Rattle.rules.specs.Scratch.{Cache}
 use Rattle.rules.specs.Patch.{Patch, Answer, refused, resolved, unlessRefused}
 use Rattle.rules.specs.Take.{Counted, resolving, asking, taking, answerIn, stamped, stampedBy, previewOf}
 use Rattle.rules.proofs.Steps.{same?, updated-same, updated-other}
-use Rattle.slots.specs.Stacks.{cacheOf, stampOf, raised, CacheFits}
+use Rattle.slots.specs.Stacks.{cacheOf, stampOf, raised, stampAfter, CacheFits}
+use Rattle.slots.proofs.Stamps.{stamp-first, stamp-next, stamp-told}
 use Rattle.parallel_moves.specs.declared.Resolved.{Resolved}
 use Rattle.parallel_moves.specs.declared.asking.TakeAnswer.{TakeAnswer}
 use Rattle.calls.specs.Call.{patchOf}
@@ -31,12 +34,25 @@ use Rattle.frame_table.proofs.Held.{went-holds}
 use Rattle.frame_calls.specs.declared.FrameAsked.{FrameAsked}
 use Rattle.frame_calls.specs.declared.FramePreview.{FramePreview}
 use Rattle.frame_calls.specs.Answers.{GivesIn, previewIn, AsksIn, CanTakeIn, TakesIn}
-use Rattle.frame_claim.specs.Claim.{Left, State, Kind, resolves, groups, asks, takes, Made, leftBy, ifFree, askedIf, freeIn, requestOf, askedAfter, after, Taken, TookAs, DidAs, Called, Resolves, Shows, Takes, Outcome, ruledBy, ruledAfter, Claim, callIf, callsOf, Named, Begun, begun, SharedFrame}
-use Rattle.frame_claim.proofs.Beside.{both, one-more, raised-is, stays-holds, LeftIs, LeftBeside, Beside, few, there, reach-same, ready, answer-is, groups-answer-is, same, beside-after, own-stays}
+use Rattle.frame_claim.specs.Claim.{Left, State, Kind, resolves, groups, asks, takes, Made, takesOne, isTake, leftBy, ifFree, askedIf, freeIn, requestOf, askedAfter, after, Taken, TookAs, DidAs, Called, Resolves, Shows, Takes, Outcome, ruledBy, ruledAfter, Claim, callIf, callsOf, Named, Begun, begun, SharedFrame}
+use Rattle.frame_claim.proofs.Beside.{both, one-more, stays-holds, LeftIs, LeftBeside, Beside, few, there, reach-same, ready, answer-is, groups-answer-is, same, beside-after, own-stays}
+
+-- a take at the front, or among those behind it
+first-of : (a b : Bool) → a ≡ true → or a b ≡ true
+first-of true b e = refl
+first-of false b e = let z : _≡_ {A = ℕ} 0 1 = cc in absurd (omega arith)
+
+later-of : (a b : Bool) → b ≡ true → or a b ≡ true
+later-of true b e = refl
+later-of false b e = e
 
 module _ (t f : ℕ → List ℕ) (limit : ℕ) (l : List Inlined) (frame₀ : List ℕ) (cache₀ : ℕ → List ℕ) (B : Begun t f limit l frame₀ cache₀) where
+  -- the stamps that the calls begin with
+  abbrev starts : ℕ → ℕ
+  starts i = stampOf (cache₀ i)
+
   abbrev By : State → Frame → Type 0
-  By = Beside t f limit l (B .opens) (B .target) (B .function)
+  By = Beside t f limit l (B .opens) (B .target) (B .function) starts
 
   -- the last `made` of formula i
   own-made : (s : Frame) (i : ℕ) → i < s .number → (c : Counted) (a : List (Option Asked)) (frame′ : List ℕ) → Holds frame′ (withCache s i c a) → madeOf frame′ i ≡ madeTo s i (c .cache .made)
@@ -52,9 +68,9 @@ module _ (t f : ℕ → List ℕ) (limit : ℕ) (l : List Inlined) (frame₀ : L
           ok = rw fe (b .ok);
           stacks = λ j g. keeps (λ j z a. cacheOf z .stacks ≡ s .formulas j .stacks) j (b .stacks j g);
           fits = λ j g. keeps (λ j z a. CacheFits z) j (b .fits j g);
-          stamp = λ j g. keeps (λ j z a. stampOf z ≡ s .formulas j .count) j (b .stamp j g);
+          stamp = λ j g. keeps (λ j z a. stampOf z ≡ stampAfter (starts j) (s .formulas j .count)) j (b .stamp j g);
           many = λ j. keeps (λ j z a. length a ≡ length (s .formulas j .asked)) j (b .many j);
-          asked = λ j n. keeps (λ j z a. LeftBeside t f limit l (B .opens) (B .target) (B .function) z (s .formulas j .count) (s .counter) (getD a n none) (getD (s .formulas j .asked) n none)) j (b .asked j n);
+          asked = λ j n. keeps (λ j z a. LeftBeside t f limit l (B .opens) (B .target) (B .function) starts (starts j) z (s .formulas j .count) (s .counter) (getD a n none) (getD (s .formulas j .asked) n none)) j (b .asked j n);
           sim = b .sim;
         }
       where
@@ -67,44 +83,39 @@ module _ (t f : ℕ → List ℕ) (limit : ℕ) (l : List Inlined) (frame₀ : L
     -- a rules' call that changes nothing but what its asking leaves
     quiet : (x : Request) → stampedBy (nowIn s i) (standingIn s i x) .cache ≡ cacheIn s i → stampedBy (nowIn s i) (standingIn s i x) .count ≡ s .formulas i .count
         → (frame′ cache′ : List ℕ) → frame′ ≡ k .frame → cache′ ≡ k .cache i → (asked′ : List (Option Left)) → length asked′ ≡ length (askedIn s i x)
-        → ((n : ℕ) → LeftBeside t f limit l (B .opens) (B .target) (B .function) (k .cache i) (s .formulas i .count) (s .counter) (getD asked′ n none) (getD (askedIn s i x) n none))
+        → ((n : ℕ) → LeftBeside t f limit l (B .opens) (B .target) (B .function) starts (starts i) (k .cache i) (s .formulas i .count) (s .counter) (getD asked′ n none) (getD (askedIn s i x) n none))
         → By (record { frame = frame′; cache = updated i cache′ (k .cache); asked = updated i asked′ (k .asked) }) (afterIn s i x)
     quiet x cq nq frame′ cache′ fe ce asked′ mn ls =
         let made : stampedBy (nowIn s i) (standingIn s i x) .cache .made ≡ s .counter = ap (λ (y : Cache). y .made) cq in
-        beside-after t f limit l (B .opens) (B .target) (B .function) k s b i h x frame′ cache′ asked′
-        (rw fe (stays-holds (k .frame) s (b .holds) i _ (askedIn s i x) made)) (rw fe (b .ok)) (rw ce (b .stacks i h ∙ sym (ap (λ (y : Cache). y .stacks) cq))) (rw ce (b .fits i h)) (rw ce (b .stamp i h ∙ sym nq)) mn
+        beside-after t f limit l (B .opens) (B .target) (B .function) starts k s b i h x frame′ cache′ asked′
+        (rw fe (stays-holds (k .frame) s (b .holds) i _ (askedIn s i x) made)) (rw fe (b .ok)) (rw ce (b .stacks i h ∙ sym (ap (λ (y : Cache). y .stacks) cq))) (rw ce (b .fits i h)) (rw ce (b .stamp i h ∙ sym (ap (stampAfter (starts i)) nq))) mn
         (λ n. rw (ce, nq, made) (ls n))
 
-    -- the patches taken or resolved on its cache are few, this one too
-    abbrev Few : Request → Type 0
-    Few x = afterIn s i x .formulas i .count < 18446744073709551616
+    -- the patches taken or resolved on its cache are few
+    abbrev Few : Type 0
+    Few = s .formulas i .count < 18446744073709551616
 
-    abbrev FewIf : Option ℕ → Request → Type 0
-    FewIf o x = ruledBy t f (ifFree o x) i s .formulas i .count < 18446744073709551616
-
-    one-raised : (x : Request) (c : Cache) → stampedBy (nowIn s i) (standingIn s i x) ≡ record { cache = c; count = s .formulas i .count + 1 } → Few x → (cache′ : List ℕ) → stampOf cache′ ≡ raised (stampOf (k .cache i)) → stampOf cache′ ≡ s .formulas i .count + 1
-    one-raised x c eq low cache′ g =
-        let n : afterIn s i x .formulas i .count ≡ s .formulas i .count + 1 = ap (λ (y : Formula). y .count) (at-own s i (stampedBy (nowIn s i) (standingIn s i x)) (askedIn s i x)) ∙ ap (λ (y : Counted). y .count) eq in
-        g ∙ ap raised (b .stamp i h) ∙ raised-is (s .formulas i .count) (omega (arith, n, low))
+    one-raised : (cache′ : List ℕ) → stampOf cache′ ≡ raised (stampOf (k .cache i)) → stampOf cache′ ≡ stampAfter (starts i) (s .formulas i .count + 1)
+    one-raised cache′ g = g ∙ ap raised (b .stamp i h) ∙ stamp-next (starts i) (s .formulas i .count)
 
     -- one that is counted
-    counted : (x : Request) (c : Cache) → stampedBy (nowIn s i) (standingIn s i x) ≡ record { cache = c; count = s .formulas i .count + 1 } → askedIn s i x ≡ s .formulas i .asked → Few x
+    counted : (x : Request) (c : Cache) → stampedBy (nowIn s i) (standingIn s i x) ≡ record { cache = c; count = s .formulas i .count + 1 } → askedIn s i x ≡ s .formulas i .asked
         → (frame′ cache′ : List ℕ) → WentOn (k .frame) i (c .made) frame′ → FrameOk frame′ → cacheOf cache′ .stacks ≡ c .stacks → CacheFits cache′ → stampOf cache′ ≡ raised (stampOf (k .cache i))
         → By (record { frame = frame′; cache = updated i cache′ (k .cache); asked = updated i (k .asked i) (k .asked) }) (afterIn s i x) × (madeOf frame′ i ≡ madeTo s i (c .made))
-    counted x c eq ae low frame′ cache′ w ok st fi sp =
+    counted x c eq ae frame′ cache′ w ok st fi sp =
         let y = stampedBy (nowIn s i) (standingIn s i x) in
         let made : y .cache .made ≡ c .made = ap (λ (z : Counted). z .cache .made) eq in
-        let H : Holds frame′ (afterIn s i x) = went-holds (k .frame) s (b .holds) (few t f limit l (B .opens) (B .target) (B .function) k s b) i (there t f limit l (B .opens) (B .target) (B .function) k s b i h) y (askedIn s i x) frame′ (rw made w) in (
-          beside-after t f limit l (B .opens) (B .target) (B .function) k s b i h x frame′ cache′ (k .asked i)
-              H ok (st ∙ sym (ap (λ (z : Counted). z .cache .stacks) eq)) fi (one-raised x c eq low cache′ sp ∙ sym (ap (λ (z : Counted). z .count) eq)) (b .many i ∙ sym (ap length ae))
-              (λ n. subst (λ (a : List (Option Asked)). LeftBeside t f limit l (B .opens) (B .target) (B .function) cache′ (y .count) (y .cache .made) (getD (k .asked i) n none) (getD a n none)) (sym ae)
-              (own-stays t f limit l (B .opens) (B .target) (B .function) k s b i h x frame′ cache′ (k .asked i) (omega (arith, ap (λ (z : Counted). z .count) eq)) n)),
-          own-made s i (there t f limit l (B .opens) (B .target) (B .function) k s b i h) y (askedIn s i x) frame′ H ∙ ap (madeTo s i) made,
+        let H : Holds frame′ (afterIn s i x) = went-holds (k .frame) s (b .holds) (few t f limit l (B .opens) (B .target) (B .function) starts k s b) i (there t f limit l (B .opens) (B .target) (B .function) starts k s b i h) y (askedIn s i x) frame′ (rw made w) in (
+          beside-after t f limit l (B .opens) (B .target) (B .function) starts k s b i h x frame′ cache′ (k .asked i)
+              H ok (st ∙ sym (ap (λ (z : Counted). z .cache .stacks) eq)) fi (one-raised cache′ sp ∙ sym (ap (λ (z : Counted). stampAfter (starts i) (z .count)) eq)) (b .many i ∙ sym (ap length ae))
+              (λ n. subst (λ (a : List (Option Asked)). LeftBeside t f limit l (B .opens) (B .target) (B .function) starts (starts i) cache′ (y .count) (y .cache .made) (getD (k .asked i) n none) (getD a n none)) (sym ae)
+              (own-stays t f limit l (B .opens) (B .target) (B .function) starts k s b i h x frame′ cache′ (k .asked i) (omega (arith, ap (λ (z : Counted). z .count) eq)) n)),
+          own-made s i (there t f limit l (B .opens) (B .target) (B .function) starts k s b i h) y (askedIn s i x) frame′ H ∙ ap (madeTo s i) made,
         )
 
     -- ---- the kinds
     abbrev In : List ℕ → ℕ → ℕ → Option Left → Option Asked → Type 0
-    In = LeftBeside t f limit l (B .opens) (B .target) (B .function)
+    In = LeftBeside t f limit l (B .opens) (B .target) (B .function) starts (starts i)
 
     stands-asking : (p : Patch) (room : ℕ) → stampedBy (nowIn s i) (standingIn s i (single (asking p room))) ≡ nowIn s i
     unfolding standingIn frame.standingIn
@@ -127,7 +138,7 @@ module _ (t f : ℕ → List ℕ) (limit : ℕ) (l : List Inlined) (frame₀ : L
     taken-asked n = refl
 
     ready-now : Taken t f k i
-    ready-now = ready t f limit l (B .opens) (B .target) (B .function) k s b i h (B .checked i h)
+    ready-now = ready t f limit l (B .opens) (B .target) (B .function) starts k s b i h (B .checked i h)
 
     abbrev next : (frame′ cache′ : List ℕ) → List (Option Left) → State
     next frame′ cache′ asked′ = record { frame = frame′; cache = updated i cache′ (k .cache); asked = updated i asked′ (k .asked) }
@@ -138,35 +149,35 @@ module _ (t f : ℕ → List ℕ) (limit : ℕ) (l : List Inlined) (frame₀ : L
         abbrev Gives : Answer → Type 0
         Gives a = GivesIn (k .frame) frame′ i (f i) a r list after (k .cache i) cache′
 
-        given : Few x → (a : Answer) → y ≡ a → Gives a → Resolves t f k s i frame′ cache′ a r list after × By (next frame′ cache′ (k .asked i)) (afterIn s i x)
-        given low (refused n) e g =
+        given : (a : Answer) → y ≡ a → Gives a → Resolves t f k s i frame′ cache′ a r list after × By (next frame′ cache′ (k .asked i)) (afterIn s i x)
+        given (refused n) e g =
             let is : stampedBy (nowIn s i) (standingIn s i x) ≡ stamped (nowIn s i) (refused n) = stands ∙ ap (stamped (nowIn s i)) e in (
               (g .0, g .1, g .3, g .2),
               quiet x (ap (λ (z : Counted). z .cache) is) (ap (λ (z : Counted). z .count) is ∙ omega arith) frame′ cache′ (g .3) (g .2) (k .asked i) (b .many i ∙ sym (ap length keeps))
                   (λ n. subst (λ (a : List (Option Asked)). In (k .cache i) (s .formulas i .count) (s .counter) (getD (k .asked i) n none) (getD a n none)) (sym keeps) (b .asked i n)),
             )
-        given low (resolved es c n) e g =
-            let q = counted x c (stands ∙ ap (stamped (nowIn s i)) e) keeps low frame′ cache′ (g .7) (g .8) (ap (λ (z : Cache). z .stacks) (g .4)) (g .9 .fits) (g .6) in
+        given (resolved es c n) e g =
+            let q = counted x c (stands ∙ ap (stamped (nowIn s i)) e) keeps frame′ cache′ (g .7) (g .8) (ap (λ (z : Cache). z .stacks) (g .4)) (g .9 .fits) (g .6) in
             ((g .0, g .1, g .2, g .3, g .5, q .1), q .0)
 
-        given-if : (o : Option ℕ) → FewIf o x → Gives (unlessRefused o y)
+        given-if : (o : Option ℕ) → Gives (unlessRefused o y)
             → Resolves t f k s i frame′ cache′ (unlessRefused o y) r list after × By (next frame′ cache′ (k .asked i)) (ruledBy t f (ifFree o x) i s)
-        given-if (some n) low g = ((g .0, g .1, g .3, g .2), unchanged frame′ cache′ (g .3) (g .2))
-        given-if none low g = given low y refl g
+        given-if (some n) g = ((g .0, g .1, g .3, g .2), unchanged frame′ cache′ (g .3) (g .2))
+        given-if none g = given y refl g
 
-      resolve-step : (free numbers list : List ℕ) (r : Resolved) (after : List ℕ) → DidAs t f k i (resolves free numbers list r after) frame′ cache′ → FewIf (freeIn t f i free) (single (resolving (patchOf free numbers) (length list)))
+      resolve-step : (free numbers list : List ℕ) (r : Resolved) (after : List ℕ) → DidAs t f k i (resolves free numbers list r after) frame′ cache′
           → Outcome t f k s i frame′ cache′ (resolves free numbers list r after) × By (next frame′ cache′ (k .asked i)) (ruledBy t f (requestOf t f i (resolves free numbers list r after)) i s)
       unfolding standingIn frame.standingIn askedIn frame.askedIn
-      resolve-step free numbers list r after D low =
-          given-if (single (resolving (patchOf free numbers) (length list))) (resolveIn s i (patchOf free numbers) (length list)) refl refl r list after (freeIn t f i free) low
-          (subst (λ (a : Answer). GivesIn (k .frame) frame′ i (f i) a r list after (k .cache i) cache′) (answer-is t f limit l (B .opens) (B .target) (B .function) k s b i h free numbers (length list)) (D ready-now))
+      resolve-step free numbers list r after D =
+          given-if (single (resolving (patchOf free numbers) (length list))) (resolveIn s i (patchOf free numbers) (length list)) refl refl r list after (freeIn t f i free)
+          (subst (λ (a : Answer). GivesIn (k .frame) frame′ i (f i) a r list after (k .cache i) cache′) (answer-is t f limit l (B .opens) (B .target) (B .function) starts k s b i h free numbers (length list)) (D ready-now))
 
-      groups-step : (free numbers list : List ℕ) (r : Resolved) (after : List ℕ) → DidAs t f k i (groups free numbers list r after) frame′ cache′ → FewIf (freeIn t f i free) (grouping (patchOf free numbers) (length list))
+      groups-step : (free numbers list : List ℕ) (r : Resolved) (after : List ℕ) → DidAs t f k i (groups free numbers list r after) frame′ cache′
           → Outcome t f k s i frame′ cache′ (groups free numbers list r after) × By (next frame′ cache′ (k .asked i)) (ruledBy t f (requestOf t f i (groups free numbers list r after)) i s)
       unfolding standingIn askedIn
-      groups-step free numbers list r after D low =
-          given-if (grouping (patchOf free numbers) (length list)) (groupsIn s i (patchOf free numbers) (length list)) refl refl r list after (freeIn t f i free) low
-          (subst (λ (a : Answer). GivesIn (k .frame) frame′ i (f i) a r list after (k .cache i) cache′) (groups-answer-is t f limit l (B .opens) (B .target) (B .function) k s b i h free numbers (length list)) (D ready-now))
+      groups-step free numbers list r after D =
+          given-if (grouping (patchOf free numbers) (length list)) (groupsIn s i (patchOf free numbers) (length list)) refl refl r list after (freeIn t f i free)
+          (subst (λ (a : Answer). GivesIn (k .frame) frame′ i (f i) a r list after (k .cache i) cache′) (groups-answer-is t f limit l (B .opens) (B .target) (B .function) starts k s b i h free numbers (length list)) (D ready-now))
 
       ask-step : (free numbers list : List ℕ) (r : FrameAsked) (after slots : List ℕ) → DidAs t f k i (asks free numbers list r after slots) frame′ cache′
           → Outcome t f k s i frame′ cache′ (asks free numbers list r after slots)
@@ -174,7 +185,7 @@ module _ (t f : ℕ → List ℕ) (limit : ℕ) (l : List Inlined) (frame₀ : L
       ask-step free numbers list r after slots D =
           let d = D ready-now in
           go (d .1) (d .2) (freeIn t f i free)
-          (subst (λ (a : Answer). AsksIn (k .frame) i (f i) a r list after (k .cache i) slots) (answer-is t f limit l (B .opens) (B .target) (B .function) k s b i h free numbers (length list)) (d .0))
+          (subst (λ (a : Answer). AsksIn (k .frame) i (f i) a r list after (k .cache i) slots) (answer-is t f limit l (B .opens) (B .target) (B .function) starts k s b i h free numbers (length list)) (d .0))
         where
           p : Patch
           p = patchOf free numbers
@@ -201,7 +212,7 @@ module _ (t f : ℕ → List ℕ) (limit : ℕ) (l : List Inlined) (frame₀ : L
               let x : leftBy r slots ≡ some (record { preview = v; slots = slots }) = ap (λ (z : FrameAsked). leftBy z slots) (g .0) in
               let y : a₀ ≡ some (record { preview = record { patch = p; room = length list; edits = es; after = c; position = n; count = s .formulas i .count }; counter = s .counter }) =
               ap (λ (z : Answer). askedOf (s .counter) (previewOf p (length list) (s .formulas i .count) z)) e in
-              let made : v .made ≡ madeTo s i (c .made) = let m = b .holds .made i (there t f limit l (B .opens) (B .target) (B .function) k s b i h) in let u = b .holds .counter in rw (m, u) refl in (
+              let made : v .made ≡ madeTo s i (c .made) = let m = b .holds .made i (there t f limit l (B .opens) (B .target) (B .function) starts k s b i h) in let u = b .holds .counter in rw (m, u) refl in (
                 ((v, g .0, made, refl), g .1, g .2, fe, ce),
                 left-new fe ce (rw (x, y) (record { to = refl; stamp = b .stamp i h; counter-is = b .holds .counter; pending = λ u w. (g .3 .can, g .3 .stacks) })),
               )
@@ -219,40 +230,44 @@ module _ (t f : ℕ → List ℕ) (limit : ℕ) (l : List Inlined) (frame₀ : L
           (λ m. subst (λ (a : List (Option Asked)). In (k .cache i) (s .formulas i .count) (s .counter) (getD (k .asked i) m none) (getD a m none)) (sym (taken-asked n)) (b .asked i m))
 
       -- the answer of the n-th asking, which was not refused
-      module _ (n : ℕ) (r : TakeAnswer) (x : Left) (a : Asked) (q : getD (s .formulas i .asked) n none ≡ some a) (g : LeftIs t f limit l (B .opens) (B .target) (B .function) (k .cache i) (s .formulas i .count) (s .counter) x a) where
+      module _ (n : ℕ) (r : TakeAnswer) (x : Left) (a : Asked) (q : getD (s .formulas i .asked) n none ≡ some a) (g : LeftIs t f limit l (B .opens) (B .target) (B .function) starts (starts i) (k .cache i) (s .formulas i .count) (s .counter) x a) where
         standing : stampedBy (nowIn s i) (standingIn s i (single (taking n))) ≡ stamped (nowIn s i) (takeIn a s i)
         standing = ap (stampedBy (nowIn s i)) (stands-taking n ∙ ap (λ (z : Option Asked). takenIn z s i) q)
 
-        can : x .preview .stamp ≡ stampOf (k .cache i) → x .preview .counter ≡ counterOf (k .frame) → CanTakeIn (k .frame) i (x .preview) (x .slots) (k .cache i)
-        can u v =
-            let u′ : a .preview .count ≡ s .formulas i .count = sym (g .stamp) ∙ u ∙ b .stamp i h in
+        -- stamps are told apart as the counts are
+        alike : Few → x .preview .stamp ≡ stampOf (k .cache i) → a .preview .count ≡ s .formulas i .count
+        alike low u = stamp-told (starts i) (a .preview .count) (s .formulas i .count) (b .sim .previews i n a q .count-low) low (sym (g .stamp) ∙ u ∙ b .stamp i h)
+
+        can : Few → x .preview .stamp ≡ stampOf (k .cache i) → x .preview .counter ≡ counterOf (k .frame) → CanTakeIn (k .frame) i (x .preview) (x .slots) (k .cache i)
+        can low u v =
+            let u′ : a .preview .count ≡ s .formulas i .count = alike low u in
             let v′ : a .counter ≡ s .counter = sym (g .counter-is) ∙ v ∙ b .holds .counter in
             let w = resolved-within s i (a .preview .patch) (a .preview .room) (a .preview .edits) (a .preview .after) (a .preview .position) (b .sim .previews i n a q .same u′ v′) in
-            let far = reach-same t f limit l (B .opens) (B .target) (B .function) k s b i h in
+            let far = reach-same t f limit l (B .opens) (B .target) (B .function) starts k s b i h in
             record { can = g .pending u′ v′ .0; on = omega (arith, b .holds .counter, g .to, w .0); within = omega (arith, far, g .to, w .1) }
 
         abbrev Did : Type 0
         Did = Takes t f k s i frame′ cache′ (some (takeIn a s i)) r × By (next frame′ cache′ (k .asked i)) (afterIn s i (single (taking n)))
 
         module _ (T : TakesIn (k .frame) frame′ i (x .preview) (x .slots) (k .cache i) r cache′) where
-          took-now : Few (single (taking n)) → a .preview .count ≡ s .formulas i .count → a .counter ≡ s .counter → Did
-          took-now low u v =
-              let d = T .same (g .stamp ∙ u ∙ sym (b .stamp i h)) (g .counter-is ∙ v ∙ sym (b .holds .counter)) in
+          took-now : a .preview .count ≡ s .formulas i .count → a .counter ≡ s .counter → Did
+          took-now u v =
+              let d = T .same (g .stamp ∙ ap (stampAfter (starts i)) u ∙ sym (b .stamp i h)) (g .counter-is ∙ v ∙ sym (b .holds .counter)) in
               let e = take-now s i a u v in
-              let y = counted (single (taking n)) (a .preview .after) (standing ∙ ap (stamped (nowIn s i)) e) (taken-asked n) low frame′ cache′ (rw (g .to) at (d .2)) (d .3) (ap (λ (z : Cache). z .stacks) (d .1 .is) ∙ g .pending u v .1) (d .1 .fits) (d .1 .stamp) in
+              let y = counted (single (taking n)) (a .preview .after) (standing ∙ ap (stamped (nowIn s i)) e) (taken-asked n) frame′ cache′ (rw (g .to) at (d .2)) (d .3) (ap (λ (z : Cache). z .stacks) (d .1 .is) ∙ g .pending u v .1) (d .1 .fits) (d .1 .stamp) in
               (rw e (d .0, y .1), y .0)
 
-          took-late : (a .preview .count ≡ s .formulas i .count → ⊥) ⊎ (a .counter ≡ s .counter → ⊥) → Did
-          took-late z =
-              let d = T .other (⊎-elim (λ y. inl (λ u. y (sym (g .stamp) ∙ u ∙ b .stamp i h))) (λ y. inr (λ v. y (sym (g .counter-is) ∙ v ∙ b .holds .counter))) z) in
+          took-late : Few → (a .preview .count ≡ s .formulas i .count → ⊥) ⊎ (a .counter ≡ s .counter → ⊥) → Did
+          took-late low z =
+              let d = T .other (⊎-elim (λ y. inl (λ u. y (alike low u))) (λ y. inr (λ v. y (sym (g .counter-is) ∙ v ∙ b .holds .counter))) z) in
               let e = take-late s i a z in
               let is : stampedBy (nowIn s i) (standingIn s i (single (taking n))) ≡ stamped (nowIn s i) (refused 20) = standing ∙ ap (stamped (nowIn s i)) e in
               (rw e (d .0, d .2, d .1), stays n (ap (λ (y : Counted). y .cache) is) (ap (λ (y : Counted). y .count) is ∙ omega arith) (d .2) (d .1))
 
-          did : Few (single (taking n)) → Did
-          did low = ⊎-elim (λ w. took-now low (w .0) (w .1)) took-late (fresh-or-late s i a)
+          did : Few → Did
+          did low = ⊎-elim (λ w. took-now (w .0) (w .1)) (took-late low) (fresh-or-late s i a)
 
-      take-step : (n : ℕ) (r : TakeAnswer) → DidAs t f k i (takes n r) frame′ cache′ → Few (single (taking n))
+      take-step : (n : ℕ) (r : TakeAnswer) → DidAs t f k i (takes n r) frame′ cache′ → Few
           → Outcome t f k s i frame′ cache′ (takes n r) × By (next frame′ cache′ (k .asked i)) (ruledBy t f (requestOf t f i (takes n r)) i s)
       take-step n r D low = subst (λ (z : Option Answer). Takes t f k s i frame′ cache′ z r × By (next frame′ cache′ (k .asked i)) (afterIn s i (single (taking n)))) (sym (answered-taking n)) (go (getD (k .asked i) n none) (getD (s .formulas i .asked) n none) refl (b .asked i n) D)
         where
@@ -262,13 +277,13 @@ module _ (t f : ℕ → List ℕ) (limit : ℕ) (l : List Inlined) (frame₀ : L
               let is : stampedBy (nowIn s i) (standingIn s i (single (taking n))) ≡ nowIn s i = ap (stampedBy (nowIn s i)) (stands-taking n ∙ ap (λ (z : Option Asked). takenIn z s i) q) in
               ((d .0, d .1), stays n (ap (λ (y : Counted). y .cache) is) (ap (λ (y : Counted). y .count) is) (d .0) (d .1))
           go (some x) (some a) q g d =
-              did n r x a q g (d (b .ok) (omega (arith, b .holds .number, there t f limit l (B .opens) (B .target) (B .function) k s b i h)) (can n r x a q g)) low
+              did n r x a q g (d (b .ok) (omega (arith, b .holds .number, there t f limit l (B .opens) (B .target) (B .function) starts k s b i h)) (can n r x a q g low)) low
 
-      step : (x : Kind) → DidAs t f k i x frame′ cache′ → ruledBy t f (requestOf t f i x) i s .formulas i .count < 18446744073709551616 → Outcome t f k s i frame′ cache′ x × By (next frame′ cache′ (askedAfter t f i x (k .asked i))) (ruledBy t f (requestOf t f i x) i s)
-      step (resolves free numbers list r after) D low = resolve-step free numbers list r after D low
-      step (groups free numbers list r after) D low = groups-step free numbers list r after D low
+      step : (x : Kind) → DidAs t f k i x frame′ cache′ → (takesOne x ≡ true → Few) → Outcome t f k s i frame′ cache′ x × By (next frame′ cache′ (askedAfter t f i x (k .asked i))) (ruledBy t f (requestOf t f i x) i s)
+      step (resolves free numbers list r after) D low = resolve-step free numbers list r after D
+      step (groups free numbers list r after) D low = groups-step free numbers list r after D
       step (asks free numbers list r after slots) D low = ask-step free numbers list r after slots D
-      step (takes n r) D low = take-step n r D low
+      step (takes n r) D low = take-step n r D (low refl)
 
   -- of the calls to come; what is counted stays counted
   abbrev FewAfter : List FrameCall → Frame → Type 0
@@ -282,21 +297,22 @@ module _ (t f : ℕ → List ℕ) (limit : ℕ) (l : List Inlined) (frame₀ : L
   few-now : (calls : List FrameCall) (s : Frame) → FewAfter calls s → (i : ℕ) → i < length l → s .formulas i .count < 18446744073709551616
   few-now calls s h i g = omega (arith, h i g, count-calls i calls s)
 
-  claimed : (calls : List Made) (k : State) (s : Frame) → By k s → FewAfter (callsOf t f calls) s → Named t f (length l) calls → Called t f calls k → Claim t f calls k s
+  claimed : (calls : List Made) (k : State) (s : Frame) → By k s → (any isTake calls ≡ true → FewAfter (callsOf t f calls) s) → Named t f (length l) calls → Called t f calls k → Claim t f calls k s
+  unfolding any
   claimed [] k s b low n c = tt
   claimed (x ∷ xs) k s b low n c =
-      let low′ = few-next (requestOf t f (x .formula) (x .kind)) (x .formula) (callsOf t f xs) s low in
-      let y = step k s b (x .formula) (n .0) (x .frame) (x .cache) (x .kind) (c .0) (few-now (callsOf t f xs) (ruledAfter t f s x) low′ (x .formula) (n .0)) in
-      (y .0, same t f limit l (B .opens) (B .target) (B .function) (after t f k x) (ruledAfter t f s x) (y .1), claimed xs (after t f k x) (ruledAfter t f s x) (y .1) low′ (n .1) (c .1))
+      let low′ = λ e. few-next (requestOf t f (x .formula) (x .kind)) (x .formula) (callsOf t f xs) s (low (later-of (isTake x) (any isTake xs) e)) in
+      let y = step k s b (x .formula) (n .0) (x .frame) (x .cache) (x .kind) (c .0) (λ e. few-now (callsOf t f (x ∷ xs)) s (low (first-of (isTake x) (any isTake xs) e)) (x .formula) (n .0)) in
+      (y .0, same t f limit l (B .opens) (B .target) (B .function) starts (after t f k x) (ruledAfter t f s x) (y .1), claimed xs (after t f k x) (ruledAfter t f s x) (y .1) low′ (n .1) (c .1))
 
   begins : By (begun t f frame₀ cache₀) (opened limit l)
   begins =
       record {
         holds = B .holds;
         ok = B .ok;
-        stacks = λ i g. ap (λ (y : Cache). y .stacks) (B .cleared i g .empty);
-        fits = λ i g. B .cleared i g .fits;
-        stamp = λ i g. B .cleared i g .stamp;
+        stacks = λ i g. ap (λ (y : Cache). y .stacks) (B .fresh i g .empty);
+        fits = λ i g. B .fresh i g .fits;
+        stamp = λ i g. stamp-first (starts i) (B .fresh i g .stamp);
         many = λ i. refl;
         asked = λ i n. tt;
         sim = sim-opened limit l (B .opens);
@@ -311,12 +327,12 @@ module _ (t f : ℕ → List ℕ) (limit : ℕ) (l : List Inlined) (frame₀ : L
   named (x ∷ xs) n = named-if (requestOf t f (x .formula) (x .kind)) (x .formula) (callsOf t f xs) (n .0) (named xs (n .1))
 
 pub shared-frame : SharedFrame
-shared-frame t f limit l frame cache B calls h n c =
+shared-frame t f limit l frame cache B calls n c =
     let m = named t f limit l frame cache B calls n in
     let p = promised limit l (B .opens) (callsOf t f calls) m in
     record {
-      claim = claimed t f limit l frame cache B calls (begun t f frame cache) (opened limit l) (begins t f limit l frame cache B)
-          (λ i g. omega (arith, h i g, count-calls i (callsOf t f calls) (opened limit l))) n c;
+      claim = λ h. claimed t f limit l frame cache B calls (begun t f frame cache) (opened limit l) (begins t f limit l frame cache B)
+          (λ e i g. omega (arith, h e i g, count-calls i (callsOf t f calls) (opened limit l))) n c;
       demand-3 = frame-demand-3 limit l (B .opens) (callsOf t f calls) m;
       kept = p .0;
       promised = p .1;

@@ -16,7 +16,8 @@ use Rattle.function.specs.Function.{Function, isSetting}
 use Rattle.function.specs.Refused.{functionRefusal}
 use Rattle.function.specs.Known.{Checked}
 use Rattle.function.specs.Table.{functionOf}
-use Rattle.slots.specs.Steps.{Cleared}
+use Rattle.slots.specs.Steps.{Fresh}
+use Rattle.slots.proofs.Stamps.{fresh-cleared}
 use Rattle.number.specs.Read.{Read, got, refused, then}
 use Rattle.job_target.specs.Target.{target}
 use Rattle.job_function.specs.Reads.{functionWithin}
@@ -101,7 +102,7 @@ opened-alone frame i kept l ok a r e =
 pub record Joined (x : Opening) : Type 0 where
   pub read : alone.opened (x .kept) (x .job) ≡ got (record { target = regInfoOf (x .target); function = functionOf (x .function) }) []
   pub checked : Checked (x .target) (x .function)
-  pub cleared : Cleared (x .cache)
+  pub fresh : Fresh (x .cache)
 
 module _ (x : Opening) (j : Joined x) where
   target-is : inlinedOf x .target ≡ regInfoOf (x .target)
@@ -148,7 +149,7 @@ module _ (frame : List ℕ) (i : ℕ) (x : Opening) (k : FrameOk frame) where
           let is : a ≡ record { target = regInfoOf (x .target); function = functionOf (x .function) } = rw (h .1, h .2) refl in
           let n : a .function .slots ≡ functionOf (x .function) .slots = ap (λ (y : job.Opened). y .function .slots) is in
           record {
-            joined = record { read = p .0 ∙ ap (λ (y : job.Opened). got y []) is; checked = h .3; cleared = h .4 };
+            joined = record { read = p .0 ∙ ap (λ (y : job.Opened). got y []) is; checked = h .3; fresh = fresh-cleared (x .cache) (h .4) };
             least = omega (arith, n, p .1);
             most = omega (arith, n, p .2);
             noted = subst (λ (m : ℕ). SlotsNoted frame i m (x .frame)) n (h .6);
@@ -248,13 +249,13 @@ openings-begin limit before frame (x ∷ l) o = all
         target = λ i h. ap (λ (y : Inlined). y .target) (formula-at (x ∷ l) i (omega (arith, many, h))) ∙ target-is _ (joined i (omega (arith, many, h)));
         function = λ i h. ap (λ (y : Inlined). y .function) (formula-at (x ∷ l) i (omega (arith, many, h))) ∙ function-is _ (joined i (omega (arith, many, h)));
         checked = λ i h. joined i (omega (arith, many, h)) .checked;
-        cleared = λ i h. joined i (omega (arith, many, h)) .cleared;
+        fresh = λ i h. joined i (omega (arith, many, h)) .fresh;
       };
       read = λ i h. joined i h .read;
     }
 
 -- of every list of calls after such openings
 pub shared-frame-from-openings : SharedFromOpenings
-shared-frame-from-openings limit before frame l o calls h n c =
+shared-frame-from-openings limit before frame l o calls n c =
     let many : length (formulasOf l) ≡ length l = length-map l inlinedOf in
-    shared-frame (targetsOf l) (functionsOf l) limit (formulasOf l) (frameAfter frame l) (cachesOf l) (openings-begin limit before frame l o .begun) calls h (rw many n) c
+    shared-frame (targetsOf l) (functionsOf l) limit (formulasOf l) (frameAfter frame l) (cachesOf l) (openings-begin limit before frame l o .begun) calls (rw many n) c

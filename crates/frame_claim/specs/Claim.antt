@@ -2,9 +2,11 @@
 -- `take_in`. What they answer and leave is what crate group_rules says, so all that it shows of every list of such calls holds of these.
 use Prim.Native.Nat.{ℕ, _<_}
 use mathlib.Core.Path.{_≡_}
+use mathlib.Core.Bool.{Bool, true, false}
 use mathlib.Core.List.{List, [], _∷_, _++_, map}
 use mathlib.Core.Option.{Option, none, some}
 use lib.ListN.{length, drop, getD}
+use Rattle.entity.specs.Logic.{any}
 use Rattle.reginfo.specs.Table.{regInfoOf}
 use Rattle.function.specs.Known.{Checked}
 use Rattle.function.specs.Table.{functionOf}
@@ -13,7 +15,7 @@ use Rattle.rules.specs.Patch.{Answer, refused, resolved, unlessRefused}
 use Rattle.rules.specs.Take.{resolving, asking, taking}
 use Rattle.edit.specs.Word.{wordOf, AllInRange}
 use Rattle.slots.specs.Stacks.{cacheOf, stampOf}
-use Rattle.slots.specs.Steps.{Cleared}
+use Rattle.slots.specs.Steps.{Fresh}
 use Rattle.parallel_moves.specs.declared.Resolved.{Resolved}
 use Rattle.parallel_moves.specs.declared.asking.TakeAnswer as K
 use Rattle.parallel_moves.specs.declared.asking.TakeAnswer.{TakeAnswer}
@@ -59,6 +61,15 @@ pub record Made : Type 0 where
   pub kind : Kind
   pub frame : List ℕ
   pub cache : List ℕ
+
+abbrev pub takesOne : Kind → Bool
+takesOne (resolves free numbers list r after) = false
+takesOne (groups free numbers list r after) = false
+takesOne (asks free numbers list r after slots) = false
+takesOne (takes n r) = true
+
+abbrev pub isTake : Made → Bool
+isTake x = takesOne (x .kind)
 
 abbrev pub leftBy : FrameAsked → List ℕ → Option Left
 leftBy (A.the-variants.Ready n a) slots = some (record { preview = a; slots = slots })
@@ -175,7 +186,7 @@ module _ (t f : ℕ → List ℕ) where
   Named n [] = Unit {0}
   Named n (x ∷ l) = (x .formula < n) × Named n l
 
-  -- a frame that was opened with the formulas l, each with its tables and a cleared cache
+  -- a frame that was opened with the formulas l, each with its tables and a fresh cache, whose stamp is any
   pub record Begun (limit : ℕ) (l : List Inlined) (frame : List ℕ) (cache : ℕ → List ℕ) : Type 0 where
     pub opens : openRefusal limit l ≡ none
     pub holds : Holds frame (opened limit l)
@@ -183,20 +194,24 @@ module _ (t f : ℕ → List ℕ) where
     pub target : (i : ℕ) → i < length l → getD l i noFormula .target ≡ regInfoOf (t i)
     pub function : (i : ℕ) → i < length l → getD l i noFormula .function ≡ functionOf (f i)
     pub checked : (i : ℕ) → i < length l → Checked (t i) (f i)
-    pub cleared : (i : ℕ) → i < length l → Cleared (cache i)
+    pub fresh : (i : ℕ) → i < length l → Fresh (cache i)
 
   -- "while fewer than 2^64 patches have been taken or resolved on that cache"
   abbrev pub FewPatches : (limit : ℕ) (l : List Inlined) (calls : List Made) → Type 0
   FewPatches limit l calls = (i : ℕ) → i < length l → settledBy i (callsOf calls) (opened limit l) < 18446744073709551616
 
+  -- asked for where a take stands among the calls, and nowhere else
+  abbrev pub FewIfTaken : (limit : ℕ) (l : List Inlined) (calls : List Made) → Type 0
+  FewIfTaken limit l calls = any isTake calls ≡ true → FewPatches limit l calls
+
   abbrev pub begun : (frame : List ℕ) (cache : ℕ → List ℕ) → State
   begun frame cache = record { frame = frame; cache = cache; asked = λ i. [] }
 
-  -- answers, edits and caches are those of the rules; demand 3 of each formula's own list; every promise is kept; each slot made lies in one stack of
+  -- answers, edits and caches are those of the rules, takes while patches are few; demand 3 of each formula's own list; every promise is kept; each slot made lies in one stack of
   -- one formula, once; takes are answered as 02 g and l say; and until its first such 20, or 17 above its share, a formula gets the same whatever the
   -- others call, but for slot numbers
   pub record Shared (limit : ℕ) (l : List Inlined) (frame : List ℕ) (cache : ℕ → List ℕ) (calls : List Made) : Type 0 where
-    pub claim : Claim calls (begun frame cache) (opened limit l)
+    pub claim : FewIfTaken limit l calls → Claim calls (begun frame cache) (opened limit l)
     pub demand-3 : FrameClaim (callsOf calls) (opened limit l)
     pub kept : Kept (afterCalls (callsOf calls) (opened limit l))
     pub promised : (i : ℕ) → i < length l → PromisedToGroups (afterCalls (callsOf calls) (opened limit l)) i
@@ -208,5 +223,5 @@ module _ (t f : ℕ → List ℕ) where
 abbrev pub SharedFrame : Type 0
 SharedFrame =
     (t f : ℕ → List ℕ) (limit : ℕ) (l : List Inlined) (frame : List ℕ) (cache : ℕ → List ℕ) → Begun t f limit l frame cache
-    → (calls : List Made) → FewPatches t f limit l calls → Named t f (length l) calls → Called t f calls (begun t f frame cache)
+    → (calls : List Made) → Named t f (length l) calls → Called t f calls (begun t f frame cache)
     → Shared t f limit l frame cache calls

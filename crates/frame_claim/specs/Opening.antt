@@ -16,7 +16,7 @@ use Rattle.frame_table.specs.declared.FrameOpened.the-variants as F
 use Rattle.frame_table.specs.Opening.{FrameAs}
 use Rattle.frame_table.specs.Held.{FrameOk}
 use Rattle.frame_calls.specs.Given.{openedIn, OpenedAs}
-use Rattle.frame_claim.specs.Claim.{Made, Named, Called, Begun, FewPatches, begun, Shared}
+use Rattle.frame_claim.specs.Claim.{Made, Named, Called, Begun, begun, Shared}
 
 -- a call of `open_in` that was made: "a promised share, given beside its job", its setting, its job, what its cache held, and the tables as it left
 -- them, the formula's own and the frame's
@@ -89,6 +89,6 @@ OpeningsBegin = (limit : ℕ) (before frame : List ℕ) (l : List Opening) → O
 abbrev pub SharedFromOpenings : Type 0
 SharedFromOpenings =
     (limit : ℕ) (before frame : List ℕ) (l : List Opening) → OpenedAll limit before frame l
-    → (calls : List Made) → FewPatches (targetsOf l) (functionsOf l) limit (formulasOf l) calls → Named (targetsOf l) (functionsOf l) (length l) calls
+    → (calls : List Made) → Named (targetsOf l) (functionsOf l) (length l) calls
     → Called (targetsOf l) (functionsOf l) calls (begun (targetsOf l) (functionsOf l) (frameAfter frame l) (cachesOf l))
     → Shared (targetsOf l) (functionsOf l) limit (formulasOf l) (frameAfter frame l) (cachesOf l) calls

@@ -65,7 +65,7 @@ module _ (kept : ℕ) (s t f : List ℕ) where
         going = λ g. absurd (let z : _≡_ {A = ℕ} 0 1 = cc in omega arith);
       }
 
-  pub begun-stands : (cache out : List ℕ) (count at : ℕ) → HeaderAt s (opening kept s) (N.Is count at) t f → Cleared cache → count < 4294967296 → Stands kept t f s cache out (starting at count)
+  pub begun-stands : {before : List ℕ} (cache out : List ℕ) (count at : ℕ) → HeaderAt s (opening kept s) (N.Is count at) t f → Cleared before cache → count < 4294967296 → Stands kept t f s cache out (starting at count)
   begun-stands cache out count at h c few =
       let e : job kept s ≡ patches (regInfoOf t) (functionOf f) count emptyCache (drop at s) = opens kept s ∙ header-read count at (opening kept s) h in
       record {

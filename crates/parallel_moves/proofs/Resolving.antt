@@ -262,5 +262,5 @@ module _ (t f cache : List ℕ) (free : List Bool) (list : List ℕ) (g : Grant)
   own-resolves-patch numbers h p q = own-gives f cache (resolve (T t) (functionOf f) p (length list) (cacheOf cache)) r list list′ cache′ (rw is at (h p q))
 
 -- a cache with no slot made
-pub fresh : (f cache : List ℕ) → Cleared cache → CacheOk f cache
+pub fresh : {before : List ℕ} (f cache : List ℕ) → Cleared before cache → CacheOk f cache
 fresh f cache h = record { fits = h .fits; stacks = rw (h .empty) (slots-empty (functionOf f) .stacked); made = rw (h .empty) (omega arith) }

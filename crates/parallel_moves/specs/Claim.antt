@@ -58,4 +58,4 @@ module _ (t f : List ℕ) where
 
 -- "For every list of one function's `resolve` calls from a fresh slot cache, refused ones included"
 abbrev pub Demand3 : Type 0
-Demand3 = (t f : List ℕ) → Checked t f → (calls : List Made) (cache : List ℕ) → Cleared cache → Called t f calls cache → Claim t f calls cache emptyCache
+Demand3 = (t f : List ℕ) → Checked t f → (calls : List Made) (cache : List ℕ) {before : List ℕ} → Cleared before cache → Called t f calls cache → Claim t f calls cache emptyCache

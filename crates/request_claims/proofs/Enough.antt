@@ -16,6 +16,7 @@ use Rattle.rules.specs.Patch.{Answer, refused, resolved}
 use Rattle.rules.specs.Take.{Preview, Counted, Served, fresh, takeAnswer, takenOf, answerIn}
 use Rattle.machine.specs.Enough.{numSizes}
 use Rattle.machine.proofs.EnoughSlots.{never-out}
+use Rattle.slots.specs.Stacks.{stampOf}
 use Rattle.parallel_moves.specs.declared.asking.Asked as A
 use Rattle.parallel_moves.specs.declared.asking.TakeAnswer as K
 use Rattle.parallel_moves.specs.Answers.{numberOf, Gives, Asks}
@@ -74,16 +75,16 @@ module _ (t f : List ℕ) where
     one-never (taking x) s v l g =
         takes-other x (s .cache) (answerIn (takenOf (getD (v .asked) (x .asking) none) (v .now))) g (take-other (getD (v .asked) (x .asking) none) (v .now))
 
-    never : (calls : List Made) (s : Held) (v : Served) → Claim t f calls s v → AllLie t f ch calls v → NeverOut calls
-    never [] s v h l = tt
-    never (x ∷ rest) s v h l = (one-never x s v (l .0) (h .1), never rest (left x s) (after (regInfoOf t) (functionOf f) x v) (h .3) (l .1))
+    never : (start : ℕ) (calls : List Made) (s : Held) (v : Served) → Claim t f start calls s v → AllLie t f ch calls v → NeverOut calls
+    never start [] s v h l = tt
+    never start (x ∷ rest) s v h l = (one-never x s v (l .0) (h .1), never start rest (left x s) (after (regInfoOf t) (functionOf f) x v) (h .3) (l .1))
 
 pub fewer-enough-for-all-calls : FewerEnough
 fewer-enough-for-all-calls kept bytes t f cache cache′ o h calls made below =
     let c = claimed kept bytes t f cache cache′ o calls made below in
     let enough : (127 + functionOf f .kept) * numSizes (regInfoOf t) (functionOf f) ≤ functionOf f .limit =
     subst (λ (k : ℕ). (127 + k) * numSizes (regInfoOf t) (functionOf f) ≤ functionOf f .limit) (sym (setting kept bytes t f cache cache′ o)) h in
-    never t f (known (opened kept bytes) t f cache cache′ o .0) enough calls (holding cache′) fresh (c .0) (c .1)
+    never t f (known (opened kept bytes) t f cache cache′ o .0) enough (stampOf cache′) calls (holding cache′) fresh (c .0) (c .1)
 
 pub enough-for-all-calls : Enough
 enough-for-all-calls kept bytes t f cache cache′ o h calls made below = fewer-enough-for-all-calls kept bytes t f cache cache′ o (omega arith) calls made below

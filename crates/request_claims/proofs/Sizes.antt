@@ -21,7 +21,7 @@ use Rattle.rules.specs.Scratch.{Cache}
 use Rattle.rules.specs.Patch.{remat, Patch, refused, namesPlace, entryConditions, resolveFrom, resolve}
 use Rattle.rules.specs.Take as take
 use Rattle.rules.specs.Take.{Served, fresh}
-use Rattle.slots.specs.Stacks.{cacheOf}
+use Rattle.slots.specs.Stacks.{cacheOf, stampOf}
 use Rattle.machine.specs.Enough.{SizedIn, editsIn}
 use Rattle.group_rules.specs.Requests as rules
 use Rattle.group_rules.specs.Requests.{Request}
@@ -87,23 +87,23 @@ module _ (t : RegInfo) (f : Function) where
     like (taking x) = like-request (taking x) tt
 
 module _ (t f : List ℕ) where
-  first-same : (calls : List Made) (s : Held) (v : Served) → Claim t f calls s v → cacheOf (s .cache) ≡ v .now .cache
-  first-same [] s v h = h .cache
-  first-same (x ∷ l) s v h = h .0 .cache
+  first-same : (start : ℕ) (calls : List Made) (s : Held) (v : Served) → Claim t f start calls s v → cacheOf (s .cache) ≡ v .now .cache
+  first-same start [] s v h = h .cache
+  first-same start (x ∷ l) s v h = h .0 .cache
 
-  sizes : (calls : List Made) (es : List Edit) (s : Held) (v : Served) → Claim t f calls s v
+  sizes : (start : ℕ) (calls : List Made) (es : List Edit) (s : Held) (v : Served) → Claim t f start calls s v
       → RequestsSizes (regInfoOf t) (functionOf f) (map (asRequest (regInfoOf t) (functionOf f)) calls) es v → SizesClaim t f calls es s v
-  sizes [] es s v h g = rw (first-same [] s v h) g
-  sizes (x ∷ l) es s v h g =
-      let same = first-same (x ∷ l) s v h in
+  sizes start [] es s v h g = rw (first-same start [] s v h) g
+  sizes start (x ∷ l) es s v h g =
+      let same = first-same start (x ∷ l) s v h in
       let q = like (regInfoOf t) (functionOf f) v x in (
         rw same (g .0),
         rw same (q .sized (v .now .cache) (g .1)),
-        sizes l (es ++ editsIn (regInfoOf t) (functionOf f) (standing (regInfoOf t) (functionOf f) x v)) (left x s) (after (regInfoOf t) (functionOf f) x v) (h .3) (rw (q .goes, q .edits) (g .2)),
+        sizes start l (es ++ editsIn (regInfoOf t) (functionOf f) (standing (regInfoOf t) (functionOf f) x v)) (left x s) (after (regInfoOf t) (functionOf f) x v) (h .3) (rw (q .goes, q .edits) (g .2)),
       )
 
 pub each-of-its-size-in-all-calls : EachOfItsSize
 each-of-its-size-in-all-calls kept bytes t f cache cache′ o calls made below =
     let k = known (opened kept bytes) t f cache cache′ o .0 in
-    sizes t f calls [] (holding cache′) fresh (demand-3-of-all-calls kept bytes t f cache cache′ o calls made below)
+    sizes t f (stampOf cache′) calls [] (holding cache′) fresh (demand-3-of-all-calls kept bytes t f cache cache′ o calls made below)
     (each-of-its-size (regInfoOf t) (functionOf f) (k .target) (k .function) (map (asRequest (regInfoOf t) (functionOf f)) calls))

@@ -1,9 +1,11 @@
 -- 02 g and 02 k of the code, with demand 3: one claim about every list of one function's calls, resolved, by groups or not, asked for and taken.
-use Prim.Native.Nat.{ℕ, _<_}
+use Prim.Native.Nat.{ℕ, _+_, _<_}
 use mathlib.Core.Path.{_≡_}
+use mathlib.Core.Bool.{Bool, true, false}
 use mathlib.Core.List.{List, [], _∷_}
 use mathlib.Core.Option.{Option, none, some}
 use lib.ListN.{length, getD}
+use Rattle.entity.specs.Logic.{any}
 use Rattle.reginfo.specs.RegInfo.{RegInfo}
 use Rattle.reginfo.specs.Table.{regInfoOf}
 use Rattle.function.specs.Function.{Function}
@@ -12,7 +14,7 @@ use Rattle.rules.specs.Scratch.{Cache}
 use Rattle.rules.specs.Patch.{Answer, refused, resolved}
 use Rattle.rules.specs.Take.{Served, fresh}
 use Rattle.machine.specs.Claim.{Owed}
-use Rattle.slots.specs.Stacks.{cacheOf, stampOf, raised}
+use Rattle.slots.specs.Stacks.{cacheOf, stampOf, raised, stampAfter}
 use Rattle.parallel_moves.specs.declared.asking.TakeAnswer as K
 use Rattle.parallel_moves.specs.Given.{CacheOk}
 use Rattle.parallel_moves.specs.Answers.{Gives, CanTake, Asks, Takes}
@@ -64,24 +66,34 @@ module _ (t f : List ℕ) where
       Asks f (functionOf f .limit) (ruled (x .free) (x .numbers) (length (x .list)) (v .now .cache)) (x .answer) (x .list) (x .after) (s .cache) (x .slots)
   Outcome (taking x) s v = TakeAnswered (answered (regInfoOf t) (functionOf f) (taking x) v) x (s .cache)
 
-  -- the cache is that of the rules, and its stamp is their count
-  pub record Same (s : Held) (v : Served) : Type 0 where
+  -- the cache is that of the rules, and its stamp is their count from the stamp that the calls began with
+  pub record Same (start : ℕ) (s : Held) (v : Served) : Type 0 where
     pub cache : cacheOf (s .cache) ≡ v .now .cache
-    pub stamp : stampOf (s .cache) ≡ v .now .count
+    pub stamp : stampOf (s .cache) ≡ stampAfter start (v .now .count)
 
   -- call by call, from what the program holds and the rules' state; of what stands in the list of demand 3, `Accepted`
-  abbrev pub Claim : List Made → Held → Served → Type 0
-  Claim [] s v = Same s v
-  Claim (x ∷ l) s v =
-      Same s v × Outcome x s v × Owed (regInfoOf t) (functionOf f) (standing (regInfoOf t) (functionOf f) x v)
-      × Claim l (left x s) (after (regInfoOf t) (functionOf f) x v)
+  abbrev pub Claim : (start : ℕ) → List Made → Held → Served → Type 0
+  Claim start [] s v = Same start s v
+  Claim start (x ∷ l) s v =
+      Same start s v × Outcome x s v × Owed (regInfoOf t) (functionOf f) (standing (regInfoOf t) (functionOf f) x v)
+      × Claim start l (left x s) (after (regInfoOf t) (functionOf f) x v)
 
 -- "What is said here of takes is owed while fewer than 2^64 patches have been taken or resolved on that cache"
 abbrev pub Few : ℕ → Type 0
 Few n = n < 18446744073709551616
 
--- from `open` on, whatever setting and bytes it took
+-- so it is asked for where a take stands among the calls, and nowhere else
+abbrev pub isTake : Made → Bool
+isTake (resolving x) = false
+isTake (grouping x) = false
+isTake (asking x) = false
+isTake (taking x) = true
+
+abbrev pub FewIfTaken : RegInfo → Function → List Made → Served → Type 0
+FewIfTaken t f calls v = any isTake calls ≡ true → Few (v .now .count + settled t f calls v)
+
+-- from `open` on, whatever setting and bytes it took, and whatever was asked for or settled in that memory before
 abbrev pub Demand3 : Type 0
 Demand3 =
     (kept : ℕ) (bytes t f cache cache′ : List ℕ) → OpenedAs (opened kept bytes) Yes t f cache cache′ → (calls : List Made) → Called t f calls (holding cache′)
-    → Few (settled (regInfoOf t) (functionOf f) calls fresh) → Claim t f calls (holding cache′) fresh
+    → FewIfTaken (regInfoOf t) (functionOf f) calls fresh → Claim t f (stampOf cache′) calls (holding cache′) fresh

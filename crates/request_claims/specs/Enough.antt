@@ -14,8 +14,8 @@ use Rattle.parallel_moves.specs.declared.asking.TakeAnswer as K
 use Rattle.parallel_moves.specs.Answers.{numberOf}
 use Rattle.calls.specs.declared.Opened.the-variants.{Yes}
 use Rattle.calls.specs.Opening.{opened, OpenedAs}
-use Rattle.request_claims.specs.Calls.{Made, resolving, grouping, asking, taking, Held, holding, left, standing, answered, after, settled}
-use Rattle.request_claims.specs.Claim.{Called, Few}
+use Rattle.request_claims.specs.Calls.{Made, resolving, grouping, asking, taking, Held, holding, left, standing, answered, after}
+use Rattle.request_claims.specs.Claim.{Called, FewIfTaken}
 
 -- "a function never meets 17"
 abbrev pub NotOut : Made → Type 0
@@ -32,7 +32,7 @@ NeverOut (x ∷ l) = NotOut x × NeverOut l
 abbrev pub EnoughWith : ℕ → Type 0
 EnoughWith n =
     (kept : ℕ) (bytes t f cache cache′ : List ℕ) → OpenedAs (opened kept bytes) Yes t f cache cache′ → (n + kept) * numSizes (regInfoOf t) (functionOf f) ≤ functionOf f .limit
-    → (calls : List Made) → Called t f calls (holding cache′) → Few (settled (regInfoOf t) (functionOf f) calls fresh) → NeverOut calls
+    → (calls : List Made) → Called t f calls (holding cache′) → FewIfTaken (regInfoOf t) (functionOf f) calls fresh → NeverOut calls
 
 -- "129 times the number of different slot sizes among its banks, for every list of demand 3 [..]. With two, 130 stands for 129."
 abbrev pub Enough : Type 0
@@ -54,4 +54,4 @@ module _ (t f : List ℕ) where
 abbrev pub EachOfItsSize : Type 0
 EachOfItsSize =
     (kept : ℕ) (bytes t f cache cache′ : List ℕ) → OpenedAs (opened kept bytes) Yes t f cache cache′ → (calls : List Made) → Called t f calls (holding cache′)
-    → Few (settled (regInfoOf t) (functionOf f) calls fresh) → SizesClaim t f calls [] (holding cache′) fresh
+    → FewIfTaken (regInfoOf t) (functionOf f) calls fresh → SizesClaim t f calls [] (holding cache′) fresh

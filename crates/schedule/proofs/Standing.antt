@@ -1,6 +1,6 @@
 -- Between the calls each formula stands, its own calls and the others' alike.
 use Prim.Native.Nat.{ℕ, _+_, _-_, _<_, _≤_}
-use mathlib.Core.Path.{_≡_, refl, sym, subst, _∙_}
+use mathlib.Core.Path.{_≡_, refl, sym, ap, subst, _∙_}
 use mathlib.Core.Bool.{Bool, true, false}
 use mathlib.Core.List.{List}
 use mathlib.Core.Logic.{⊎-elim}
@@ -12,7 +12,8 @@ use Rattle.entity.proofs.Laws.{and-true}
 use borrow.Author.Tests.{eqb-true}
 use Rattle.rules.specs.Patch.{Answer, refused, resolved}
 use Rattle.rules.proofs.Steps.{same?}
-use Rattle.slots.specs.Stacks.{stampOf, raised}
+use Rattle.slots.specs.Stacks.{stampOf, raised, stampAfter}
+use Rattle.slots.proofs.Stamps.{stamp-next, stamp-told}
 use Rattle.slots.specs.Steps.{Committed}
 use Rattle.frame_table.specs.Table.{numberOf, counterOf, madeOf, reachOf}
 use Rattle.frame_table.specs.Steps.{WentOn}
@@ -72,11 +73,14 @@ in-frame-on frame frame′ f cache low h =
     let s = h .stacks in
     record { fits = h .fits; stacks = record { once = s .once; sole = s .sole; low = s .low; below = λ x z a. omega (arith, s .below x z a, low) } }
 
-waits-on : (frame frame′ : List ℕ) (i : ℕ) (f cache slots : List ℕ) (left : Left) → FrameOn frame frame′ → i < numberOf frame → WaitsIf frame i f cache slots left → WaitsIf frame′ i f cache slots left
-waits-on frame frame′ i f cache slots Nothing o h w = tt
-waits-on frame frame′ i f cache slots (Held a) o h w =
+waits-on : (start count : ℕ) (frame frame′ : List ℕ) (i : ℕ) (f cache slots : List ℕ) (left : Left) → FrameOn frame frame′ → i < numberOf frame
+    → WaitsIf start count frame i f cache slots left → WaitsIf start count frame′ i f cache slots left
+waits-on start count frame frame′ i f cache slots Nothing o h w = tt
+waits-on start count frame frame′ i f cache slots (Held a) o h w =
     record {
+      mark = w .mark;
       stamp = w .stamp;
+      before = w .before;
       counter = omega (arith, w .counter, o .low);
       can = λ s c.
           let e : counterOf frame′ ≡ counterOf frame = omega (arith, w .counter, o .low, c) in
@@ -90,25 +94,30 @@ other-stands frame frame′ i t f cache slots left n m o h l x =
     record {
       checked = x .checked;
       in-frame = in-frame-on frame frame′ f cache (o .low) (x .in-frame);
-      stamp = omega (arith, x .stamp, l);
-      waits = waits-on frame frame′ i f cache slots left o h (x .waits);
+      start = x .start;
+      count = x .count;
+      stamp = x .stamp;
+      low = omega (arith, x .low, l);
+      waits = waits-on (x .start) (x .count) frame frame′ i f cache slots left o h (x .waits);
     }
 
 -- ---- its own
-pub can-of : (frame : List ℕ) (i : ℕ) (f cache slots : List ℕ) (left : Left) → WaitsIf frame i f cache slots left → CanTakeIf frame i left slots cache
+pub can-of : {start count : ℕ} (frame : List ℕ) (i : ℕ) (f cache slots : List ℕ) (left : Left) → WaitsIf start count frame i f cache slots left → CanTakeIf frame i left slots cache
 can-of frame i f cache slots Nothing w = tt
 can-of frame i f cache slots (Held a) w = λ s c. w .can s c .0
 
 -- an answer that was left before a patch was taken or resolved
-waits-late : (frame frame′ : List ℕ) (i : ℕ) (f cache cache′ slots : List ℕ) (left : Left) → counterOf frame ≤ counterOf frame′ → stampOf cache′ ≡ stampOf cache + 1
-    → WaitsIf frame i f cache slots left → WaitsIf frame′ i f cache′ slots left
-waits-late frame frame′ i f cache cache′ slots Nothing l e w = tt
-waits-late frame frame′ i f cache cache′ slots (Held a) l e w =
-    record { stamp = omega (arith, w .stamp, e); counter = omega (arith, w .counter, l); can = λ s c. absurd (omega (arith, w .stamp, e, s)) }
-
-raised-is : (n : ℕ) → n + 1 < 18446744073709551616 → raised n ≡ n + 1
-unfolding raised
-raised-is n h = omega arith
+waits-late : (start count : ℕ) → count + 1 < 18446744073709551616 → (frame frame′ : List ℕ) (i : ℕ) (f cache cache′ slots : List ℕ) (left : Left) → counterOf frame ≤ counterOf frame′
+    → stampOf cache′ ≡ stampAfter start (count + 1) → WaitsIf start count frame i f cache slots left → WaitsIf start (count + 1) frame′ i f cache′ slots left
+waits-late start count few frame frame′ i f cache cache′ slots Nothing l e w = tt
+waits-late start count few frame frame′ i f cache cache′ slots (Held a) l e w =
+    record {
+      mark = w .mark;
+      stamp = w .stamp;
+      before = omega (arith, w .before);
+      counter = omega (arith, w .counter, l);
+      can = λ s c. absurd (omega (arith, w .before, stamp-told start (w .mark) (count + 1) (omega (arith, w .before)) few (sym (w .stamp) ∙ s ∙ e)));
+    }
 
 module _ (frame frame′ : List ℕ) (i : ℕ) (t f cache cache′ slots slots′ : List ℕ) (left left′ : Left) (at at′ : ℕ) (fine : FrameOk frame) (there : i < numberOf frame)
     (x : Stands frame i t f cache slots left at) (ahead : at < at′) (few : at′ < 18446744073709551616) where
@@ -125,54 +134,56 @@ module _ (frame frame′ : List ℕ) (i : ℕ) (t f cache cache′ slots slots�
   after-resolving (refused n) m es el = unchanged (m .1) (m .0) es el
   after-resolving (resolved es c n) m e el =
       let o = went-on frame i (c .made) frame′ fine there (m .5) (m .2) in
-      let s : stampOf cache′ ≡ stampOf cache + 1 = m .1 ∙ raised-is (stampOf cache) (omega (arith, x .stamp, ahead, few)) in
+      let s : stampOf cache′ ≡ stampAfter (x .start) (x .count + 1) = m .1 ∙ ap raised (x .stamp) ∙ stamp-next (x .start) (x .count) in
       rw (e, el)
       (record {
         ok = m .3;
         on = o;
-        stands = record { checked = x .checked; in-frame = m .4; stamp = omega (arith, s, x .stamp, ahead); waits = waits-late frame frame′ i f cache cache′ slots left (o .low) s (x .waits) };
+        stands = record { checked = x .checked; in-frame = m .4; start = x .start; count = x .count + 1; stamp = s; low = omega (arith, x .low, ahead); waits = waits-late (x .start) (x .count) (omega (arith, x .low, ahead, few)) frame frame′ i f cache cache′ slots left (o .low) s (x .waits) };
       })
 
   after-asking : (a : Answer) → LeftBy frame i f a cache slots′ left′ → cache′ ≡ cache → frame′ ≡ frame → After
   after-asking a l ec ef =
-      rw (ef, ec) (record { ok = fine; on = stays-on frame; stands = record { checked = x .checked; in-frame = x .in-frame; stamp = omega (arith, x .stamp, ahead); waits = go a l } })
+      rw (ef, ec) (record { ok = fine; on = stays-on frame; stands = record { checked = x .checked; in-frame = x .in-frame; start = x .start; count = x .count; stamp = x .stamp; low = omega (arith, x .low, ahead); waits = go a l } })
     where
-      go : (a : Answer) → LeftBy frame i f a cache slots′ left′ → WaitsIf frame i f cache slots′ left′
+      go : (a : Answer) → LeftBy frame i f a cache slots′ left′ → WaitsIf (x .start) (x .count) frame i f cache slots′ left′
       go (refused n) l = rw l tt
       go (resolved es c n) l =
           let p = l .1 in
           rw (l .0)
           (record {
-            stamp = omega arith;
+            mark = x .count;
+            stamp = x .stamp;
+            before = omega arith;
             counter = omega arith;
             can = λ s k. (record { can = p .can; on = l .2; within = p .made }, rw (p .stacks) (p .lie));
           })
 
   -- what a take has made of frame and cache
-  committed : (a : FramePreview) → Waits frame i f cache slots a → a .stamp ≡ stampOf cache → a .counter ≡ counterOf frame → Committed slots cache cache′ (a .to) → WentOn frame i (a .to) frame′ → FrameOk frame′
-      → WaitsIf frame i f cache slots left → slots′ ≡ slots → left′ ≡ left → After
+  committed : (a : FramePreview) → Waits (x .start) (x .count) frame i f cache slots a → a .stamp ≡ stampOf cache → a .counter ≡ counterOf frame → Committed slots cache cache′ (a .to) → WentOn frame i (a .to) frame′ → FrameOk frame′
+      → WaitsIf (x .start) (x .count) frame i f cache slots left → slots′ ≡ slots → left′ ≡ left → After
   committed a w s k m g o v es el =
       let y = w .can s k in
       let n = went-on frame i (a .to) frame′ fine there (y .0 .on) g in
-      let st : stampOf cache′ ≡ stampOf cache + 1 = m .stamp ∙ raised-is (stampOf cache) (omega (arith, x .stamp, ahead, few)) in
+      let st : stampOf cache′ ≡ stampAfter (x .start) (x .count + 1) = m .stamp ∙ ap raised (x .stamp) ∙ stamp-next (x .start) (x .count) in
       let is : InFrame frame′ f cache′ = record { fits = m .fits; stacks = rw (m .is, g .counter) (y .1) } in
       rw (es, el)
       (record {
         ok = o;
         on = n;
-        stands = record { checked = x .checked; in-frame = is; stamp = omega (arith, st, x .stamp, ahead); waits = waits-late frame frame′ i f cache cache′ slots left (n .low) st v };
+        stands = record { checked = x .checked; in-frame = is; start = x .start; count = x .count + 1; stamp = st; low = omega (arith, x .low, ahead); waits = waits-late (x .start) (x .count) (omega (arith, x .low, ahead, few)) frame frame′ i f cache cache′ slots left (n .low) st v };
       })
 
   after-taking : TakenBy (isFresh frame cache left) frame frame′ i (toOf left) slots cache cache′ → slots′ ≡ slots → left′ ≡ left → After
   after-taking h es el = go left refl (x .waits) h
     where
-      test : (a : FramePreview) (b : Bool) → isFresh frame cache (Held a) ≡ b → left ≡ Held a → Waits frame i f cache slots a → TakenBy b frame frame′ i (a .to) slots cache cache′ → After
+      test : (a : FramePreview) (b : Bool) → isFresh frame cache (Held a) ≡ b → left ≡ Held a → Waits (x .start) (x .count) frame i f cache slots a → TakenBy b frame frame′ i (a .to) slots cache cache′ → After
       test a true e q w h =
           let u = and-true (eqb (a .stamp) (stampOf cache)) (eqb (a .counter) (counterOf frame)) e in
           committed a w (eqb-true (a .stamp) (stampOf cache) (u .0)) (eqb-true (a .counter) (counterOf frame) (u .1)) (h .0) (h .1) (h .2) (x .waits) es el
       test a false e q w h = unchanged (h .1) (h .0) es el
 
-      go : (l : Left) → left ≡ l → WaitsIf frame i f cache slots l → TakenBy (isFresh frame cache l) frame frame′ i (toOf l) slots cache cache′ → After
+      go : (l : Left) → left ≡ l → WaitsIf (x .start) (x .count) frame i f cache slots l → TakenBy (isFresh frame cache l) frame frame′ i (toOf l) slots cache cache′ → After
       go Nothing e w h = unchanged (h .1) (h .0) es el
       go (Held a) e w h = test a (isFresh frame cache (Held a)) refl e w h
 

@@ -43,7 +43,7 @@ none-stacked : Stacked (λ z. [])
 unfolding has
 none-stacked z s e = absurd (let x : _≡_ {A = ℕ} 0 1 = cc in omega arith)
 
-pub started : (k : ScratchAllocator) (available : List Bool) (edits slots cache : List ℕ) → (evictedIn k ≡ Nothing) × (madeOf k ≡ 0) → setOf available ≡ emptySet → editsOf edits ≡ [] → countOf edits ≡ 0 → Written edits → Cleared cache → Begun cache slots → Started k available edits slots cache
+pub started : {before : List ℕ} (k : ScratchAllocator) (available : List Bool) (edits slots cache : List ℕ) → (evictedIn k ≡ Nothing) × (madeOf k ≡ 0) → setOf available ≡ emptySet → editsOf edits ≡ [] → countOf edits ≡ 0 → Written edits → Cleared before cache → Begun cache slots → Started k available edits slots cache
 started k available edits slots cache new a e n o cleared begun =
     let stacks : stacksOf slots cache ≡ (λ z. []) = begun .stacks ∙ ap (λ c. c .stacks) (cleared .empty) in
     record {

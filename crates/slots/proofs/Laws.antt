@@ -359,7 +359,7 @@ began slots cache long f k =
     other : (y : ℕ) → y < 64 → getD (set w 32834 0) y 0 ≡ getD slots y 0
     other y h = getD-set-other w 32834 y 0 0 (λ e. omega arith) ∙ getD-set-other u 32833 y 0 0 (λ e. omega arith) ∙ getD-set-other slots 32832 y 32 0 (λ e. omega arith)
 
--- ---- a cache with no depths
+-- ---- no depths below z
 pub zero-more : (cache : List ℕ) (z : ℕ) → z < length cache → ((y : ℕ) → y < z → getD cache y 0 ≡ 0) → (y : ℕ) → y < z + 1 → getD (set cache z 0) y 0 ≡ 0
 zero-more cache z low k y h = go (eqb y z) refl
   where
@@ -367,25 +367,29 @@ zero-more cache z low k y h = go (eqb y z) refl
     go true e = rw (eqb-true y z e) (getD-set-same cache z 0 0 low)
     go false e = let q : y ≡ z → ⊥ = eqb-false y z e in let l : y < z = omega arith in getD-set-other cache z y 0 0 q ∙ k y l
 
-pub cleared : (cache : List ℕ) → ((y : ℕ) → y < 37 → getD cache y 0 ≡ 0) → Cleared cache
-unfolding cacheOf stampOf topFirst
-cleared cache k =
-    record {
-      empty = rw (k 32 (omega arith)) (ap (λ (f : ℕ → List ℕ). record { stacks = f; made = 0 }) (fun-ext (λ y. go y (ltb y 32) refl)));
-      fits = record { deep = λ y h. rw (k y (omega arith)) (omega arith) };
-      stamp = rw (k 33 (omega arith), k 34 (omega arith), k 35 (omega arith), k 36 (omega arith));
-    }
-  where
-    go : (y : ℕ) (b : Bool) → ltb y 32 ≡ b → pick b (topFirst cache (64 + y * 2048) (depthOf cache y)) [] ≡ []
-    go y true e = let h : y < 32 = ltb-true y 32 e in rw (k y (omega arith))
-    go y false e = refl
-
 -- ---- the stamp
 -- a store that is no part of it
 pub stamp-set : (cache : List ℕ) (i v : ℕ) → (33 ≤ i → i ≤ 36 → ⊥) → stampOf (set cache i v) ≡ stampOf cache
 unfolding stampOf
 stamp-set cache i v n =
     rw (getD-set-other cache i 33 v 0 (λ e. n (omega arith) (omega arith)), getD-set-other cache i 34 v 0 (λ e. n (omega arith) (omega arith)), getD-set-other cache i 35 v 0 (λ e. n (omega arith) (omega arith)), getD-set-other cache i 36 v 0 (λ e. n (omega arith) (omega arith)))
+
+-- ---- a cache with no depths, and its stamp raised
+pub cleared : (cache₀ cache exit : List ℕ) → ((y : ℕ) → y < 32 → getD cache y 0 ≡ 0) → stampOf cache ≡ stampOf cache₀ → Raised cache exit 0 → Cleared cache₀ exit
+unfolding cacheOf topFirst
+cleared cache₀ cache exit k same r =
+    record {
+      empty = r .is ∙ ap (λ (f : ℕ → List ℕ). record { stacks = f; made = 0 }) stacks;
+      fits = r .fits (record { deep = λ y h. rw (k y h) (omega arith) });
+      stamp = r .stamp ∙ ap raised same;
+    }
+  where
+    go : (y : ℕ) (b : Bool) → ltb y 32 ≡ b → pick b (topFirst cache (64 + y * 2048) (depthOf cache y)) [] ≡ []
+    go y true e = let h : y < 32 = ltb-true y 32 e in rw (k y h)
+    go y false e = refl
+
+    stacks : cacheOf cache .stacks ≡ (λ (z : ℕ). [])
+    stacks = fun-ext (λ y. go y (ltb y 32) refl)
 
 -- ---- a stack is settled: i of those put back are copied
 pub record Settling (slots cache exit : List ℕ) (z left i : ℕ) : Type 0 where

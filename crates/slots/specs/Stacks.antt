@@ -46,6 +46,10 @@ stampOf cache = getD cache 33 0 + 65536 * (getD cache 34 0 + 65536 * (getD cache
 unfoldable pub raised : ℕ → ℕ
 raised n = (n + 1) % 18446744073709551616
 
+-- the stamp after so many patches, on a cache that started with another: "stamp ≡ start + count", modulo 2^64
+unfoldable pub stampAfter : (start count : ℕ) → ℕ
+stampAfter start count = (start + count) % 18446744073709551616
+
 -- the stacks as the patch has them now: what it put back lies on what is left of the cache's
 unfoldable pub stacksOf : List ℕ → List ℕ → ℕ → List ℕ
 stacksOf slots cache z = pick (ltb z 32) (topFirst slots (64 + z * 1024) (ownOf slots z) ++ topFirst cache (64 + z * 2048) (leftOf slots z)) []

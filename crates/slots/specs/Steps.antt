@@ -26,10 +26,17 @@ abbrev pub withoutTop : List ℕ → ℕ → (ℕ → List ℕ) → ℕ → List
 withoutTop [] z f = f
 withoutTop (s ∷ l) z f = updated z l f
 
-pub record Cleared (exit : List ℕ) : Type 0 where
+-- no slots, and the stamp is raised: 02 g's 20 is told of what was asked for before
+pub record Cleared (cache exit : List ℕ) : Type 0 where
   pub empty : cacheOf exit ≡ emptyCache
   pub fits : CacheFits exit
-  pub stamp : stampOf exit ≡ 0
+  pub stamp : stampOf exit ≡ raised (stampOf cache)
+
+-- 01: "a fresh slot cache"; its stamp is any
+pub record Fresh (cache : List ℕ) : Type 0 where
+  pub empty : cacheOf cache ≡ emptyCache
+  pub fits : CacheFits cache
+  pub stamp : stampOf cache < 18446744073709551616
 
 -- the stacks are as they were, so many slots are made, and the stamp is raised
 pub record Raised (cache exit : List ℕ) (made : ℕ) : Type 0 where

@@ -35,16 +35,17 @@ fn told_slots(t: [u16; 32835]) -> bool
     true
 }
 
-// A new function starts with no slots.
+// A new function starts with no slots. The stamp goes on rising, so that what was asked for of the function before is not taken by this one.
 pub fn clear(cache: &mut EmergencySpillSlotCache)
-    ensures { λ _. ⌜ Cleared (now (cache .exit)) ⌝ }
+    ensures { λ _. ⌜ Cleared (now (cache .entry)) (now (cache .exit)) ⌝ }
 {
     told_cache(*cache);
     let mut z: usize = 0;
-    while z < 37 {
+    while z < 32 {
         cache[z] = 0;
         z += 1;
     }
+    raise(cache, 0);
 }
 
 // How many slots the function has.
