@@ -1,10 +1,14 @@
 -- What the calls of a frame answer, as counts and numbers.
-use Prim.Native.Nat.{ℕ}
+use Prim.Native.Nat.{ℕ, _<_}
 use mathlib.Core.Path.{_≡_, refl, sym, ap, _∙_}
+use mathlib.Core.Bool.{Bool, true, false}
 use mathlib.Core.List.{List}
 use mathlib.Core.Option.{Option, none, some}
 use mathlib.Core.Logic.{⊎-elim}
 use native.Mathlib.Omega.{arith}
+use lib.Dec.{ltb}
+use borrow.Author.Tests.{ltb-true}
+use Rattle.entity.proofs.Laws.{and-true}
 use Rattle.reginfo.specs.Refused.{firstOf}
 use Rattle.rules.specs.Patch.{Answer, refused, resolved}
 use Rattle.number.specs.Read as read
@@ -17,9 +21,13 @@ use Rattle.frame_table.specs.declared.FrameOpened.the-variants as Q
 use Rattle.frame_table.specs.Opening.{shareConditions, FrameAs}
 use Rattle.frame_calls.specs.declared.FrameAsked.the-variants as A
 use Rattle.frame_calls.specs.declared.FramePreview.{FramePreview}
-use Rattle.frame_calls.specs.Given.{OpenedAs}
+use Rattle.frame_table.specs.Table.{numberOf, opensNext}
+use Rattle.frame_table.specs.Steps.{OneOpened}
+use Rattle.frame_table.specs.Held.{FrameOk}
+use Rattle.frame_table.proofs.Held.{open-ok}
+use Rattle.frame_calls.specs.Given.{OpenedAs, InFrame}
 use Rattle.frame_calls.specs.Answers.{GivesIn, previewIn, AsksIn, TakesIn}
-use Rattle.frame_c.specs.Called.{FrameBy, FormulaBy, ResolvedBy, AskedBy, previewOf, TakenBy}
+use Rattle.frame_c.specs.Called.{FrameBy, FormulaBy, FormulaIf, ResolvedBy, AskedBy, previewOf, TakenBy}
 
 module _ (limit : ℕ) (shares frame frame′ : List ℕ) where
   pub frame-open : FrameAs limit shares Q.Yes frame frame′ → FrameBy limit shares (firstOf (shareConditions limit shares)) 0 frame frame′
@@ -28,15 +36,32 @@ module _ (limit : ℕ) (shares frame frame′ : List ℕ) where
   pub frame-refused : (k : ℕ) → FrameAs limit shares (Q.Refused k) frame frame′ → FrameBy limit shares (firstOf (shareConditions limit shares)) k frame frame′
   frame-refused k h = rw (h .0) (refl, h .1)
 
-module _ (frame frame′ : List ℕ) (i : ℕ) where
-  module _ (t f cache cache′ : List ℕ) where
-    pub formula-open : (x : Read job.Opened) → OpenedAs frame frame′ i x O.Yes t f cache cache′ → FormulaBy frame frame′ i x 0 t f cache cache′
-    formula-open (read.refused k) h = let e = h .0 in absurd (let z : _≡_ {A = ℕ} 0 1 = cc in omega arith)
-    formula-open (read.got x rest) h = (refl, h .1, h .2, h .3, h .4, h .5, h .6, h .7)
+-- the next formula is below the 16
+pub next-low : (frame : List ℕ) (i : ℕ) → FrameOk frame → opensNext frame i ≡ true → i < 16
+unfolding opensNext
+next-low frame i k e = let l = ltb-true i (numberOf frame) (and-true (ltb i (numberOf frame)) _ e .0) in omega (arith, k .number, l)
 
-    pub formula-refused : (x : Read job.Opened) (k : ℕ) → OpenedAs frame frame′ i x (O.Refused k) t f cache cache′ → FormulaBy frame frame′ i x k t f cache cache′
-    formula-refused (read.refused j) k h = let e = h .0 in let z : k ≡ j = cc in (z, tt, tt, h .3, h .4)
-    formula-refused (read.got x rest) k h = let e = h .0 in absurd (let z : _≡_ {A = ℕ} 0 1 = cc in omega arith)
+module _ (frame frame′ : List ℕ) (i : ℕ) (x : Read job.Opened) (t t′ f f′ cache cache′ : List ℕ) where
+  pub formula-late : opensNext frame i ≡ false → frame′ ≡ frame → t′ ≡ t → f′ ≡ f → cache′ ≡ cache → FormulaIf (opensNext frame i) frame frame′ i x 2 t t′ f f′ cache cache′
+  formula-late e fe te fne ce = rw e (refl, te, fne, ce, fe)
+
+  pub formula-open : opensNext frame i ≡ true → (frame″ : List ℕ) → OpenedAs frame frame″ i x O.Yes t′ f′ cache cache′ → OneOpened frame″ i frame′ → FormulaIf (opensNext frame i) frame frame′ i x 0 t t′ f f′ cache cache′
+  formula-open e frame″ h o = rw e (go x h)
+    where
+      go : (x : Read job.Opened) → OpenedAs frame frame″ i x O.Yes t′ f′ cache cache′ → FormulaBy frame frame′ i x 0 t′ f′ cache cache′
+      go (read.refused k) h = let e = h .0 in absurd (let z : _≡_ {A = ℕ} 0 1 = cc in omega arith)
+      go (read.got x rest) h =
+          let stands : InFrame frame′ f′ cache′ = record { fits = h .5 .fits; stacks = rw (o .rest 2 (λ q. omega arith)) (h .5 .stacks) } in
+          (refl, h .1, h .2, h .3, h .4, stands, record { noted = frame″; slots = h .6; one = o }, open-ok frame″ i frame′ (h .7) o)
+
+  pub formula-refused : opensNext frame i ≡ true → (k : ℕ) → OpenedAs frame frame′ i x (O.Refused k) t′ f′ cache cache′ → FormulaIf (opensNext frame i) frame frame′ i x k t t′ f f′ cache cache′
+  formula-refused e k h = rw e (go x h)
+    where
+      go : (x : Read job.Opened) → OpenedAs frame frame′ i x (O.Refused k) t′ f′ cache cache′ → FormulaBy frame frame′ i x k t′ f′ cache cache′
+      go (read.refused j) h = let e = h .0 in let z : k ≡ j = cc in (z, tt, tt, h .3, h .4)
+      go (read.got x rest) h = let e = h .0 in absurd (let z : _≡_ {A = ℕ} 0 1 = cc in omega arith)
+
+module _ (frame frame′ : List ℕ) (i : ℕ) where
 
   module _ (f : List ℕ) (position : ℕ) (list list′ cache cache′ : List ℕ) where
     pub gave-edits : (a : Answer) (n m : ℕ) → GivesIn frame frame′ i f a (R.Edits n m) list list′ cache cache′ → ResolvedBy frame frame′ i f a n 0 position m list list′ cache cache′

@@ -1,6 +1,7 @@
 -- 02 l: what a caller in another language is answered by a frame.
 use Prim.Native.Nat.{ℕ, _≤_}
 use mathlib.Core.Path.{_≡_}
+use mathlib.Core.Bool.{Bool, true, false}
 use mathlib.Core.List.{List, _++_, map}
 use mathlib.Core.Option.{Option, none, some}
 use mathlib.Core.Logic.{_⊎_}
@@ -19,7 +20,7 @@ use Rattle.parallel_moves.specs.Answers.{Pending}
 use Rattle.job_rules.specs.Job as job
 use Rattle.frame_table.specs.Table.{counterOf, reachOf}
 use Rattle.frame_table.specs.Opening.{Filled}
-use Rattle.frame_table.specs.Steps.{WentOn}
+use Rattle.frame_table.specs.Steps.{WentOn, OneOpened}
 use Rattle.frame_table.specs.Held.{FrameOk}
 use Rattle.frame_calls.specs.declared.FramePreview.{FramePreview}
 use Rattle.frame_calls.specs.Given.{InFrame, SlotsNoted}
@@ -30,11 +31,22 @@ abbrev pub FrameBy : (limit : ℕ) (shares : List ℕ) → Option ℕ → (r : �
 FrameBy limit shares (some k) r frame frame′ = (r ≡ k) × (frame′ ≡ frame)
 FrameBy limit shares none r frame frame′ = (r ≡ 0) × Filled limit shares frame′
 
+-- the first one's N is noted, and that formula i is open
+pub record FormulaNoted (frame : List ℕ) (i n : ℕ) (frame′ : List ℕ) : Type 0 where
+  pub noted : List ℕ
+  pub slots : SlotsNoted frame i n noted
+  pub one : OneOpened noted i frame′
+
 -- `OpenedAs` of crate frame_calls, as a number
 abbrev pub FormulaBy : (frame frame′ : List ℕ) (i : ℕ) → Read job.Opened → (r : ℕ) (t f cache cache′ : List ℕ) → Type 0
 FormulaBy frame frame′ i (read.refused k) r t f cache cache′ = (r ≡ k) × Anything t × Anything f × (cache′ ≡ cache) × (frame′ ≡ frame)
 FormulaBy frame frame′ i (read.got x rest) r t f cache cache′ =
-    (r ≡ 0) × (regInfoOf t ≡ x .target) × (functionOf f ≡ x .function) × Checked t f × Cleared cache cache′ × InFrame frame′ f cache′ × SlotsNoted frame i (x .function .slots) frame′ × FrameOk frame′
+    (r ≡ 0) × (regInfoOf t ≡ x .target) × (functionOf f ≡ x .function) × Checked t f × Cleared cache cache′ × InFrame frame′ f cache′ × FormulaNoted frame i (x .function .slots) frame′ × FrameOk frame′
+
+-- a formula that is not the next to be opened: 2, and nothing has changed
+abbrev pub FormulaIf : Bool → (frame frame′ : List ℕ) (i : ℕ) → Read job.Opened → (r : ℕ) (t t′ f f′ cache cache′ : List ℕ) → Type 0
+FormulaIf false frame frame′ i x r t t′ f f′ cache cache′ = (r ≡ 2) × (t′ ≡ t) × (f′ ≡ f) × (cache′ ≡ cache) × (frame′ ≡ frame)
+FormulaIf true frame frame′ i x r t t′ f f′ cache cache′ = FormulaBy frame frame′ i x r t′ f′ cache cache′
 
 -- `GivesIn`, as a count and numbers
 abbrev pub ResolvedBy : (frame frame′ : List ℕ) (i : ℕ) (f : List ℕ) → Answer → (r refusal position position′ : ℕ) (list list′ cache cache′ : List ℕ) → Type 0

@@ -27,13 +27,13 @@ ghost use Rattle.entity.specs.Logic.{Anything};
 ghost use Rattle.reginfo.specs.Refused.{firstOf};
 ghost use Rattle.function.specs.Known.{Checked};
 ghost use Rattle.slots.specs.Stacks.{stampOf};
-ghost use Rattle.frame_table.specs.Table.{numberOf, counterOf, madeOf};
+ghost use Rattle.frame_table.specs.Table.{numberOf, counterOf, madeOf, opensNext};
 ghost use Rattle.frame_table.specs.Opening.{shareConditions};
 ghost use Rattle.frame_table.specs.Held.{FrameOk};
 ghost use Rattle.frame_calls.specs.Given.{InFrame, openedIn};
 ghost use Rattle.frame_calls.specs.Answers.{answerOf, CanTakeIn};
 ghost use Rattle.frame_groups.specs.Answer.{groupsAnswer};
-ghost use Rattle.frame_c.specs.Called.{FrameBy, FormulaBy, ResolvedBy, AskedBy, previewOf, TakenBy};
+ghost use Rattle.frame_c.specs.Called.{FrameBy, FormulaIf, ResolvedBy, AskedBy, previewOf, TakenBy};
 
 // Opens a frame for as many formulas as there are shares: answers 0; or 2 for none or over 16, or for a limit over 2,048, then 23 for shares above the
 // limit, and leaves the frame as it was.
@@ -47,8 +47,9 @@ pub extern "C" fn parallel_moves_frame_open_4(frame: &mut Frame, limit: u32, sha
     }
 }
 
-// Opens the target and the function of a formula, 0 before the others, as `parallel_moves_open` does, its L read but not used: another N than the first
-// one's is 2, when it is read.
+// Opens the target and the function of a formula as `parallel_moves_open` does, its L read but not used: another N than the first one's is 2, when it is
+// read. First 2, and nothing changed, for a formula that is not the next: not below the shares, out of order, open already, or once a slot is made. After
+// a refusal the same one may be tried again.
 #[no_mangle]
 pub extern "C" fn parallel_moves_frame_formula_4(
     frame: &mut Frame,
@@ -60,8 +61,11 @@ pub extern "C" fn parallel_moves_frame_formula_4(
     cache: &mut EmergencySpillSlotCache,
 ) -> u8
     requires { ⌜ FrameOk (now frame) ⌝ }
-    ensures { λ r. ⌜ FormulaBy (now (frame .entry)) (now (frame .exit)) formula (openedIn (now (frame .entry)) formula «kept_evictions» (now (bytes .entry))) r (now (target .exit)) (now (function .exit)) (now (cache .entry)) (now (cache .exit)) ⌝ }
+    ensures { λ r. ⌜ FormulaIf (opensNext (now (frame .entry)) formula) (now (frame .entry)) (now (frame .exit)) formula (openedIn (now (frame .entry)) formula «kept_evictions» (now (bytes .entry))) r (now (target .entry)) (now (target .exit)) (now (function .entry)) (now (function .exit)) (now (cache .entry)) (now (cache .exit)) ⌝ }
 {
+    if !frame_table::opens_next(frame, formula) {
+        return 2;
+    }
     match frame_calls::open_in(
         frame,
         formula,
@@ -71,7 +75,10 @@ pub extern "C" fn parallel_moves_frame_formula_4(
         function,
         cache,
     ) {
-        Opened::Yes => 0,
+        Opened::Yes => {
+            frame_table::note_open(frame, formula);
+            0
+        }
         Opened::Refused(k) => k,
     }
 }

@@ -19,6 +19,7 @@ use Rattle.frame_rules.proofs.Calls.{reach-far, lack-split, at-own, at-other}
 use Rattle.frame_rules.proofs.Promise.{reach-is}
 use Rattle.frame_table.specs.Table.{numberOf, limitOf, counterOf, shareOf, madeOf, lacksOf, lacksBeside, othersLackOf, reachOf}
 use Rattle.frame_table.specs.Opening.{sumOf, shareConditions, SameConditions}
+use Rattle.frame_table.specs.Steps.{OneOpened}
 use Rattle.frame_table.specs.Held.{Holds, OpenedHolds, ReachIs, WentHolds, frameOf, FrameOk, FilledOk, SlotsOk, WentOk}
 
 -- ---- opening
@@ -142,6 +143,24 @@ slots-ok frame n frame′ k low w =
           record {
             counted = rw (w .number) (w .counter ∙ k .kept .counted ∙ sym (sum-below (λ j. madeOf frame′ j) (λ j. madeOf frame j) (numberOf frame) (λ j h. w .made j)));
             within = rw (w .number) (omega (arith, w .counter, w .limit, k .kept .within, sum-below (λ j. lacksOf frame′ j) (λ j. lacksOf frame j) (numberOf frame) (λ j h. same j)));
+          };
+    }
+
+pub open-ok : (frame : List ℕ) (i : ℕ) (frame′ : List ℕ) → FrameOk frame → OneOpened frame i frame′ → FrameOk frame′
+open-ok frame i frame′ k w =
+    let number : numberOf frame′ ≡ numberOf frame = w .rest 0 (λ e. omega arith) in
+    let limit : limitOf frame′ ≡ limitOf frame = w .rest 1 (λ e. omega arith) in
+    let counter : counterOf frame′ ≡ counterOf frame = w .rest 2 (λ e. omega arith) in
+    let made : (j : ℕ) → j < numberOf frame → madeOf frame′ j ≡ madeOf frame j = λ j h. w .rest (20 + j) (λ e. omega (arith, k .number)) in
+    let same : (j : ℕ) → j < numberOf frame → lacksOf frame′ j ≡ lacksOf frame j = λ j h. rw (w .rest (4 + j) (λ e. omega (arith, k .number)), made j h) refl in
+    record {
+      number = rw number (k .number);
+      limit = rw limit (k .limit);
+      slots = rw (w .rest 3 (λ e. omega arith)) (k .slots);
+      kept =
+          record {
+            counted = rw number (counter ∙ k .kept .counted ∙ sym (sum-below (λ j. madeOf frame′ j) (λ j. madeOf frame j) (numberOf frame) made));
+            within = rw number (omega (arith, counter, limit, k .kept .within, sum-below (λ j. lacksOf frame′ j) (λ j. lacksOf frame j) (numberOf frame) same));
           };
     }
 

@@ -15,9 +15,9 @@ use Rattle.entity.proofs.Laws.{drop-step}
 use Rattle.reginfo.specs.Refused.{firstOf}
 use Rattle.rules.specs.Counts.{sum}
 use Rattle.rules.proofs.Steps.{same?}
-use Rattle.frame_table.specs.Table.{numberOf, counterOf, shareOf, madeOf, lacksOf, lacksBeside, othersLackOf}
+use Rattle.frame_table.specs.Table.{openOf, opensNext, numberOf, counterOf, shareOf, madeOf, lacksOf, lacksBeside, othersLackOf}
 use Rattle.frame_table.specs.Opening.{sumOf, shareConditions, Filled}
-use Rattle.frame_table.specs.Steps.{SlotsSet, WentOn}
+use Rattle.frame_table.specs.Steps.{OneOpened, SlotsSet, WentOn}
 
 -- ---- shares
 -- from share i on, what is left of the limit is enough exactly where the limit is enough for all
@@ -91,28 +91,33 @@ module _ (limit : ℕ) (shares : List ℕ) where
 
 -- ---- filling the table: the first i formulas stand there
 pub record Filling (limit : ℕ) (shares : List ℕ) (i : ℕ) (frame : List ℕ) : Type 0 where
-  pub long : length frame ≡ 36
+  pub long : length frame ≡ 37
   pub number : getD frame 0 0 ≡ length shares
   pub limit-is : getD frame 1 0 ≡ limit
   pub counter : getD frame 2 0 ≡ 0
   pub slots : getD frame 3 0 ≡ 0
+  pub opened : getD frame 36 0 ≡ 0
   pub share : (j : ℕ) → j < i → getD frame (4 + j) 0 ≡ getD shares j 0
   pub made : (j : ℕ) → j < i → getD frame (20 + j) 0 ≡ 0
 
-pub filling-start : (limit : ℕ) (shares frame : List ℕ) → length frame ≡ 36 → Filling limit shares 0 (set (set (set (set frame 0 (length shares)) 1 limit) 2 0) 3 0)
+pub filling-start : (limit : ℕ) (shares frame : List ℕ) → length frame ≡ 37 → Filling limit shares 0 (set (set (set (set (set frame 0 (length shares)) 1 limit) 2 0) 3 0) 36 0)
 filling-start limit shares f long =
     let f₁ = set f 0 (length shares) in
     let f₂ = set f₁ 1 limit in
     let f₃ = set f₂ 2 0 in
-    let l₁ : length f₁ ≡ 36 = length-set f 0 (length shares) ∙ long in
-    let l₂ : length f₂ ≡ 36 = length-set f₁ 1 limit ∙ l₁ in
-    let l₃ : length f₃ ≡ 36 = length-set f₂ 2 0 ∙ l₂ in
+    let l₁ : length f₁ ≡ 37 = length-set f 0 (length shares) ∙ long in
+    let l₂ : length f₂ ≡ 37 = length-set f₁ 1 limit ∙ l₁ in
+    let l₃ : length f₃ ≡ 37 = length-set f₂ 2 0 ∙ l₂ in
+    let f₄ = set f₃ 3 0 in
+    let l₄ : length f₄ ≡ 37 = length-set f₃ 3 0 ∙ l₃ in
+    let behind : (j : ℕ) → (j ≡ 36 → ⊥) → getD (set f₄ 36 0) j 0 ≡ getD f₄ j 0 = λ j d. getD-set-other f₄ 36 j 0 0 d in
     record {
-      long = length-set f₃ 3 0 ∙ l₃;
-      number = getD-set-other f₃ 3 0 0 0 (λ e. omega arith) ∙ getD-set-other f₂ 2 0 0 0 (λ e. omega arith) ∙ getD-set-other f₁ 1 0 limit 0 (λ e. omega arith) ∙ getD-set-same f 0 (length shares) 0 (omega arith);
-      limit-is = getD-set-other f₃ 3 1 0 0 (λ e. omega arith) ∙ getD-set-other f₂ 2 1 0 0 (λ e. omega arith) ∙ getD-set-same f₁ 1 limit 0 (omega arith);
-      counter = getD-set-other f₃ 3 2 0 0 (λ e. omega arith) ∙ getD-set-same f₂ 2 0 0 (omega arith);
-      slots = getD-set-same f₃ 3 0 0 (omega arith);
+      long = length-set f₄ 36 0 ∙ l₄;
+      number = behind 0 (λ e. omega arith) ∙ getD-set-other f₃ 3 0 0 0 (λ e. omega arith) ∙ getD-set-other f₂ 2 0 0 0 (λ e. omega arith) ∙ getD-set-other f₁ 1 0 limit 0 (λ e. omega arith) ∙ getD-set-same f 0 (length shares) 0 (omega arith);
+      limit-is = behind 1 (λ e. omega arith) ∙ getD-set-other f₃ 3 1 0 0 (λ e. omega arith) ∙ getD-set-other f₂ 2 1 0 0 (λ e. omega arith) ∙ getD-set-same f₁ 1 limit 0 (omega arith);
+      counter = behind 2 (λ e. omega arith) ∙ getD-set-other f₃ 3 2 0 0 (λ e. omega arith) ∙ getD-set-same f₂ 2 0 0 (omega arith);
+      slots = behind 3 (λ e. omega arith) ∙ getD-set-same f₃ 3 0 0 (omega arith);
+      opened = getD-set-same f₄ 36 0 0 (omega arith);
       share = λ j h. absurd (omega arith);
       made = λ j h. absurd (omega arith);
     }
@@ -120,7 +125,7 @@ filling-start limit shares f long =
 pub filling-step : (limit : ℕ) (shares frame : List ℕ) (i : ℕ) → i < 16 → Filling limit shares i frame → Filling limit shares (i + 1) (set (set frame (4 + i) (getD shares i 0)) (20 + i) 0)
 filling-step limit shares f i few g =
     let f₁ = set f (4 + i) (getD shares i 0) in
-    let l₁ : length f₁ ≡ 36 = length-set f (4 + i) (getD shares i 0) ∙ g .long in
+    let l₁ : length f₁ ≡ 37 = length-set f (4 + i) (getD shares i 0) ∙ g .long in
     let stays : (j : ℕ) → (j ≡ 4 + i → ⊥) → (j ≡ 20 + i → ⊥) → getD (set f₁ (20 + i) 0) j 0 ≡ getD f j 0 = λ j a b. getD-set-other f₁ (20 + i) j 0 0 b ∙ getD-set-other f (4 + i) j (getD shares i 0) 0 a in
     record {
       long = length-set f₁ (20 + i) 0 ∙ l₁;
@@ -128,6 +133,7 @@ filling-step limit shares f i few g =
       limit-is = stays 1 (λ e. omega arith) (λ e. omega arith) ∙ g .limit-is;
       counter = stays 2 (λ e. omega arith) (λ e. omega arith) ∙ g .counter;
       slots = stays 3 (λ e. omega arith) (λ e. omega arith) ∙ g .slots;
+      opened = stays 36 (λ e. omega arith) (λ e. omega arith) ∙ g .opened;
       share = λ j h.
           ⊎-elim
           (λ e. rw e (getD-set-other f₁ (20 + i) (4 + i) 0 0 (λ e. omega arith) ∙ getD-set-same f (4 + i) (getD shares i 0) 0 (omega (arith, g .long))))
@@ -145,10 +151,10 @@ filling-step limit shares f i few g =
 
 pub filling-end : (limit : ℕ) (shares frame : List ℕ) (i : ℕ) → length shares ≤ i → Filling limit shares i frame → Filled limit shares frame
 filling-end limit shares frame i h g =
-    record { number = g .number; limit-is = g .limit-is; counter = g .counter; slots = g .slots; share = λ j k. g .share j (omega arith); made = λ j k. g .made j (omega arith) }
+    record { number = g .number; limit-is = g .limit-is; counter = g .counter; slots = g .slots; opened = g .opened; share = λ j k. g .share j (omega arith); made = λ j k. g .made j (omega arith) }
 
 -- ---- one cell set
-pub slots-set : (frame : List ℕ) (n : ℕ) → length frame ≡ 36 → SlotsSet frame n (set frame 3 n)
+pub slots-set : (frame : List ℕ) (n : ℕ) → length frame ≡ 37 → SlotsSet frame n (set frame 3 n)
 slots-set f n long =
     record {
       number = getD-set-other f 3 0 n 0 (λ e. omega arith);
@@ -159,11 +165,29 @@ slots-set f n long =
       made = λ j. getD-set-other f 3 (20 + j) n 0 (λ e. omega arith);
     }
 
-pub went-on : (frame : List ℕ) (i n : ℕ) → length frame ≡ 36 → i < 16 → WentOn frame i n (set (set frame (20 + i) (getD frame (20 + i) 0 + (n - getD frame 2 0))) 2 n)
+-- ---- which formula is opened next
+module _ (frame : List ℕ) (i : ℕ) where
+  pub past-the-shares : numberOf frame ≤ i → false ≡ opensNext frame i
+  unfolding opensNext
+  past-the-shares h = rw (le-ltb i (numberOf frame) h) refl
+
+  module _ (there : i < numberOf frame) where
+    pub slot-made : (counterOf frame ≡ 0 → ⊥) → false ≡ opensNext frame i
+    unfolding opensNext
+    slot-made d = rw (lt-ltb i (numberOf frame) there, ne-eqb (counterOf frame) 0 d) refl
+
+    pub next-is : counterOf frame ≡ 0 → eqb (openOf frame) i ≡ opensNext frame i
+    unfolding opensNext
+    next-is e = rw (lt-ltb i (numberOf frame) there, eq-eqb (counterOf frame) 0 e) refl
+
+pub one-opened : (frame : List ℕ) (i : ℕ) → length frame ≡ 37 → OneOpened frame i (set frame 36 (i + 1))
+one-opened f i long = record { opened = getD-set-same f 36 (i + 1) 0 (omega arith); rest = λ j d. getD-set-other f 36 j (i + 1) 0 d }
+
+pub went-on : (frame : List ℕ) (i n : ℕ) → length frame ≡ 37 → i < 16 → WentOn frame i n (set (set frame (20 + i) (getD frame (20 + i) 0 + (n - getD frame 2 0))) 2 n)
 went-on f i n long low =
     let m = getD f (20 + i) 0 + (n - getD f 2 0) in
     let f₁ = set f (20 + i) m in
-    let l₁ : length f₁ ≡ 36 = length-set f (20 + i) m ∙ long in
+    let l₁ : length f₁ ≡ 37 = length-set f (20 + i) m ∙ long in
     let stays : (j : ℕ) → (j ≡ 2 → ⊥) → (j ≡ 20 + i → ⊥) → getD (set f₁ 2 n) j 0 ≡ getD f j 0 = λ j a b. getD-set-other f₁ 2 j n 0 a ∙ getD-set-other f (20 + i) j m 0 b in
     record {
       number = stays 0 (λ e. omega arith) (λ e. omega arith);

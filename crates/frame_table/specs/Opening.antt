@@ -11,7 +11,7 @@ use Rattle.reginfo.specs.Refused.{Condition, cond, firstOf}
 use Rattle.frame_rules.specs.Frame.{Inlined, frameConditions}
 use Rattle.frame_table.specs.declared.FrameOpened.{FrameOpened}
 use Rattle.frame_table.specs.declared.FrameOpened.the-variants.{Yes, Refused}
-use Rattle.frame_table.specs.Table.{numberOf, limitOf, counterOf, slotsOf, shareOf, madeOf}
+use Rattle.frame_table.specs.Table.{numberOf, limitOf, counterOf, slotsOf, openOf, shareOf, madeOf}
 
 unfoldable pub sumOf : List ℕ → ℕ
 sumOf [] = 0
@@ -32,6 +32,7 @@ pub record Filled (limit : ℕ) (shares frame : List ℕ) : Type 0 where
   pub limit-is : limitOf frame ≡ limit
   pub counter : counterOf frame ≡ 0
   pub slots : slotsOf frame ≡ 0
+  pub opened : openOf frame ≡ 0
   pub share : (j : ℕ) → j < length shares → shareOf frame j ≡ getD shares j 0
   pub made : (j : ℕ) → j < length shares → madeOf frame j ≡ 0
 

@@ -2,7 +2,8 @@
 use Prim.Native.Nat.{ℕ, _+_, _-_, _<_}
 use mathlib.Core.Path.{_≡_}
 use mathlib.Core.List.{List}
-use Rattle.frame_table.specs.Table.{numberOf, limitOf, counterOf, slotsOf, shareOf, madeOf}
+use lib.ListN.{getD}
+use Rattle.frame_table.specs.Table.{numberOf, limitOf, counterOf, slotsOf, shareOf, madeOf, openOf}
 
 -- the first one's N is n, and nothing else has changed
 pub record SlotsSet (frame : List ℕ) (n : ℕ) (frame′ : List ℕ) : Type 0 where
@@ -22,3 +23,8 @@ pub record WentOn (frame : List ℕ) (i n : ℕ) (frame′ : List ℕ) : Type 0 
   pub share : (j : ℕ) → j < 16 → shareOf frame′ j ≡ shareOf frame j
   pub own : madeOf frame′ i ≡ madeOf frame i + (n - counterOf frame)
   pub others : (j : ℕ) → (j ≡ i → ⊥) → madeOf frame′ j ≡ madeOf frame j
+
+-- formula i and those before it are open, and nothing else has changed
+pub record OneOpened (frame : List ℕ) (i : ℕ) (frame′ : List ℕ) : Type 0 where
+  pub opened : openOf frame′ ≡ i + 1
+  pub rest : (j : ℕ) → (j ≡ 36 → ⊥) → getD frame′ j 0 ≡ getD frame j 0

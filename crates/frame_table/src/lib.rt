@@ -6,11 +6,11 @@ ghost use mathlib.Core.Bool.{true};
 ghost use Prim.Native.Nat.{_+_, _<_, _≤_};
 ghost use lib.Dec.{leb};
 ghost use lib.ListN.{length, getD};
-ghost use Rattle.frame_table.specs.Table.{numberOf, limitOf, counterOf, slotsOf, madeOf, lacksOf, lacksBeside, othersLackOf, reachOf};
+ghost use Rattle.frame_table.specs.Table.{numberOf, limitOf, counterOf, slotsOf, madeOf, lacksOf, lacksBeside, othersLackOf, reachOf, opensNext};
 ghost use Rattle.frame_table.specs.Opening.{sumOf, Filled, FrameAs};
-ghost use Rattle.frame_table.specs.Steps.{WentOn, SlotsSet};
+ghost use Rattle.frame_table.specs.Steps.{WentOn, SlotsSet, OneOpened};
 
-pub type Frame = [u16; 36];
+pub type Frame = [u16; 37];
 
 // Whether a frame is open, or 02's number.
 pub enum FrameOpened {
@@ -19,8 +19,8 @@ pub enum FrameOpened {
 }
 
 // It does nothing: a call tells the length of the table that is passed.
-fn told(frame: [u16; 36]) -> bool
-    ensures { λ _. ⌜ length frame ≡ 36 ⌝ }
+fn told(frame: [u16; 37]) -> bool
+    ensures { λ _. ⌜ length frame ≡ 37 ⌝ }
 {
     true
 }
@@ -52,6 +52,7 @@ fn fill(frame: &mut Frame, limit: u16, shares: &[u32])
     frame[1] = limit;
     frame[2] = 0;
     frame[3] = 0;
+    frame[36] = 0;
     let mut i: usize = 0;
     while i < shares.len() {
         frame[4 + i] = shares[i] as u16;
@@ -108,6 +109,28 @@ pub fn set_slots(frame: &mut Frame, n: u16)
 {
     told(*frame);
     frame[3] = n;
+}
+
+// Whether formula i is the next to be opened: the formulas are opened in the order of their numbers, each once, and all before a slot is made.
+pub fn opens_next(frame: &Frame, i: usize) -> bool
+    ensures { λ r. ⌜ r ≡ opensNext (now (frame .entry)) i ⌝ }
+{
+    if wide(frame[0]) <= i {
+        return false;
+    }
+    if frame[2] != 0 {
+        return false;
+    }
+    wide(frame[36]) == i
+}
+
+// Formula i is open, and those before it.
+pub fn note_open(frame: &mut Frame, i: usize)
+    requires { ⌜ i < 16 ⌝ }
+    ensures { λ _. ⌜ OneOpened (now (frame .entry)) i (now (frame .exit)) ⌝ }
+{
+    told(*frame);
+    frame[36] = narrow(i + 1);
 }
 
 // How many slots formula i has made.

@@ -35,6 +35,9 @@ element-write-frame-3 c = search needs
 element-write-frame-4 : tie.Need-element-write-frame-4 Inv-loop μ-loop
 element-write-frame-4 c = search needs
 
+element-write-frame-open : tie.Need-element-write-frame-5 Inv-loop μ-loop
+element-write-frame-open c = search needs
+
 loop-holds : tie.Need-loop-holds Inv-loop μ-loop
 loop-holds c = let s = c .before .before .before in (filling-start (s .args .limit) (s .args .shares .now) (s .args .frame .now) (c .told .ensures), s .pre .0, s .pre .1, omega arith)
 
@@ -53,8 +56,8 @@ add-frame c = search needs
 mul-frame-2 : tie.Need-mul-frame-2 Inv-loop μ-loop
 mul-frame-2 c = search needs
 
-element-write-frame-5 : tie.Need-element-write-frame-5 Inv-loop μ-loop
-element-write-frame-5 c = search needs
+element-write-frame-6 : tie.Need-element-write-frame-6 Inv-loop μ-loop
+element-write-frame-6 c = search needs
 
 add-frame-2 : tie.Need-add-frame-2 Inv-loop μ-loop
 add-frame-2 c = search needs
@@ -62,8 +65,8 @@ add-frame-2 c = search needs
 mul-frame-3 : tie.Need-mul-frame-3 Inv-loop μ-loop
 mul-frame-3 c = search needs
 
-element-write-frame-6 : tie.Need-element-write-frame-6 Inv-loop μ-loop
-element-write-frame-6 c = search needs
+element-write-frame-7 : tie.Need-element-write-frame-7 Inv-loop μ-loop
+element-write-frame-7 c = search needs
 
 add-i : tie.Need-add-i Inv-loop μ-loop
 add-i c = search needs
@@ -89,16 +92,17 @@ fill-spec =
     element-write-frame-2
     element-write-frame-3
     element-write-frame-4
+    element-write-frame-open
     loop-holds
     mul-frame
     shared-slice-read-frame
     cast-frame-2
     add-frame
     mul-frame-2
-    element-write-frame-5
+    element-write-frame-6
     add-frame-2
     mul-frame-3
-    element-write-frame-6
+    element-write-frame-7
     add-i
     loop-less
     loop-again
