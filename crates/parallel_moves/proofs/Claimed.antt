@@ -14,7 +14,7 @@ use Rattle.parallel_moves.specs.Given.{CacheOk}
 use Rattle.parallel_moves.specs.Answers.{Gives}
 use Rattle.parallel_moves.specs.Claim.{Made, ruled, Did, by-numbers, by-entries, Called, Outcome, turned, taken, Claim, Demand3}
 use Rattle.parallel_moves.proofs.First.{resolve-built}
-use Rattle.parallel_moves.proofs.Resolving.{fresh}
+use Rattle.parallel_moves.proofs.Resolving.{fresh-ok}
 
 abbrev pub call : Made → Call
 call x = record { patch = x .patch; room = length (x .list) }
@@ -47,4 +47,4 @@ module _ (t f : List ℕ) where
 
 pub demand-3-of-the-code : Demand3
 demand-3-of-the-code t f known calls cache cleared h =
-    claims t f calls cache emptyCache (cleared .empty) (fresh f cache cleared) h (demand-3-of-calls (regInfoOf t) (functionOf f) (known .target) (known .function) (map call calls))
+    claims t f calls cache emptyCache (cleared .empty) (fresh-ok f cache cleared) h (demand-3-of-calls (regInfoOf t) (functionOf f) (known .target) (known .function) (map call calls))

@@ -31,7 +31,8 @@ use Rattle.edit.specs.Word.{wordOf}
 use Rattle.edit.specs.Buffer.{countOf, wordsOf, editsOf}
 use Rattle.edit.proofs.Laws.{length-edits, all-in-range}
 use Rattle.slots.specs.Stacks.{cacheOf, stampOf, metOf, SlotsFit}
-use Rattle.slots.specs.Steps.{Cleared, Raised, Begun, Committed}
+use Rattle.slots.specs.Steps.{Cleared, Fresh, Raised, Begun, Committed}
+use Rattle.slots.proofs.Stamps.{fresh-cleared}
 use Rattle.slots.proofs.Laws.{fits-more}
 use Rattle.scratch.specs.declared.ScratchAllocator.{ScratchAllocator}
 use Rattle.scratch.specs.State.{T, F, madeOf, cacheIn}
@@ -262,5 +263,8 @@ module _ (t f cache : List ℕ) (free : List Bool) (list : List ℕ) (g : Grant)
   own-resolves-patch numbers h p q = own-gives f cache (resolve (T t) (functionOf f) p (length list) (cacheOf cache)) r list list′ cache′ (rw is at (h p q))
 
 -- a cache with no slot made
+pub fresh-ok : (f cache : List ℕ) → Fresh cache → CacheOk f cache
+fresh-ok f cache h = record { fits = h .fits; stacks = rw (h .empty) (slots-empty (functionOf f) .stacked); made = rw (h .empty) (omega arith) }
+
 pub fresh : {before : List ℕ} (f cache : List ℕ) → Cleared before cache → CacheOk f cache
-fresh f cache h = record { fits = h .fits; stacks = rw (h .empty) (slots-empty (functionOf f) .stacked); made = rw (h .empty) (omega arith) }
+fresh f cache h = fresh-ok f cache (fresh-cleared cache h)

@@ -14,7 +14,7 @@ use Rattle.rules.specs.Patch.{Patch, Answer, refused, resolved, resolve, cacheA
 use Rattle.machine.specs.Claim.{Accepted}
 use Rattle.edit.specs.Word.{wordOf, AllInRange}
 use Rattle.slots.specs.Stacks.{cacheOf}
-use Rattle.slots.specs.Steps.{Cleared}
+use Rattle.slots.specs.Steps.{Fresh}
 use Rattle.parallel_moves.specs.declared.Resolved.{Resolved}
 use Rattle.parallel_moves.specs.Given.{Numbered, Built, CacheOk}
 use Rattle.parallel_moves.specs.Answers.{numberOf, editsIn, positionIn, Resolves, ResolvesPatch}
@@ -58,4 +58,4 @@ module _ (t f : List ℕ) where
 
 -- "For every list of one function's `resolve` calls from a fresh slot cache, refused ones included"
 abbrev pub Demand3 : Type 0
-Demand3 = (t f : List ℕ) → Checked t f → (calls : List Made) (cache : List ℕ) {before : List ℕ} → Cleared before cache → Called t f calls cache → Claim t f calls cache emptyCache
+Demand3 = (t f : List ℕ) → Checked t f → (calls : List Made) (cache : List ℕ) → Fresh cache → Called t f calls cache → Claim t f calls cache emptyCache

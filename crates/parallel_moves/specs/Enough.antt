@@ -11,7 +11,7 @@ use Rattle.rules.specs.Edit.{Edit}
 use Rattle.machine.specs.Enough.{numSizes, OfItsSize, Between}
 use Rattle.edit.specs.Word.{wordOf, AllInRange}
 use Rattle.slots.specs.Stacks.{cacheOf}
-use Rattle.slots.specs.Steps.{Cleared}
+use Rattle.slots.specs.Steps.{Fresh}
 use Rattle.parallel_moves.specs.Answers.{numberOf, editsIn}
 use Rattle.parallel_moves.specs.Claim.{Made, Called}
 
@@ -24,7 +24,7 @@ NeverOut (x ∷ l) = (numberOf (x .answer) ≡ some 17 → ⊥) × NeverOut l
 abbrev pub EnoughWith : ℕ → Type 0
 EnoughWith n =
     (t f : List ℕ) → Checked t f → (n + functionOf f .kept) * numSizes (regInfoOf t) (functionOf f) ≤ functionOf f .limit
-    → (calls : List Made) (cache : List ℕ) {before : List ℕ} → Cleared before cache → Called t f calls cache → NeverOut calls
+    → (calls : List Made) (cache : List ℕ) → Fresh cache → Called t f calls cache → NeverOut calls
 
 -- "129 times the number of different slot sizes among its banks [..]. With two, 130 stands for 129."
 abbrev pub Enough : Type 0
@@ -52,4 +52,4 @@ module _ (t f : List ℕ) where
   SizesClaim (x ∷ l) es cache = Between (regInfoOf t) (functionOf f) es (cacheOf cache) × (new : List Edit) × Handed x cache new × SizesClaim l (es ++ new) (x .cache)
 
 abbrev pub EachOfItsSize : Type 0
-EachOfItsSize = (t f : List ℕ) → Checked t f → (calls : List Made) (cache : List ℕ) {before : List ℕ} → Cleared before cache → Called t f calls cache → SizesClaim t f calls [] cache
+EachOfItsSize = (t f : List ℕ) → Checked t f → (calls : List Made) (cache : List ℕ) → Fresh cache → Called t f calls cache → SizesClaim t f calls [] cache
