@@ -159,7 +159,10 @@ uint16_t parallel_moves_enough_slots(
 
 /* Resolves a patch of an opened function. `free_units` are the units that are
  * free, rising; `numbers` are its entries, four to each, as
- * parallel_moves_put_move and parallel_moves_put_remat write them. Returns how
+ * parallel_moves_put_move and parallel_moves_put_remat write them.
+ * `numbers_length` counts numbers, four to an entry, here and in every call that
+ * takes them: given how many entries there are, a call resolves the first fourth
+ * of them, and says nothing. parallel_moves_resolve_in takes entries. Returns how
  * many edits the patch has, as words at the front of `list`; the words past them
  * are left alone. *refusal is set to 0, or to the number of the refusal (2, 3, 9
  * to 17, 21): look at it first, since then the result is 0, and list, cache and
@@ -498,6 +501,88 @@ size_t parallel_moves_shipped(
     uint16_t target[PARALLEL_MOVES_TARGET])
     PARALLEL_MOVES_SYMBOL("parallel_moves_shipped");
 
+/* The code of a register. */
+static inline uint32_t parallel_moves_register(uint32_t number)
+{
+    return 2 * number + 1;
+}
+
+/* The code of a slot. */
+static inline uint32_t parallel_moves_slot(uint32_t number)
+{
+    return 2 * number;
+}
+
+/* Writes the entry of a move as four numbers: `dest` is to hold what `source` holds
+ * before the patch, which is `value`. Places are given by their codes. */
+static inline void parallel_moves_put_move(uint32_t entry[4], uint32_t source, uint32_t dest, uint32_t value)
+{
+    entry[0] = 0;
+    entry[1] = source;
+    entry[2] = dest;
+    entry[3] = value;
+}
+
+/* Writes the entry of a rebuild: `value` is to be rebuilt in `dest`. */
+static inline void parallel_moves_put_remat(uint32_t entry[4], uint32_t dest, uint32_t value)
+{
+    entry[0] = 1;
+    entry[1] = dest;
+    entry[2] = value;
+    entry[3] = 0;
+}
+
+/* An entry of a patch, as parallel_moves_move and parallel_moves_remat make it. An array
+ * of them is the numbers that parallel_moves_resolve reads. */
+struct parallel_moves_entry {
+    uint32_t numbers[4];
+};
+typedef char parallel_moves_entry_is_four_numbers[sizeof(struct parallel_moves_entry) == 16 ? 1 : -1];
+
+/* The entry of a move, as parallel_moves_put_move has it. */
+static inline struct parallel_moves_entry parallel_moves_move(uint32_t source, uint32_t dest, uint32_t value)
+{
+    struct parallel_moves_entry entry;
+    parallel_moves_put_move(entry.numbers, source, dest, value);
+    return entry;
+}
+
+/* The entry of a rebuild, as parallel_moves_put_remat has it. */
+static inline struct parallel_moves_entry parallel_moves_remat(uint32_t dest, uint32_t value)
+{
+    struct parallel_moves_entry entry;
+    parallel_moves_put_remat(entry.numbers, dest, value);
+    return entry;
+}
+
+/* The entries of a patch, and how many they are: one argument, so that a call which gives
+ * numbers and their length in its place does not compile. */
+struct parallel_moves_entry_list {
+    const struct parallel_moves_entry *first;
+    size_t count;
+};
+
+/* The `count` entries from `first` on. */
+static inline struct parallel_moves_entry_list parallel_moves_entries(const struct parallel_moves_entry *first, size_t count)
+{
+    struct parallel_moves_entry_list entries;
+    entries.first = first;
+    entries.count = count;
+    return entries;
+}
+
+/* The numbers of entries, for a call that takes numbers. */
+static inline const uint32_t *parallel_moves_numbers(struct parallel_moves_entry_list entries)
+{
+    return PARALLEL_MOVES_AS(const uint32_t *, PARALLEL_MOVES_AS(const void *, entries.first));
+}
+
+/* How many numbers they are. */
+static inline size_t parallel_moves_numbers_length(struct parallel_moves_entry_list entries)
+{
+    return 4 * entries.count;
+}
+
 /* All tables, about half a megabyte: make one with calloc, and use it for as
  * many calls as you like, one at a time. It has one opened function at most; after
  * parallel_moves_answer_in, parallel_moves_enough_slots_in and parallel_moves_try_in
@@ -546,48 +631,17 @@ static inline uint16_t parallel_moves_enough_slots_in(
 static inline size_t parallel_moves_resolve_in(
     struct parallel_moves_memory *memory,
     const uint32_t *free_units, size_t free_units_length,
-    const uint32_t *numbers, size_t numbers_length,
+    struct parallel_moves_entry_list entries,
     uint64_t *list, size_t list_length,
     uint8_t *refusal)
 {
     return parallel_moves_resolve(
-        memory->target, memory->function,
-        free_units, free_units_length, numbers, numbers_length,
+        memory->target, memory->function, free_units, free_units_length,
+        parallel_moves_numbers(entries), parallel_moves_numbers_length(entries),
         memory->cache, list, list_length, refusal, &memory->position,
         memory->entries, memory->writers, memory->available, memory->sources,
         memory->edits, memory->slots, memory->diverted, memory->marks,
         memory->carried);
-}
-
-/* The code of a register. */
-static inline uint32_t parallel_moves_register(uint32_t number)
-{
-    return 2 * number + 1;
-}
-
-/* The code of a slot. */
-static inline uint32_t parallel_moves_slot(uint32_t number)
-{
-    return 2 * number;
-}
-
-/* Writes the entry of a move: `dest` is to hold what `source` holds before the
- * patch, which is `value`. Places are given by their codes. */
-static inline void parallel_moves_put_move(uint32_t entry[4], uint32_t source, uint32_t dest, uint32_t value)
-{
-    entry[0] = 0;
-    entry[1] = source;
-    entry[2] = dest;
-    entry[3] = value;
-}
-
-/* Writes the entry of a rebuild: `value` is to be rebuilt in `dest`. */
-static inline void parallel_moves_put_remat(uint32_t entry[4], uint32_t dest, uint32_t value)
-{
-    entry[0] = 1;
-    entry[1] = dest;
-    entry[2] = value;
-    entry[3] = 0;
 }
 
 /* parallel_moves_answer with the tables of `memory`. */
@@ -621,14 +675,14 @@ struct parallel_moves_groups {
 static inline size_t parallel_moves_resolve_groups_in(
     struct parallel_moves_memory *memory, struct parallel_moves_groups *groups,
     const uint32_t *free_units, size_t free_units_length,
-    const uint32_t *numbers, size_t numbers_length,
+    struct parallel_moves_entry_list entries,
     uint64_t *list, size_t list_length,
     uint8_t *refusal)
 {
     return parallel_moves_resolve_groups(
-        memory->target, memory->function, free_units, free_units_length, numbers,
-        numbers_length, memory->cache, list, list_length, refusal, &memory->position,
-        memory->free_units, memory->entries, memory->writers, memory->available,
+        memory->target, memory->function, free_units, free_units_length,
+        parallel_moves_numbers(entries), parallel_moves_numbers_length(entries),
+        memory->cache, list, list_length, refusal, &memory->position, memory->free_units, memory->entries, memory->writers, memory->available,
         memory->sources, memory->edits, memory->slots, memory->diverted, memory->marks,
         memory->carried, groups->owners, groups->labels, groups->next, groups->common,
         groups->work, groups->joined);
@@ -664,15 +718,15 @@ struct parallel_moves_preview {
 static inline size_t parallel_moves_ask_in(
     struct parallel_moves_memory *memory,
     const uint32_t *free_units, size_t free_units_length,
-    const uint32_t *numbers, size_t numbers_length,
+    struct parallel_moves_entry_list entries,
     uint64_t *list, size_t list_length,
     uint8_t *refusal,
     struct parallel_moves_preview *preview)
 {
     return parallel_moves_ask(
         memory->target, memory->function, free_units, free_units_length,
-        numbers, numbers_length, memory->cache, list, list_length, refusal,
-        &preview->made, &preview->position, &preview->stamp,
+        parallel_moves_numbers(entries), parallel_moves_numbers_length(entries),
+        memory->cache, list, list_length, refusal, &preview->made, &preview->position, &preview->stamp,
         memory->entries, memory->writers, memory->available, memory->sources,
         memory->edits, preview->slots, memory->diverted, memory->marks,
         memory->carried);
