@@ -584,10 +584,14 @@ static inline size_t parallel_moves_numbers_length(struct parallel_moves_entry_l
 }
 
 /* All tables, about half a megabyte: make one with calloc, and use it for as
- * many calls as you like, one at a time. It has one opened function at most; after
- * parallel_moves_answer_in, parallel_moves_enough_slots_in and parallel_moves_try_in
- * it has none. `position` is that of the last patch which parallel_moves_resolve_in
- * resolved, 0 before the first. */
+ * many calls as you like, one at a time. It has one opened function at most, and
+ * `is_open` tells whether it has one: none before the first opening, none where the
+ * last opening was refused, and none after parallel_moves_enough_slots_in,
+ * parallel_moves_answer_in, parallel_moves_answer_groups_in or parallel_moves_try_in,
+ * which use its tables, whatever they answer. A patch without an opened function is
+ * refused with 2, a take with 20, and nothing changes. `position` is that of the last
+ * patch of the function which was resolved or taken, 0 before the first. Read these two,
+ * and write nothing of it. */
 struct parallel_moves_memory {
     uint64_t edits[PARALLEL_MOVES_EDITS];
     uint16_t target[PARALLEL_MOVES_TARGET];
@@ -603,16 +607,19 @@ struct parallel_moves_memory {
     bool sources[PARALLEL_MOVES_UNITS];
     uint8_t marks[PARALLEL_MOVES_MARKS];
     uint16_t position;
+    bool is_open;
 };
 
-/* parallel_moves_open with the tables of `memory`. */
+/* parallel_moves_open with the tables of `memory`. Refused, it leaves no function open. */
 PARALLEL_MOVES_LOOK_AT_IT static inline uint8_t parallel_moves_open_in(
     struct parallel_moves_memory *memory, uint32_t kept_evictions,
     const uint8_t *bytes, size_t bytes_length)
 {
-    memory->position = 0;
-    return parallel_moves_open(
+    uint8_t refusal = parallel_moves_open(
         kept_evictions, bytes, bytes_length, memory->target, memory->function, memory->cache);
+    memory->position = 0;
+    memory->is_open = refusal == 0;
+    return refusal;
 }
 
 /* parallel_moves_enough_slots with the tables of `memory`, which has no opened
@@ -622,12 +629,13 @@ static inline uint16_t parallel_moves_enough_slots_in(
     const uint8_t *bytes, size_t bytes_length,
     uint8_t *refusal)
 {
+    memory->is_open = false;
     return parallel_moves_enough_slots(
         kept_evictions, bytes, bytes_length, refusal, memory->target, memory->function);
 }
 
-/* parallel_moves_resolve with the tables of `memory`, in which a function was
- * opened. */
+/* parallel_moves_resolve of the function that is open in `memory`; without one, 2 and no
+ * edits. */
 static inline size_t parallel_moves_resolve_in(
     struct parallel_moves_memory *memory,
     const uint32_t *free_units, size_t free_units_length,
@@ -635,6 +643,10 @@ static inline size_t parallel_moves_resolve_in(
     uint64_t *list, size_t list_length,
     uint8_t *refusal)
 {
+    if (!memory->is_open) {
+        *refusal = 2;
+        return 0;
+    }
     return parallel_moves_resolve(
         memory->target, memory->function, free_units, free_units_length,
         parallel_moves_numbers(entries), parallel_moves_numbers_length(entries),
@@ -644,13 +656,15 @@ static inline size_t parallel_moves_resolve_in(
         memory->carried);
 }
 
-/* parallel_moves_answer with the tables of `memory`. */
+/* parallel_moves_answer with the tables of `memory`, which has no opened function
+ * afterwards. */
 static inline size_t parallel_moves_answer_in(
     struct parallel_moves_memory *memory, uint32_t kept_evictions,
     const uint8_t *job, size_t job_length,
     uint64_t *words, size_t words_length,
     uint8_t *refusal)
 {
+    memory->is_open = false;
     return parallel_moves_answer(
         kept_evictions, job, job_length, words, words_length, refusal,
         memory->target, memory->function, memory->cache,
@@ -671,7 +685,8 @@ struct parallel_moves_groups {
     bool common[PARALLEL_MOVES_UNITS];
 };
 
-/* parallel_moves_resolve_groups in memory that parallel_moves_open_in opened. */
+/* parallel_moves_resolve_groups of the function that is open in `memory`; without one, 2
+ * and no edits. */
 static inline size_t parallel_moves_resolve_groups_in(
     struct parallel_moves_memory *memory, struct parallel_moves_groups *groups,
     const uint32_t *free_units, size_t free_units_length,
@@ -679,6 +694,10 @@ static inline size_t parallel_moves_resolve_groups_in(
     uint64_t *list, size_t list_length,
     uint8_t *refusal)
 {
+    if (!memory->is_open) {
+        *refusal = 2;
+        return 0;
+    }
     return parallel_moves_resolve_groups(
         memory->target, memory->function, free_units, free_units_length,
         parallel_moves_numbers(entries), parallel_moves_numbers_length(entries),
@@ -688,7 +707,8 @@ static inline size_t parallel_moves_resolve_groups_in(
         groups->work, groups->joined);
 }
 
-/* parallel_moves_answer_groups with the tables of `memory` and `groups`. */
+/* parallel_moves_answer_groups with the tables of `memory`, which has no opened function
+ * afterwards, and of `groups`. */
 static inline size_t parallel_moves_answer_groups_in(
     struct parallel_moves_memory *memory, struct parallel_moves_groups *groups,
     uint32_t kept_evictions,
@@ -696,6 +716,7 @@ static inline size_t parallel_moves_answer_groups_in(
     uint64_t *words, size_t words_length,
     uint8_t *refusal)
 {
+    memory->is_open = false;
     return parallel_moves_answer_groups(
         kept_evictions, job, job_length, words, words_length, refusal,
         memory->target, memory->function, memory->cache,
@@ -713,8 +734,9 @@ struct parallel_moves_preview {
     uint64_t stamp;
 };
 
-/* parallel_moves_ask of the function that is open in `memory`. Where it is not refused,
- * `preview` has what is to take, and tells the slots made and the position. */
+/* parallel_moves_ask of the function that is open in `memory`; without one, 2 and no
+ * edits. Where it is not refused, `preview` has what is to take, and tells the slots made
+ * and the position. */
 static inline size_t parallel_moves_ask_in(
     struct parallel_moves_memory *memory,
     const uint32_t *free_units, size_t free_units_length,
@@ -723,6 +745,10 @@ static inline size_t parallel_moves_ask_in(
     uint8_t *refusal,
     struct parallel_moves_preview *preview)
 {
+    if (!memory->is_open) {
+        *refusal = 2;
+        return 0;
+    }
     return parallel_moves_ask(
         memory->target, memory->function, free_units, free_units_length,
         parallel_moves_numbers(entries), parallel_moves_numbers_length(entries),
@@ -732,12 +758,15 @@ static inline size_t parallel_moves_ask_in(
         memory->carried);
 }
 
-/* parallel_moves_take of a preview that was asked for in `memory`; taken, it sets
- * memory->position. */
+/* parallel_moves_take of a preview that was asked for in `memory`; 20 where no function is
+ * open there. Taken, it sets memory->position. */
 PARALLEL_MOVES_LOOK_AT_IT static inline uint8_t parallel_moves_take_in(
     struct parallel_moves_memory *memory,
     const struct parallel_moves_preview *preview)
 {
+    if (!memory->is_open) {
+        return 20;
+    }
     uint8_t refusal = parallel_moves_take(
         preview->made, preview->stamp, preview->slots, memory->cache);
     if (refusal == 0) {
@@ -957,6 +986,7 @@ PARALLEL_MOVES_LOOK_AT_IT static inline uint8_t parallel_moves_try_in(
     uint64_t one[PARALLEL_MOVES_TALLY],
     uint64_t two[PARALLEL_MOVES_TALLY])
 {
+    memory->is_open = false;
     return parallel_moves_try(
         job, job_length, prices, seed, patches, one, two,
         memory->target, memory->function, memory->cache,
