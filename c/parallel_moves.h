@@ -197,7 +197,7 @@ size_t parallel_moves_resolve(
  * later whether it still can be. To take it, keep *made, *stamp and the table `slots`,
  * which is this answer's own until then: give each asking another. The list is read no
  * more. Refused, it leaves nothing to take: *made, *position, *stamp and list are as
- * they were, and `slots` holds anything. */
+ * they were, and `slots` holds anything: an answer that was kept there is lost. */
 size_t parallel_moves_ask(
     const uint16_t target[PARALLEL_MOVES_TARGET],
     const uint16_t function[PARALLEL_MOVES_FUNCTION],
@@ -221,10 +221,14 @@ size_t parallel_moves_ask(
     PARALLEL_MOVES_SYMBOL("parallel_moves_ask");
 
 /* Takes what was asked for: the cache becomes what resolving the patch would have made
- * it. `made`, `stamp` and `slots` are as the asking left them, and `cache` is the one
- * that it was asked for on. Returns 0; or 20, the cache as it was, where that cache has
- * taken an answer or resolved a patch since the asking. Of askings and takes this is
- * promised while a cache has taken or resolved fewer than 2^64 patches. */
+ * it. Returns 0; or 20, the cache as it was, where that cache has taken an answer or
+ * resolved a patch since the asking. Of askings and takes this is promised while a cache
+ * has taken or resolved fewer than 2^64 patches. Asked of the caller, and not tested:
+ * `made`, `stamp` and `slots` are as one asking, which was not refused, left them; `cache`
+ * is the one that it was asked for on; and that was not opened since, for this function or
+ * another, nor lent to parallel_moves_answer or any call that begins a function. A stamp
+ * begins anew with each function, so that an answer of the last one may be taken for one
+ * of this. parallel_moves_take_in tests for all this. */
 PARALLEL_MOVES_LOOK_AT_IT uint8_t parallel_moves_take(
     uint16_t made,
     uint64_t stamp,
@@ -590,9 +594,12 @@ static inline size_t parallel_moves_numbers_length(struct parallel_moves_entry_l
  * parallel_moves_answer_in, parallel_moves_answer_groups_in or parallel_moves_try_in,
  * which use its tables, whatever they answer. A patch without an opened function is
  * refused with 2, a take with 20, and nothing changes. `position` is that of the last
- * patch of the function which was resolved or taken, 0 before the first. Read these two,
- * and write nothing of it. */
+ * patch of the function which was resolved or taken, 0 before the first. `openings` rises
+ * with every opening, also a refused one, and with every other use that ends the opened
+ * function: an answer is taken only under the number that it was asked for under. Read
+ * these three, and write nothing of it. */
 struct parallel_moves_memory {
+    uint64_t openings;
     uint64_t edits[PARALLEL_MOVES_EDITS];
     uint16_t target[PARALLEL_MOVES_TARGET];
     uint16_t function[PARALLEL_MOVES_FUNCTION];
@@ -610,14 +617,24 @@ struct parallel_moves_memory {
     bool is_open;
 };
 
-/* parallel_moves_open with the tables of `memory`. Refused, it leaves no function open. */
+/* Ends the function that is open in `memory`, if there is one: no patch can be given, and
+ * no answer of it can be taken any more. */
+static inline void parallel_moves_close_in(struct parallel_moves_memory *memory)
+{
+    memory->is_open = false;
+    memory->openings++;
+}
+
+/* parallel_moves_open with the tables of `memory`. It ends the function that was open
+ * there; refused, it leaves none open. */
 PARALLEL_MOVES_LOOK_AT_IT static inline uint8_t parallel_moves_open_in(
     struct parallel_moves_memory *memory, uint32_t kept_evictions,
     const uint8_t *bytes, size_t bytes_length)
 {
+    parallel_moves_close_in(memory);
+    memory->position = 0;
     uint8_t refusal = parallel_moves_open(
         kept_evictions, bytes, bytes_length, memory->target, memory->function, memory->cache);
-    memory->position = 0;
     memory->is_open = refusal == 0;
     return refusal;
 }
@@ -629,7 +646,7 @@ static inline uint16_t parallel_moves_enough_slots_in(
     const uint8_t *bytes, size_t bytes_length,
     uint8_t *refusal)
 {
-    memory->is_open = false;
+    parallel_moves_close_in(memory);
     return parallel_moves_enough_slots(
         kept_evictions, bytes, bytes_length, refusal, memory->target, memory->function);
 }
@@ -664,7 +681,7 @@ static inline size_t parallel_moves_answer_in(
     uint64_t *words, size_t words_length,
     uint8_t *refusal)
 {
-    memory->is_open = false;
+    parallel_moves_close_in(memory);
     return parallel_moves_answer(
         kept_evictions, job, job_length, words, words_length, refusal,
         memory->target, memory->function, memory->cache,
@@ -716,7 +733,7 @@ static inline size_t parallel_moves_answer_groups_in(
     uint64_t *words, size_t words_length,
     uint8_t *refusal)
 {
-    memory->is_open = false;
+    parallel_moves_close_in(memory);
     return parallel_moves_answer_groups(
         kept_evictions, job, job_length, words, words_length, refusal,
         memory->target, memory->function, memory->cache,
@@ -726,8 +743,11 @@ static inline size_t parallel_moves_answer_groups_in(
         groups->next, groups->common, groups->work, groups->joined, groups->numbers);
 }
 
-/* What an asking leaves to take, about 64 KiB: one for each answer. */
+/* What an asking leaves to take, about 64 KiB: one for each answer. Beside it stand the
+ * memory that was asked, and its number of openings. */
 struct parallel_moves_preview {
+    const struct parallel_moves_memory *memory;
+    uint64_t openings;
     uint16_t slots[PARALLEL_MOVES_SLOTS];
     uint16_t made;
     uint16_t position;
@@ -736,7 +756,8 @@ struct parallel_moves_preview {
 
 /* parallel_moves_ask of the function that is open in `memory`; without one, 2 and no
  * edits. Where it is not refused, `preview` has what is to take, and tells the slots made
- * and the position. */
+ * and the position. Refused otherwise, `preview` has nothing to take, also where it had
+ * before. */
 static inline size_t parallel_moves_ask_in(
     struct parallel_moves_memory *memory,
     const uint32_t *free_units, size_t free_units_length,
@@ -749,22 +770,29 @@ static inline size_t parallel_moves_ask_in(
         *refusal = 2;
         return 0;
     }
-    return parallel_moves_ask(
+    preview->memory = NULL;
+    size_t count = parallel_moves_ask(
         memory->target, memory->function, free_units, free_units_length,
         parallel_moves_numbers(entries), parallel_moves_numbers_length(entries),
         memory->cache, list, list_length, refusal, &preview->made, &preview->position, &preview->stamp,
         memory->entries, memory->writers, memory->available, memory->sources,
         memory->edits, preview->slots, memory->diverted, memory->marks,
         memory->carried);
+    if (*refusal == 0) {
+        preview->memory = memory;
+        preview->openings = memory->openings;
+    }
+    return count;
 }
 
-/* parallel_moves_take of a preview that was asked for in `memory`; 20 where no function is
- * open there. Taken, it sets memory->position. */
+/* parallel_moves_take of a preview that parallel_moves_ask_in left; 20 also where it has
+ * nothing to take, where it was asked for in another memory, and where that function is
+ * open no longer, or was opened anew. Taken, it sets memory->position. */
 PARALLEL_MOVES_LOOK_AT_IT static inline uint8_t parallel_moves_take_in(
     struct parallel_moves_memory *memory,
     const struct parallel_moves_preview *preview)
 {
-    if (!memory->is_open) {
+    if (preview->memory != memory || preview->openings != memory->openings) {
         return 20;
     }
     uint8_t refusal = parallel_moves_take(
@@ -986,7 +1014,7 @@ PARALLEL_MOVES_LOOK_AT_IT static inline uint8_t parallel_moves_try_in(
     uint64_t one[PARALLEL_MOVES_TALLY],
     uint64_t two[PARALLEL_MOVES_TALLY])
 {
-    memory->is_open = false;
+    parallel_moves_close_in(memory);
     return parallel_moves_try(
         job, job_length, prices, seed, patches, one, two,
         memory->target, memory->function, memory->cache,

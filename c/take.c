@@ -13,7 +13,7 @@
 enum { MOST_NUMBERS = 65536, PAST = 16 };
 
 static struct parallel_moves_memory memory;
-/* Two answers of each patch, and one of an earlier patch of the function. */
+/* Two answers of each patch, and one of an earlier patch, of this function or another. */
 static struct parallel_moves_preview first, second, earlier;
 static bool has_earlier;
 static uint16_t cache[PARALLEL_MOVES_CACHE];
@@ -71,7 +71,6 @@ static void open_function(void)
     if (parallel_moves_open_in(&memory, kept_evictions, bytes, length) != refusal) {
         fail("another refusal of a function");
     }
-    has_earlier = has_earlier && refusal != 0;
 }
 
 static void cache_stays(const char *what)

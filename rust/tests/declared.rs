@@ -265,7 +265,7 @@ fn fields<'a>(header: &'a str, name: &str) -> Vec<&'a str> {
 }
 
 /// What the memory of the C header has beside the tables.
-const BESIDE_TABLES: &[&str] = &["uint16_t position", "bool is_open"];
+const BESIDE_TABLES: &[&str] = &["uint64_t openings", "uint16_t position", "bool is_open"];
 
 /// The structs' tables are those of the functions.
 #[test]
