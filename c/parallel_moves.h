@@ -1,6 +1,6 @@
 /* Parallel moves over registers that share units, resolved in-process.
  *
- * For C11 and C++. Link what is used of target/staticlib, or all:
+ * For C99 and later, and C++. Link what is used of target/staticlib, or all:
  * - libcalls_c.a, which `rt staticlib calls_c` builds, for calls patch by patch:
  *   parallel_moves_open_in with a target and a function, then
  *   parallel_moves_resolve_in with each patch, and parallel_moves_slots_made;
@@ -31,20 +31,54 @@
  * cure.
  *
  * The functions keep nothing but in the tables that they are lent, neither
- * allocate nor print, and accept any bytes and any patch. Of a caller they ask:
+ * allocate nor print, and accept any bytes and any patch. What they ask of a caller
+ * stands here, all of it; where a call does not get it, anything may happen, and no
+ * refusal says so.
+ *
+ * Every call asks:
  * - no pointer is null, also where a length is 0;
  * - each list has the length that it is said to have, or that it is declared
- *   with, and is aligned as its type is;
+ *   with, and is aligned as its type is. A `numbers_length` counts numbers, also where
+ *   four of them are an entry;
  * - what a call writes overlaps nothing else that is lent to it;
  * - until it returns, other threads leave alone what it writes, and do not write
  *   what it reads (several calls may read one job at once);
  * - each bool is 0 or 1, as calloc makes it and as every call leaves it;
- * - a patch is given with the target, function and cache that
- *   parallel_moves_open left when it answered 0, and nothing else writes these
- *   from then on. Else it does not matter what the tables hold;
- * - an answer is taken as parallel_moves_ask left it, with the cache that it was
- *   asked for on;
  * - 64 KiB of stack are left.
+ *
+ * The calls that are lent a struct parallel_moves_memory, parallel_moves_groups or
+ * parallel_moves_writer ask:
+ * - it was made with calloc, nothing but these calls writes it, and one call at a time
+ *   is lent it;
+ * - parallel_moves_take_in: the preview is as parallel_moves_ask_in left it, or all 0,
+ *   and the memory that was asked was not freed since.
+ * Whether a function is open there, and whether an answer can still be taken, they test.
+ *
+ * The calls that are lent the tables of a function one by one ask:
+ * - parallel_moves_resolve, parallel_moves_resolve_groups and parallel_moves_ask: target,
+ *   function and cache are those of one parallel_moves_open that answered 0, and are as
+ *   that and the calls of the function since left them. A refused opening, and any other
+ *   call that works in these tables, ends the function;
+ * - parallel_moves_take: made, stamp and slots are as one parallel_moves_ask left them
+ *   that was not refused, and the cache is the one that it asked on, not opened since;
+ * - parallel_moves_slots_made: the cache is an opened function's, else the number says
+ *   nothing.
+ * For the others it does not matter what the tables hold.
+ *
+ * The calls with a frame ask:
+ * - parallel_moves_frame_formula: the frame is as parallel_moves_frame_open left it when
+ *   it answered 0, or as the formulas opened since did. The formulas are opened in the
+ *   order of their numbers, from 0 on, each below the number of shares; each once, but
+ *   for refused openings, which may be made anew; all before the first patch is given or
+ *   asked for; and each with a target, function and cache of its own;
+ * - parallel_moves_frame_resolve, parallel_moves_frame_resolve_groups and
+ *   parallel_moves_frame_ask: the formula was opened so in the frame; target, function
+ *   and cache are its own, as its last call left them, and the frame is as the last call
+ *   of any formula left it. So one call at a time is made of all formulas of a frame;
+ * - parallel_moves_frame_take: the same, and to, stamp, counter and slots are as one
+ *   parallel_moves_frame_ask of that formula left them that was not refused, with neither
+ *   frame nor formula opened since;
+ * - parallel_moves_frame_made: the formula's number is below 16.
  * The library is for x86-64 Linux.
  */
 #ifndef PARALLEL_MOVES_H
@@ -285,7 +319,11 @@ PARALLEL_MOVES_LOOK_AT_IT uint8_t parallel_moves_frame_open(
 /* Opens a formula of an opened frame, number 0 first, with tables of its own; the bytes
  * are as for parallel_moves_open, and their L is read but not used. Returns 0 or the
  * refusal's number, the frame and the cache then as they were: another N than the first
- * formula's is 2, when it is read. */
+ * formula's is 2, when it is read. Asked of the caller, and not tested: the number is
+ * below that of the shares, the formulas are opened in the order of their numbers, none
+ * that is open is opened again, and none is opened once a patch of the frame was given or
+ * asked for. Else it may answer 0 all the same, and later two formulas have one slot, or a
+ * call reads and writes past the frame's table. */
 PARALLEL_MOVES_LOOK_AT_IT uint8_t parallel_moves_frame_formula(
     uint16_t frame[PARALLEL_MOVES_FRAME],
     size_t formula,
@@ -296,9 +334,10 @@ PARALLEL_MOVES_LOOK_AT_IT uint8_t parallel_moves_frame_formula(
     uint16_t cache[PARALLEL_MOVES_CACHE])
     PARALLEL_MOVES_SYMBOL("parallel_moves_frame_formula");
 
-/* Resolves a patch of a formula as parallel_moves_resolve does. The formula's number is
- * below the number of shares; its tables are those that it was opened with, and the
- * frame is as the last call of any formula left it. */
+/* Resolves a patch of a formula as parallel_moves_resolve does. Asked of the caller, and
+ * not tested: the formula's number is below the number of shares, and it was opened; its
+ * tables are those that it was opened with, and the frame is as the last call of any
+ * formula left it. */
 size_t parallel_moves_frame_resolve(
     uint16_t frame[PARALLEL_MOVES_FRAME],
     size_t formula,
@@ -384,7 +423,9 @@ size_t parallel_moves_frame_ask(
 
 /* Takes what a formula asked for. Returns 0; or 20, frame and cache as they were, where
  * the formula has taken an answer or resolved a patch since the asking, or another
- * formula made a slot. */
+ * formula made a slot. Asked of the caller, and not tested: `to`, `stamp`, `counter` and
+ * `slots` are as one asking of this formula, which was not refused, left them, and neither
+ * the frame nor the formula was opened since. */
 PARALLEL_MOVES_LOOK_AT_IT uint8_t parallel_moves_frame_take(
     uint16_t frame[PARALLEL_MOVES_FRAME],
     size_t formula,
@@ -395,7 +436,8 @@ PARALLEL_MOVES_LOOK_AT_IT uint8_t parallel_moves_frame_take(
     uint16_t cache[PARALLEL_MOVES_CACHE])
     PARALLEL_MOVES_SYMBOL("parallel_moves_frame_take");
 
-/* How many emergency slots a formula, below 16, has made. */
+/* How many emergency slots a formula has made. Asked of the caller, and not tested: its
+ * number is below 16. */
 uint16_t parallel_moves_frame_made(
     const uint16_t frame[PARALLEL_MOVES_FRAME],
     size_t formula)
@@ -691,7 +733,7 @@ static inline size_t parallel_moves_answer_in(
 }
 
 /* What parallel_moves_resolve_groups_in and parallel_moves_answer_groups_in work in beside
- * the memory. What it held does not matter. */
+ * the memory: make one with calloc. What the calls left in it does not matter. */
 struct parallel_moves_groups {
     uint64_t joined[PARALLEL_MOVES_JOINED];
     uint32_t numbers[PARALLEL_MOVES_NUMBERS];
