@@ -48,8 +48,9 @@
  *
  * The calls that are lent a struct parallel_moves_memory, parallel_moves_groups or
  * parallel_moves_writer ask:
- * - it was made with calloc, nothing but these calls writes it, and one call at a time
- *   is lent it;
+ * - it was made with calloc, one call at a time is lent it, and a memory's `is_open` and
+ *   `openings` are left alone. While a function is open there, so are its tables: only
+ *   while none is may they be lent to other calls;
  * - parallel_moves_take_in: the preview is as parallel_moves_ask_in left it, or all 0,
  *   and the memory that was asked was not freed since.
  * Whether a function is open there, and whether an answer can still be taken, they test.
@@ -195,11 +196,11 @@ uint16_t parallel_moves_enough_slots(
  * free, rising; `numbers` are its entries, four to each, as
  * parallel_moves_put_move and parallel_moves_put_remat write them.
  * `numbers_length` counts numbers, four to an entry, here and in every call that
- * takes them: given how many entries there are, a call resolves the first fourth
- * of them, and says nothing. parallel_moves_resolve_in takes entries. Returns how
- * many edits the patch has, as words at the front of `list`; the words past them
- * are left alone. *refusal is set to 0, or to the number of the refusal (2, 3, 9
- * to 17, 21): look at it first, since then the result is 0, and list, cache and
+ * takes them: given the count of entries in its place, a call may resolve only the
+ * first quarter of them, and say nothing. parallel_moves_resolve_in takes entries.
+ * Returns how many edits the patch has, as words at the front of `list`; the words
+ * past them are left alone. *refusal is set to 0, or to the number of the refusal (2,
+ * 3, 9 to 17, 21): look at it first, since then the result is 0, and list, cache and
  * *position are as they were. Else *position is set to the greatest position
  * that a search of the patch met, see parallel_moves_position. As many words as
  * PARALLEL_MOVES_MOST_EDITS are enough for every patch. The working tables are
@@ -618,13 +619,13 @@ static inline struct parallel_moves_entry_list parallel_moves_entries(const stru
 }
 
 /* The numbers of entries, for a call that takes numbers. */
-static inline const uint32_t *parallel_moves_numbers(struct parallel_moves_entry_list entries)
+static inline const uint32_t *parallel_moves_entry_numbers(struct parallel_moves_entry_list entries)
 {
     return PARALLEL_MOVES_AS(const uint32_t *, PARALLEL_MOVES_AS(const void *, entries.first));
 }
 
 /* How many numbers they are. */
-static inline size_t parallel_moves_numbers_length(struct parallel_moves_entry_list entries)
+static inline size_t parallel_moves_entry_numbers_length(struct parallel_moves_entry_list entries)
 {
     return 4 * entries.count;
 }
@@ -639,7 +640,7 @@ static inline size_t parallel_moves_numbers_length(struct parallel_moves_entry_l
  * patch of the function which was resolved or taken, 0 before the first. `openings` rises
  * with every opening, also a refused one, and with every other use that ends the opened
  * function: an answer is taken only under the number that it was asked for under. Read
- * these three, and write nothing of it. */
+ * these three, and write none. */
 struct parallel_moves_memory {
     uint64_t openings;
     uint64_t edits[PARALLEL_MOVES_EDITS];
@@ -708,7 +709,7 @@ static inline size_t parallel_moves_resolve_in(
     }
     return parallel_moves_resolve(
         memory->target, memory->function, free_units, free_units_length,
-        parallel_moves_numbers(entries), parallel_moves_numbers_length(entries),
+        parallel_moves_entry_numbers(entries), parallel_moves_entry_numbers_length(entries),
         memory->cache, list, list_length, refusal, &memory->position,
         memory->entries, memory->writers, memory->available, memory->sources,
         memory->edits, memory->slots, memory->diverted, memory->marks,
@@ -759,7 +760,7 @@ static inline size_t parallel_moves_resolve_groups_in(
     }
     return parallel_moves_resolve_groups(
         memory->target, memory->function, free_units, free_units_length,
-        parallel_moves_numbers(entries), parallel_moves_numbers_length(entries),
+        parallel_moves_entry_numbers(entries), parallel_moves_entry_numbers_length(entries),
         memory->cache, list, list_length, refusal, &memory->position, memory->free_units, memory->entries, memory->writers, memory->available,
         memory->sources, memory->edits, memory->slots, memory->diverted, memory->marks,
         memory->carried, groups->owners, groups->labels, groups->next, groups->common,
@@ -815,7 +816,7 @@ static inline size_t parallel_moves_ask_in(
     preview->memory = NULL;
     size_t count = parallel_moves_ask(
         memory->target, memory->function, free_units, free_units_length,
-        parallel_moves_numbers(entries), parallel_moves_numbers_length(entries),
+        parallel_moves_entry_numbers(entries), parallel_moves_entry_numbers_length(entries),
         memory->cache, list, list_length, refusal, &preview->made, &preview->position, &preview->stamp,
         memory->entries, memory->writers, memory->available, memory->sources,
         memory->edits, preview->slots, memory->diverted, memory->marks,

@@ -251,8 +251,8 @@ static void frame_ask(void)
     uint8_t refusal = 99;
     struct parallel_moves_memory *m = &w->memory;
     size_t count = parallel_moves_frame_ask(
-        w->frame, 0, w->target, w->function, no_units, 0, parallel_moves_numbers(all()),
-        parallel_moves_numbers_length(all()), w->cache, w->list, PARALLEL_MOVES_MOST_EDITS, &refusal,
+        w->frame, 0, w->target, w->function, no_units, 0, parallel_moves_entry_numbers(all()),
+        parallel_moves_entry_numbers_length(all()), w->cache, w->list, PARALLEL_MOVES_MOST_EDITS, &refusal,
         &w->to, &w->made, &w->position, &w->stamp, &w->counter, m->entries, m->writers, m->available,
         m->sources, m->edits, w->preview.slots, m->diverted, m->marks, m->carried);
     is("asking in a frame", refusal, 0);
@@ -270,8 +270,8 @@ static void frame_resolve(void)
     uint8_t refusal = 99;
     struct parallel_moves_memory *m = &w->memory;
     size_t count = parallel_moves_frame_resolve(
-        w->frame, 0, w->target, w->function, no_units, 0, parallel_moves_numbers(all()),
-        parallel_moves_numbers_length(all()), w->cache, w->list, PARALLEL_MOVES_MOST_EDITS, &refusal,
+        w->frame, 0, w->target, w->function, no_units, 0, parallel_moves_entry_numbers(all()),
+        parallel_moves_entry_numbers_length(all()), w->cache, w->list, PARALLEL_MOVES_MOST_EDITS, &refusal,
         &w->position, m->entries, m->writers, m->available, m->sources, m->edits, m->slots,
         m->diverted, m->marks, m->carried);
     is("resolving in a frame", refusal, 0);
@@ -284,8 +284,8 @@ static void frame_groups(void)
     struct parallel_moves_memory *m = &w->memory;
     struct parallel_moves_groups *g = &w->groups;
     (void)parallel_moves_frame_resolve_groups(
-        w->frame, 0, w->target, w->function, no_units, 0, parallel_moves_numbers(all()),
-        parallel_moves_numbers_length(all()), w->cache, w->list, PARALLEL_MOVES_MOST_EDITS, &refusal,
+        w->frame, 0, w->target, w->function, no_units, 0, parallel_moves_entry_numbers(all()),
+        parallel_moves_entry_numbers_length(all()), w->cache, w->list, PARALLEL_MOVES_MOST_EDITS, &refusal,
         &w->position, m->free_units, m->entries, m->writers, m->available, m->sources, m->edits,
         m->slots, m->diverted, m->marks, m->carried, g->owners, g->labels, g->next, g->common,
         g->work, g->joined);
