@@ -263,7 +263,7 @@ size_t parallel_moves_ask(
  * is the one that it was asked for on; and that was not opened since, for this function or
  * another, nor lent to parallel_moves_answer or any call that begins a function. A stamp
  * begins anew with each function, so that an answer of the last one may be taken for one
- * of this. parallel_moves_take_in tests for all this. */
+ * of this. parallel_moves_take_in tests for this where parallel_moves_ask_in asked. */
 PARALLEL_MOVES_LOOK_AT_IT uint8_t parallel_moves_take(
     uint16_t made,
     uint64_t stamp,
