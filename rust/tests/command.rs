@@ -2,6 +2,8 @@
 //! `price_job` and `try_settings`, which print the same.
 
 mod common;
+#[path = "command/examines.rs"]
+mod examines;
 #[path = "command/programs.rs"]
 mod programs;
 #[path = "command/several.rs"]
@@ -19,6 +21,23 @@ fn run(words: &str) -> Output {
         .current_dir(root())
         .output()
         .unwrap()
+}
+
+/// The same with something on standard input.
+fn run_with(words: &str, input: &[u8]) -> Output {
+    let mut child = Command::new(env!("CARGO_BIN_EXE_parallel-moves"))
+        .args(words.split(' '))
+        .current_dir(root())
+        .stdin(Stdio::piped())
+        .stdout(Stdio::piped())
+        .stderr(Stdio::piped())
+        .spawn()
+        .unwrap();
+    let mut stdin = child.stdin.take().unwrap();
+    // It need not be read to its end.
+    let _ = stdin.write_all(input);
+    drop(stdin);
+    child.wait_with_output().unwrap()
 }
 
 /// What is printed.
@@ -107,61 +126,6 @@ fn prices() {
     );
     says(&format!("price --kept 1 --prices 4,6,16 {SWAP}"), 2, "");
     says("price --kept 1 --prices 4,6,16,12 /nowhere/at.all", 2, "");
-}
-
-/// What `examine` prints of a job and an answer, and says.
-fn examined(job: &str, answer: &str) -> (String, String) {
-    let mut child = Command::new(env!("CARGO_BIN_EXE_parallel-moves"))
-        .args(["examine", job])
-        .current_dir(root())
-        .stdin(Stdio::piped())
-        .stdout(Stdio::piped())
-        .stderr(Stdio::piped())
-        .spawn()
-        .unwrap();
-    let mut input = child.stdin.take().unwrap();
-    input.write_all(answer.as_bytes()).unwrap();
-    drop(input);
-    let output = child.wait_with_output().unwrap();
-    assert_eq!(output.status.code(), Some(0), "{answer}");
-    let text = |bytes: Vec<u8>| String::from_utf8(bytes).unwrap();
-    (text(output.stdout), text(output.stderr))
-}
-
-#[test]
-fn examines() {
-    let is = |answer: &str, printed: &str, said: &str| {
-        let expected = (printed.to_owned(), said.to_owned());
-        assert_eq!(examined(SWAP, answer), expected, "{answer}");
-    };
-    let ours = "patch 1 edits 3 made 1\nM s0 r1 1\nM r1 r0 0\nM r0 s0 1\n";
-    is(ours, "patch 1 yes\n", "");
-    is(ours.split_once('\n').unwrap().1, "patch 1 yes\n", "");
-    // Where a no first goes wrong.
-    is(
-        &ours.replace("M r0 s0 1", "M r0 r1 1"),
-        "patch 1 no\n",
-        "parallel-moves: patch 1: in the end r0 does not hold value 1\n",
-    );
-    is(
-        &ours.replace("M r1 r0 0\n", "M r1 r0 0\nL r2 s0\n"),
-        "patch 1 no\n",
-        "parallel-moves: patch 1: in the end unit 2, of r2, does not hold what it began with\n",
-    );
-    is(
-        "patch 1 edits 3 made 1\nM r1 r0 0\nM r0 s0 1\n",
-        "patch 1 no\n",
-        "parallel-moves: patch 1: line 3: edit 2, `M r0 s0 1`, cannot be done: \
-         what is read may have any number of words\n",
-    );
-    is(
-        "M r1 r0 0\nR r0 1\n",
-        "patch 1 no\n",
-        "parallel-moves: patch 1: line 2: edit 2, `R r0 1`, cannot be done: \
-         the value cannot be rebuilt\n",
-    );
-    is("patch 1 edits 1 made 0\nM r1 r9 0\n", "patch 1 24\n", "");
-    is("patch 1 edits 1 made 0\nM r1\n", "patch 1 24\n", "");
 }
 
 #[test]

@@ -8,6 +8,7 @@ mod examine;
 mod given;
 mod groups;
 mod jobs;
+mod lists;
 mod positions;
 mod price;
 mod resolve;
