@@ -39,8 +39,12 @@ fn run(given: &Given, resolver: &mut Resolver, job: &[u8]) -> Outcome {
     let patches = given.number(&PATCHES, 0);
     let prices = given.prices()?;
     let seed = u32::try_from(seed).map_err(|_| Refusal::NamesNothing)?;
-    let tallies = try_settings(job, prices, seed, patches)
-        .map_err(|refusal| refused(located(resolver, 1, job, refusal)))?;
+    let tallies = try_settings(job, prices, seed, patches).map_err(|refusal| {
+        refused(match refusal {
+            Refusal::OutsidePrice => given.outside(&PRICES, refusal),
+            _ => located(resolver, 1, job, refusal),
+        })
+    })?;
     Ok(format!("seed {seed} patches {patches}\n{}", rows(&tallies)).into_bytes())
 }
 
