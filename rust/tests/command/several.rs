@@ -1,9 +1,10 @@
 //! Several jobs and folders at once, and what is wrong with words and files.
 
-use std::fs;
+use std::fs::{self, File};
 use std::path::{Path, PathBuf};
+use std::process::Command;
 
-use crate::common::jobs;
+use crate::common::{encoded, jobs, numbers, root};
 use crate::{SWAP, run, says};
 
 /// A folder for a test, with nothing in it.
@@ -118,4 +119,88 @@ fn wrong_words() {
     assert!(lines[1].starts_with("parallel-moves: examples/refused-17.job: byte 55: patch 2: "));
     // A word after `--` is a file, whatever it is.
     says("resolve -- --kept", 2, "--kept was not read: ");
+}
+
+/// However much there is to be read: of a job no more than tells that it is too long, and of a
+/// text or an answer no more than a bound.
+#[test]
+fn endless_input() {
+    let endless = || File::open("/dev/zero").unwrap();
+    let zeros = |words: &str, input: File| {
+        let output = Command::new(env!("CARGO_BIN_EXE_parallel-moves"))
+            .args(words.split(' '))
+            .current_dir(root())
+            .stdin(input)
+            .output()
+            .unwrap();
+        let said = String::from_utf8(output.stderr).unwrap();
+        (output.status.code(), said)
+    };
+    for words in [
+        "resolve",
+        "groups",
+        "positions",
+        "price --prices 1,2,3,4",
+        "try --seed 1 --patches 1 --prices 1,2,3,4",
+        "text",
+        "show",
+    ] {
+        for (words, input) in [
+            (
+                format!("{words} /dev/zero"),
+                File::open("/dev/null").unwrap(),
+            ),
+            (format!("{words} -"), endless()),
+        ] {
+            let (status, said) = zeros(&words, input);
+            assert_eq!(status, Some(1), "{words}: {said}");
+            assert!(said.contains(": refused 2: "), "{words}: {said}");
+        }
+    }
+    let (status, said) = zeros("examine /dev/zero", File::open("/dev/null").unwrap());
+    assert_eq!(status, Some(1), "{said}");
+    assert!(said.contains(": refused 2: "), "{said}");
+    let (status, said) = zeros(&format!("examine {SWAP}"), endless());
+    let expected = "parallel-moves: standard input was not read: it has more than 67108864 bytes\n";
+    assert_eq!((status, &said[..]), (Some(2), expected));
+    let (status, said) = zeros("bytes /dev/zero", endless());
+    let expected = "parallel-moves: /dev/zero was not read: it has more than 4194304 bytes\n";
+    assert_eq!((status, &said[..]), (Some(2), expected));
+}
+
+/// A job of exactly 65,536 bytes is read to its end, and one of a byte more is too long. Its text
+/// is within the bound of texts, also where the lines are long.
+#[test]
+fn longest_jobs() {
+    let folder = folder("longest");
+    let file = |name: &str, bytes: &[u8]| {
+        let path = folder.join(name);
+        fs::write(&path, bytes).unwrap();
+        path.to_str().unwrap().to_owned()
+    };
+    let mut job = fs::read(root().join(SWAP)).unwrap();
+    job.resize(65_536, 0);
+    let output = run(&format!("resolve {}", file("most.job", &job)));
+    assert!(output.stdout.ends_with(b"\nrefused 8\n"));
+    job.push(0);
+    let output = run(&format!("resolve {}", file("more.job", &job)));
+    assert_eq!(output.stdout, b"refused 2\n");
+    // No job's text is longer for its bytes than that of values that can be rebuilt.
+    let mut values = numbers("1 0 0 0 21840 0 0");
+    values.extend([0, 1, 0].repeat(21_840));
+    values.push(0);
+    let values = encoded(values);
+    assert!((65_500..65_537).contains(&values.len()));
+    let output = run(&format!("text {}", file("values.job", &values)));
+    assert_eq!(output.status.code(), Some(0));
+    assert!(output.stdout.len() > 17 * values.len() && output.stdout.len() < 18 * values.len());
+    // A text with remarks, up to the bound.
+    let mut text = run(&format!("text {SWAP}")).stdout;
+    text.push(b'#');
+    text.resize(4_194_304, b' ');
+    let output = run(&format!("bytes {}", file("most.txt", &text)));
+    assert_eq!(output.stdout, fs::read(root().join(SWAP)).unwrap());
+    text.push(b' ');
+    let output = run(&format!("bytes {}", file("more.txt", &text)));
+    assert_eq!((output.status.code(), output.stdout.len()), (Some(2), 0));
 }

@@ -4,6 +4,7 @@ use parallel_moves::{Resolver, text};
 
 use crate::command::{Command, Each, Outcome, Run, refused};
 use crate::given::Given;
+use crate::jobs::Kind;
 
 pub const COMMAND: Command = Command {
     name: "bytes",
@@ -14,7 +15,7 @@ pub const COMMAND: Command = Command {
         "refuse is not written: the line is said, and the number.",
     ],
     run: Run::Each(Each {
-        reads: "txt",
+        kind: Kind::Text,
         writes: "job",
         run,
     }),

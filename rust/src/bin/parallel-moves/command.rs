@@ -3,6 +3,7 @@
 use parallel_moves::{Refusal, Resolver};
 
 use crate::given::{self, Given, Opt};
+use crate::jobs::Kind;
 
 /// A command: its name, what it is given, what it does, and how.
 pub struct Command {
@@ -28,8 +29,8 @@ pub enum Run {
 /// uses, and what comes out is printed in the order in which they are given.
 #[derive(Clone, Copy)]
 pub struct Each {
-    /// How the files of a folder end that are read.
-    pub reads: &'static str,
+    /// What is read.
+    pub kind: Kind,
     /// How the files end that are written with `--to`.
     pub writes: &'static str,
     pub run: fn(&Given, &mut Resolver, &[u8]) -> Outcome,
@@ -127,7 +128,8 @@ impl Command {
             .collect();
         let files = match self.run {
             Run::Once(_) => String::new(),
-            Run::Each(Each { reads, writes, .. }) => {
+            Run::Each(Each { kind, writes, .. }) => {
+                let reads = kind.ending();
                 format!("    Of a folder *.{reads} are read; --to makes *.{writes}.\n")
             }
         };

@@ -6,7 +6,7 @@ use parallel_moves::{
 
 use crate::command::{Command, Failure, Outcome, Run, located};
 use crate::given::{Given, Opt};
-use crate::jobs::Source;
+use crate::jobs::{Kind, Source};
 use crate::lists::{List, Lists};
 use crate::say;
 
@@ -47,8 +47,8 @@ fn run(given: &Given) -> Outcome {
         return Err(given.wrong("the job is a file: standard input has the answer"));
     }
     let limit = limit(given)?;
-    let job = Source::of(job_name).read()?;
-    let answer = String::from_utf8(Source::StandardInput.read()?)
+    let job = Source::of(job_name).read(Kind::Job)?;
+    let answer = String::from_utf8(Source::StandardInput.read(Kind::Answer)?)
         .map_err(|_| Failure::Failed("the answer is not UTF-8".to_owned()))?;
     Examining::new(&job, limit).all(&Lists::of(&answer))
 }

@@ -4,6 +4,7 @@ use parallel_moves::{Refusal, Resolver, patch_count, try_settings};
 
 use crate::command::{Command, Each, Failure, Outcome, Run, located, refused};
 use crate::given::{Given, KEPT, Opt, PRICES};
+use crate::jobs::Kind;
 
 const RUNS: Opt = Opt {
     name: "--runs",
@@ -21,7 +22,7 @@ pub const COMMAND: Command = Command {
         "refused, those before it are printed and `refused` with the number.",
     ],
     run: Run::Each(Each {
-        reads: "job",
+        kind: Kind::Job,
         writes: "price",
         run,
     }),

@@ -4,6 +4,7 @@ use parallel_moves::{Resolver, text};
 
 use crate::command::{Command, Each, Outcome, Run, refused};
 use crate::given::Given;
+use crate::jobs::Kind;
 
 pub const COMMAND: Command = Command {
     name: "text",
@@ -15,7 +16,7 @@ pub const COMMAND: Command = Command {
         "told apart.",
     ],
     run: Run::Each(Each {
-        reads: "job",
+        kind: Kind::Job,
         writes: "txt",
         run,
     }),

@@ -4,6 +4,7 @@ use parallel_moves::{Refusal, Resolver, Tally, try_settings};
 
 use crate::command::{Command, Each, Outcome, Run, located, refused};
 use crate::given::{Given, Opt, PRICES};
+use crate::jobs::Kind;
 
 const SEED: Opt = Opt {
     name: "--seed",
@@ -28,7 +29,7 @@ pub const COMMAND: Command = Command {
         "with one kept eviction and with two, as the program `try_settings` does.",
     ],
     run: Run::Each(Each {
-        reads: "job",
+        kind: Kind::Job,
         writes: "tries",
         run,
     }),
