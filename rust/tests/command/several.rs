@@ -5,7 +5,7 @@ use std::path::{Path, PathBuf};
 use std::process::Command;
 
 use crate::common::{encoded, jobs, numbers, root};
-use crate::{SWAP, run, says};
+use crate::{SWAP, prints, run, says};
 
 /// A folder for a test, with nothing in it.
 fn folder(name: &str) -> PathBuf {
@@ -203,4 +203,37 @@ fn longest_jobs() {
     text.push(b' ');
     let output = run(&format!("bytes {}", file("more.txt", &text)));
     assert_eq!((output.status.code(), output.stdout.len()), (Some(2), 0));
+}
+
+/// Each command's part of the help, alone; and what is no command.
+#[test]
+fn help() {
+    let whole = String::from_utf8(run("help").stdout).unwrap();
+    prints("--help", &whole);
+    prints("-h", &whole);
+    let names = "resolve groups price try text bytes positions show examine stamp";
+    for name in names.split(' ') {
+        let part = String::from_utf8(run(&format!("help {name}")).stdout).unwrap();
+        assert!(
+            part.starts_with(&format!("parallel-moves {name}")),
+            "{part}"
+        );
+        assert!(whole.contains(&part), "{name}");
+        prints(&format!("{name} --help"), &part);
+        prints(&format!("--help {name}"), &part);
+    }
+    let known = names.replace(' ', ", ");
+    let wrong = |name: &str| format!("`{name}` is no command; one of these is: {known}; ");
+    says("nothing", 2, &wrong("nothing"));
+    says("--what", 2, &wrong("--what"));
+    says("help nothing", 2, &wrong("nothing"));
+    says("help --what", 2, &wrong("--what"));
+    says("help resolve text", 2, "help is given one command\n");
+    says("--help nothing", 2, &wrong("nothing"));
+    let version = env!("CARGO_PKG_VERSION");
+    let build = parallel_moves::BUILD;
+    for word in ["--version", "-V"] {
+        prints(word, &format!("parallel-moves {version}\n{build}\n"));
+    }
+    says("--version it", 2, "--version is given nothing\n");
 }

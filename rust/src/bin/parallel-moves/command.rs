@@ -91,6 +91,12 @@ pub fn parted(outcome: Outcome) -> (Vec<u8>, Option<Failure>) {
 }
 
 const ABOUT: &str = "\
+parallel-moves help COMMAND
+    Prints what stands here of that command.
+
+parallel-moves --version
+    Prints the version, and in a second line what `stamp` prints.
+
 JOB and TEXT are files. A folder stands for all files in it whose names end as is said;
 for `-`, or where nothing is named, standard input is read. Of several, the results stand
 one after the other in the order given. The result goes to standard output, and what is
