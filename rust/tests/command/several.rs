@@ -237,3 +237,106 @@ fn help() {
     }
     says("--version it", 2, "--version is given nothing\n");
 }
+
+/// A text for a job, and a job for a text, are refused as they are, with a hint.
+#[test]
+fn one_for_the_other() {
+    let folder = folder("one-for-the-other");
+    let text = folder.join("swap.txt");
+    fs::write(&text, run(&format!("text {SWAP}")).stdout).unwrap();
+    let text = text.to_str().unwrap();
+    let hint = "; it looks like the text of a job: `parallel-moves bytes` makes the job of it\n";
+    for words in [
+        "resolve",
+        "groups",
+        "positions",
+        "price --prices 1,2,3,4",
+        "try --seed 1 --patches 1 --prices 1,2,3,4",
+        "text",
+        "show",
+    ] {
+        let output = run(&format!("{words} {text}"));
+        let said = String::from_utf8(output.stderr).unwrap();
+        assert_eq!(output.status.code(), Some(1), "{words}: {said}");
+        assert!(
+            said.contains(": refused ") && said.ends_with(hint),
+            "{words}: {said}"
+        );
+        assert_eq!(said.lines().count(), 1, "{words}: {said}");
+    }
+    assert_eq!(run(&format!("resolve {text}")).stdout, b"refused 2\n");
+    // What is refused otherwise gets none.
+    for job in [SWAP, "compare/trials/refused-12.job", "README.md"] {
+        let said = String::from_utf8(run(&format!("resolve {job}")).stderr).unwrap();
+        assert!(!said.contains("looks like"), "{job}: {said}");
+    }
+    let hint = "; it looks like the bytes of a job: `parallel-moves text` prints their text\n";
+    for (name, job) in jobs("compare/trials")
+        .into_iter()
+        .filter(|(_, job)| job.len() > 10)
+    {
+        let output = run(&format!("bytes compare/trials/{name}.job"));
+        let said = String::from_utf8(output.stderr).unwrap();
+        assert_eq!(
+            (output.status.code(), output.stdout.len()),
+            (Some(1), 0),
+            "{name}"
+        );
+        assert!(said.ends_with(hint), "{name} of {}: {said}", job.len());
+        assert_eq!(said.lines().count(), 1, "{name}: {said}");
+    }
+    let plain = folder.join("plain.txt");
+    fs::write(&plain, "units 3\nbanks\n").unwrap();
+    says(
+        &format!("bytes {}", plain.display()),
+        1,
+        "line 2: `banks` begins no line of a job\n",
+    );
+}
+
+/// What is cited of the input shows what cannot be seen, and is no longer than a line.
+#[test]
+fn escaped() {
+    let folder = folder("escaped");
+    let file = folder.join("odd\x1b[31m.txt");
+    let input = |text: &str| {
+        fs::write(&file, text).unwrap();
+        let words = ["bytes".as_ref(), file.as_os_str()];
+        let output = Command::new(env!("CARGO_BIN_EXE_parallel-moves"))
+            .args(words)
+            .output()
+            .unwrap();
+        assert_eq!(output.status.code(), Some(1));
+        String::from_utf8(output.stderr).unwrap()
+    };
+    let odd = "x\u{1b}[31m\u{7}\u{0}\u{202e}\u{9b}";
+    let shown = "x\\u{1b}[31m\\u{7}\\0\\u{202e}\\u{9b}";
+    let hint = "; it looks like the bytes of a job: `parallel-moves text` prints their text\n";
+    assert_eq!(
+        input(odd),
+        format!("parallel-moves: line 1: `{shown}` begins no line of a job{hint}")
+    );
+    assert_eq!(
+        input(&format!("units {odd}")),
+        format!("parallel-moves: line 1: a number below 2^32 is due, and not `{shown}`{hint}")
+    );
+    let long = "y".repeat(100_000);
+    assert_eq!(
+        input(&long),
+        format!(
+            "parallel-moves: line 1: `{}..` begins no line of a job\n",
+            "y".repeat(40)
+        )
+    );
+    // Words of the command and names of files are cited too.
+    let output = Command::new(env!("CARGO_BIN_EXE_parallel-moves"))
+        .args(["resolve", "\u{1b}[31m\n.job"])
+        .output()
+        .unwrap();
+    let said = String::from_utf8(output.stderr).unwrap();
+    assert!(
+        said.starts_with("parallel-moves: \\u{1b}[31m\\n.job was not read: "),
+        "{said}"
+    );
+    assert_eq!(output.status.code(), Some(2));
+}

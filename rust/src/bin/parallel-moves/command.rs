@@ -75,9 +75,48 @@ pub fn refused(why: impl ToString) -> Failure {
 
 /// Why a job is refused, with where if that can be told.
 pub fn located(resolver: &mut Resolver, kept: u32, job: &[u8], refusal: Refusal) -> String {
-    match resolver.locate(kept, job, refusal) {
+    let why = match resolver.locate(kept, job, refusal) {
         Some(location) => format!("{location}: {refusal}"),
         None => refusal.to_string(),
+    };
+    why + if_text(job)
+}
+
+/// What the lines of a job's text begin with.
+const LINES: &[&str] = &[
+    "target",
+    "units",
+    "bank",
+    "register",
+    "class",
+    "slots",
+    "emergency-slots",
+    "value",
+    "patch",
+    "move",
+    "rebuild",
+];
+
+/// What is added where a refused job looks like a text.
+pub fn if_text(job: &[u8]) -> &'static str {
+    let text = std::str::from_utf8(job).unwrap_or("");
+    let mut lines = text.lines().filter_map(|line| {
+        let words = line.split('#').next().unwrap_or("");
+        words.split_whitespace().next()
+    });
+    match lines.next() {
+        Some(word) if LINES.contains(&word) => {
+            "; it looks like the text of a job: `parallel-moves bytes` makes the job of it"
+        }
+        _ => "",
+    }
+}
+
+/// What is added where a refused text looks like a job: it has bytes that no text has.
+pub fn if_job(text: &[u8]) -> &'static str {
+    match text.iter().any(|byte| matches!(byte, 0..=8 | 14..=31)) {
+        true => "; it looks like the bytes of a job: `parallel-moves text` prints their text",
+        false => "",
     }
 }
 

@@ -119,8 +119,16 @@ fn print(result: &[u8]) -> Result<(), Failure> {
     written.map_err(|error| Failure::Failed(format!("the result was not written: {error}")))
 }
 
-/// Says what is wrong.
+/// Says what is wrong, in one line. What it cites may have any characters: those that a terminal
+/// would not show but do are escaped.
 fn say(what: &str) {
+    let mut line = String::new();
+    for character in what.chars() {
+        match character {
+            '\'' | '"' | '\\' => line.push(character),
+            _ => line.extend(character.escape_debug()),
+        }
+    }
     // Nobody is left to be told if this fails.
-    let _ = writeln!(io::stderr(), "parallel-moves: {what}");
+    let _ = writeln!(io::stderr(), "parallel-moves: {line}");
 }
