@@ -16,6 +16,7 @@ static uint16_t cache[PARALLEL_MOVES_CACHE];
 static uint8_t bytes[MOST_NUMBERS];
 static uint32_t free_units[MOST_NUMBERS];
 static uint32_t numbers[MOST_NUMBERS];
+static struct parallel_moves_entry entries[MOST_NUMBERS / 4];
 static uint64_t words[MOST_NUMBERS];
 static uint64_t list[PARALLEL_MOVES_MOST_EDITS + PAST];
 static uint64_t before[PARALLEL_MOVES_MOST_EDITS + PAST];
@@ -84,6 +85,23 @@ static bool open_function(void)
     return refusal != 0;
 }
 
+/* Resolves a patch by its entries. One whose numbers end inside an entry has none: it is
+ * resolved by the call that takes numbers. */
+static size_t resolve(size_t free_length, size_t numbers_length, size_t room, uint8_t *refusal)
+{
+    if (numbers_length % 4 != 0) {
+        return parallel_moves_resolve(
+            memory.target, memory.function, free_units, free_length, numbers, numbers_length,
+            memory.cache, list, room, refusal, &memory.position, memory.entries, memory.writers,
+            memory.available, memory.sources, memory.edits, memory.slots, memory.diverted,
+            memory.marks, memory.carried);
+    }
+    memcpy(entries, numbers, numbers_length * sizeof *numbers);
+    return parallel_moves_resolve_in(
+        &memory, free_units, free_length, parallel_moves_entries(entries, numbers_length / 4),
+        list, room, refusal);
+}
+
 /* Returns whether it was refused. */
 static bool resolve_patch(void)
 {
@@ -104,8 +122,7 @@ static bool resolve_patch(void)
     memcpy(cache, memory.cache, sizeof cache);
     uint8_t given = 99;
     uint16_t last = memory.position;
-    size_t edits = parallel_moves_resolve_in(
-        &memory, free_units, free_length, numbers, numbers_length, list, room, &given);
+    size_t edits = resolve(free_length, numbers_length, room, &given);
     if (given != refusal || edits != length) {
         fail("another refusal, or other edits");
     }

@@ -26,8 +26,9 @@ static const uint8_t bytes[] = {
     1, 2, 3, 4, 0, 1, 2, 3, 0, 0, 4, 0, 1, 2, 3, 4, 0, 1, 2, 3, 4, 6, 2, 0, 0, 0, 0, 0, 0, 0, 0};
 
 struct patch {
-    uint32_t free_units[MOST], numbers[MOST];
-    size_t units, length;
+    uint32_t free_units[MOST];
+    struct parallel_moves_entry entries[MOST];
+    size_t units, count;
 };
 
 static void fail(const char *what)
@@ -43,10 +44,11 @@ static void add_to_job(const struct patch *patch)
     for (size_t i = 0; i < patch->units; i++) {
         job[job_length++] = PARALLEL_MOVES_AS(uint8_t, patch->free_units[i]);
     }
-    job[job_length++] = PARALLEL_MOVES_AS(uint8_t, patch->length / 4);
-    for (size_t i = 0; i < patch->length; i++) {
-        if (i % 4 != 3 || patch->numbers[i - 3] == 0) {
-            job[job_length++] = PARALLEL_MOVES_AS(uint8_t, patch->numbers[i]);
+    job[job_length++] = PARALLEL_MOVES_AS(uint8_t, patch->count);
+    for (size_t i = 0; i < patch->count; i++) {
+        const uint32_t *numbers = patch->entries[i].numbers;
+        for (size_t j = 0; j < (numbers[0] == 0 ? 4 : 3); j++) {
+            job[job_length++] = PARALLEL_MOVES_AS(uint8_t, numbers[j]);
         }
     }
 }
@@ -58,15 +60,16 @@ static void check(const struct patch *patch, const struct patch *each, size_t co
     size_t edits = 0, got;
     for (size_t i = 0; i < count; i++) {
         edits += parallel_moves_resolve_in(
-            &parts, each[i].free_units, each[i].units, each[i].numbers, each[i].length,
-            joined + edits, MOST - edits, &refusal);
+            &parts, each[i].free_units, each[i].units,
+            parallel_moves_entries(each[i].entries, each[i].count), joined + edits,
+            MOST - edits, &refusal);
         if (refusal != 0) {
             fail("a group is refused");
         }
     }
     got = parallel_moves_resolve_groups_in(
-        &whole, &groups, patch->free_units, patch->units, patch->numbers, patch->length, list,
-        MOST, &refusal);
+        &whole, &groups, patch->free_units, patch->units,
+        parallel_moves_entries(patch->entries, patch->count), list, MOST, &refusal);
     if (refusal != 0 || got != edits || memcmp(list, joined, got * sizeof *list) != 0) {
         fail("edits");
     }
@@ -107,15 +110,17 @@ static void check_job(void)
 int main(void)
 {
     /* Two registers change their contents, and unit 2, which is free, is another group's source. */
-    static const struct patch spared = {{2}, {0, 1, 3, 0, 0, 3, 1, 1, 0, 5, 7, 2}, 1, 12};
+    static const struct patch spared = {
+        {2}, {{{0, 1, 3, 0}}, {{0, 3, 1, 1}}, {{0, 5, 7, 2}}}, 1, 3};
     static const struct patch spared_each[] = {
-        {{0}, {0, 1, 3, 0, 0, 3, 1, 1}, 0, 8}, {{2}, {0, 5, 7, 2}, 1, 4}};
+        {{0}, {{{0, 1, 3, 0}}, {{0, 3, 1, 1}}}, 0, 2}, {{2}, {{{0, 5, 7, 2}}}, 1, 1}};
     /* Slots change theirs between registers that do. */
     static const struct patch between = {
-        {0}, {0, 1, 3, 0, 0, 0, 2, 2, 0, 3, 1, 1, 0, 2, 0, 3}, 0, 16};
+        {0}, {{{0, 1, 3, 0}}, {{0, 0, 2, 2}}, {{0, 3, 1, 1}}, {{0, 2, 0, 3}}}, 0, 4};
     static const struct patch between_each[] = {
-        {{0}, {0, 1, 3, 0, 0, 3, 1, 1}, 0, 8}, {{0}, {0, 0, 2, 2, 0, 2, 0, 3}, 0, 8}};
-    static const struct patch nothing = {{1, 3}, {0}, 2, 0};
+        {{0}, {{{0, 1, 3, 0}}, {{0, 3, 1, 1}}}, 0, 2},
+        {{0}, {{{0, 0, 2, 2}}, {{0, 2, 0, 3}}}, 0, 2}};
+    static const struct patch nothing = {{1, 3}, {{{0}}}, 2, 0};
     uint8_t refusal = 0;
     uint64_t list[MOST] = {7};
     /* The same function with L 1: the second group is out of slots. */
@@ -138,8 +143,8 @@ int main(void)
     }
     memcpy(cache, whole.cache, sizeof cache);
     (void)parallel_moves_resolve_groups_in(
-        &whole, &groups, between.free_units, between.units, between.numbers, between.length,
-        list, MOST, &refusal);
+        &whole, &groups, between.free_units, between.units,
+        parallel_moves_entries(between.entries, between.count), list, MOST, &refusal);
     if (refusal != 17 || list[0] != 7 || memcmp(cache, whole.cache, sizeof cache) != 0) {
         fail("17");
     }

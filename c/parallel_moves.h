@@ -1,6 +1,6 @@
 /* Parallel moves over registers that share units, resolved in-process.
  *
- * For C11 and C++. Link what is used of target/staticlib, or all:
+ * For C99 and later, and C++. Link what is used of target/staticlib, or all:
  * - libcalls_c.a, which `rt staticlib calls_c` builds, for calls patch by patch:
  *   parallel_moves_open_in with a target and a function, then
  *   parallel_moves_resolve_in with each patch, and parallel_moves_slots_made;
@@ -31,20 +31,55 @@
  * cure.
  *
  * The functions keep nothing but in the tables that they are lent, neither
- * allocate nor print, and accept any bytes and any patch. Of a caller they ask:
+ * allocate nor print, and accept any bytes and any patch. What they ask of a caller
+ * stands here, all of it; where a call does not get it, anything may happen, and no
+ * refusal says so.
+ *
+ * Every call asks:
  * - no pointer is null, also where a length is 0;
  * - each list has the length that it is said to have, or that it is declared
- *   with, and is aligned as its type is;
+ *   with, and is aligned as its type is. A `numbers_length` counts numbers, also where
+ *   four of them are an entry;
  * - what a call writes overlaps nothing else that is lent to it;
  * - until it returns, other threads leave alone what it writes, and do not write
  *   what it reads (several calls may read one job at once);
  * - each bool is 0 or 1, as calloc makes it and as every call leaves it;
- * - a patch is given with the target, function and cache that
- *   parallel_moves_open left when it answered 0, and nothing else writes these
- *   from then on. Else it does not matter what the tables hold;
- * - an answer is taken as parallel_moves_ask left it, with the cache that it was
- *   asked for on;
  * - 64 KiB of stack are left.
+ *
+ * The calls that are lent a struct parallel_moves_memory, parallel_moves_groups or
+ * parallel_moves_writer ask:
+ * - it was made with calloc, one call at a time is lent it, and a memory's `is_open` and
+ *   `openings` are left alone. While a function is open there, so are its tables: only
+ *   while none is may they be lent to other calls;
+ * - parallel_moves_take_in: the preview is as parallel_moves_ask_in left it, or all 0,
+ *   and the memory that was asked was not freed since.
+ * Whether a function is open there, and whether an answer can still be taken, they test.
+ *
+ * The calls that are lent the tables of a function one by one ask:
+ * - parallel_moves_resolve, parallel_moves_resolve_groups and parallel_moves_ask: target,
+ *   function and cache are those of one parallel_moves_open that answered 0, and are as
+ *   that and the calls of the function since left them. A refused opening, and any other
+ *   call that works in these tables, ends the function;
+ * - parallel_moves_take: made, stamp and slots are as one parallel_moves_ask left them
+ *   that was not refused, and the cache is the one that it asked on, not opened since;
+ * - parallel_moves_slots_made: the cache is an opened function's, else the number says
+ *   nothing.
+ * For the others it does not matter what the tables hold.
+ *
+ * The calls with a frame ask:
+ * - parallel_moves_frame_formula: the frame is as parallel_moves_frame_open left it when
+ *   it answered 0, or as the formulas opened since did. The formulas are opened in the
+ *   order of their numbers, from 0 on, each below the number of shares; each once, but
+ *   for refused openings, which may be made anew; all before the first patch is given or
+ *   asked for; and each with a target, function and cache of its own;
+ * - parallel_moves_frame_resolve, parallel_moves_frame_resolve_groups and
+ *   parallel_moves_frame_ask: the formula was opened so in the frame; target, function
+ *   and cache are its own, as its last call left them, and the frame is as the last call
+ *   of any formula left it. So one call at a time is made of all formulas of a frame;
+ * - parallel_moves_frame_take: the same, and to, stamp, counter and slots are as one
+ *   parallel_moves_frame_ask of that formula left them that was not refused, with neither
+ *   frame nor formula opened since;
+ * - parallel_moves_frame_made: the formula's number is below 16.
  * The library is for x86-64 Linux.
  */
 #ifndef PARALLEL_MOVES_H
@@ -159,10 +194,13 @@ uint16_t parallel_moves_enough_slots(
 
 /* Resolves a patch of an opened function. `free_units` are the units that are
  * free, rising; `numbers` are its entries, four to each, as
- * parallel_moves_put_move and parallel_moves_put_remat write them. Returns how
- * many edits the patch has, as words at the front of `list`; the words past them
- * are left alone. *refusal is set to 0, or to the number of the refusal (2, 3, 9
- * to 17, 21): look at it first, since then the result is 0, and list, cache and
+ * parallel_moves_put_move and parallel_moves_put_remat write them.
+ * `numbers_length` counts numbers, four to an entry, here and in every call that
+ * takes them: given the count of entries in its place, a call may resolve only the
+ * first quarter of them, and say nothing. parallel_moves_resolve_in takes entries.
+ * Returns how many edits the patch has, as words at the front of `list`; the words
+ * past them are left alone. *refusal is set to 0, or to the number of the refusal (2,
+ * 3, 9 to 17, 21): look at it first, since then the result is 0, and list, cache and
  * *position are as they were. Else *position is set to the greatest position
  * that a search of the patch met, see parallel_moves_position. As many words as
  * PARALLEL_MOVES_MOST_EDITS are enough for every patch. The working tables are
@@ -194,7 +232,7 @@ size_t parallel_moves_resolve(
  * later whether it still can be. To take it, keep *made, *stamp and the table `slots`,
  * which is this answer's own until then: give each asking another. The list is read no
  * more. Refused, it leaves nothing to take: *made, *position, *stamp and list are as
- * they were, and `slots` holds anything. */
+ * they were, and `slots` holds anything: an answer that was kept there is lost. */
 size_t parallel_moves_ask(
     const uint16_t target[PARALLEL_MOVES_TARGET],
     const uint16_t function[PARALLEL_MOVES_FUNCTION],
@@ -218,10 +256,14 @@ size_t parallel_moves_ask(
     PARALLEL_MOVES_SYMBOL("parallel_moves_ask");
 
 /* Takes what was asked for: the cache becomes what resolving the patch would have made
- * it. `made`, `stamp` and `slots` are as the asking left them, and `cache` is the one
- * that it was asked for on. Returns 0; or 20, the cache as it was, where that cache has
- * taken an answer or resolved a patch since the asking. Of askings and takes this is
- * promised while a cache has taken or resolved fewer than 2^64 patches. */
+ * it. Returns 0; or 20, the cache as it was, where that cache has taken an answer or
+ * resolved a patch since the asking. Of askings and takes this is promised while a cache
+ * has taken or resolved fewer than 2^64 patches. Asked of the caller, and not tested:
+ * `made`, `stamp` and `slots` are as one asking, which was not refused, left them; `cache`
+ * is the one that it was asked for on; and that was not opened since, for this function or
+ * another, nor lent to parallel_moves_answer or any call that begins a function. A stamp
+ * begins anew with each function, so that an answer of the last one may be taken for one
+ * of this. parallel_moves_take_in tests for this where parallel_moves_ask_in asked. */
 PARALLEL_MOVES_LOOK_AT_IT uint8_t parallel_moves_take(
     uint16_t made,
     uint64_t stamp,
@@ -278,7 +320,11 @@ PARALLEL_MOVES_LOOK_AT_IT uint8_t parallel_moves_frame_open(
 /* Opens a formula of an opened frame, number 0 first, with tables of its own; the bytes
  * are as for parallel_moves_open, and their L is read but not used. Returns 0 or the
  * refusal's number, the frame and the cache then as they were: another N than the first
- * formula's is 2, when it is read. */
+ * formula's is 2, when it is read. Asked of the caller, and not tested: the number is
+ * below that of the shares, the formulas are opened in the order of their numbers, none
+ * that is open is opened again, and none is opened once a patch of the frame was given or
+ * asked for. Else it may answer 0 all the same, and later two formulas have one slot, or a
+ * call reads and writes past the frame's table. */
 PARALLEL_MOVES_LOOK_AT_IT uint8_t parallel_moves_frame_formula(
     uint16_t frame[PARALLEL_MOVES_FRAME],
     size_t formula,
@@ -289,9 +335,10 @@ PARALLEL_MOVES_LOOK_AT_IT uint8_t parallel_moves_frame_formula(
     uint16_t cache[PARALLEL_MOVES_CACHE])
     PARALLEL_MOVES_SYMBOL("parallel_moves_frame_formula");
 
-/* Resolves a patch of a formula as parallel_moves_resolve does. The formula's number is
- * below the number of shares; its tables are those that it was opened with, and the
- * frame is as the last call of any formula left it. */
+/* Resolves a patch of a formula as parallel_moves_resolve does. Asked of the caller, and
+ * not tested: the formula's number is below the number of shares, and it was opened; its
+ * tables are those that it was opened with, and the frame is as the last call of any
+ * formula left it. */
 size_t parallel_moves_frame_resolve(
     uint16_t frame[PARALLEL_MOVES_FRAME],
     size_t formula,
@@ -377,7 +424,9 @@ size_t parallel_moves_frame_ask(
 
 /* Takes what a formula asked for. Returns 0; or 20, frame and cache as they were, where
  * the formula has taken an answer or resolved a patch since the asking, or another
- * formula made a slot. */
+ * formula made a slot. Asked of the caller, and not tested: `to`, `stamp`, `counter` and
+ * `slots` are as one asking of this formula, which was not refused, left them, and neither
+ * the frame nor the formula was opened since. */
 PARALLEL_MOVES_LOOK_AT_IT uint8_t parallel_moves_frame_take(
     uint16_t frame[PARALLEL_MOVES_FRAME],
     size_t formula,
@@ -388,7 +437,8 @@ PARALLEL_MOVES_LOOK_AT_IT uint8_t parallel_moves_frame_take(
     uint16_t cache[PARALLEL_MOVES_CACHE])
     PARALLEL_MOVES_SYMBOL("parallel_moves_frame_take");
 
-/* How many emergency slots a formula, below 16, has made. */
+/* How many emergency slots a formula has made. Asked of the caller, and not tested: its
+ * number is below 16. */
 uint16_t parallel_moves_frame_made(
     const uint16_t frame[PARALLEL_MOVES_FRAME],
     size_t formula)
@@ -498,67 +548,6 @@ size_t parallel_moves_shipped(
     uint16_t target[PARALLEL_MOVES_TARGET])
     PARALLEL_MOVES_SYMBOL("parallel_moves_shipped");
 
-/* All tables, about half a megabyte: make one with calloc, and use it for as
- * many calls as you like, one at a time. It has one opened function at most; after
- * parallel_moves_answer_in, parallel_moves_enough_slots_in and parallel_moves_try_in
- * it has none. `position` is that of the last patch which parallel_moves_resolve_in
- * resolved, 0 before the first. */
-struct parallel_moves_memory {
-    uint64_t edits[PARALLEL_MOVES_EDITS];
-    uint16_t target[PARALLEL_MOVES_TARGET];
-    uint16_t function[PARALLEL_MOVES_FUNCTION];
-    uint16_t cache[PARALLEL_MOVES_CACHE];
-    uint16_t entries[PARALLEL_MOVES_ENTRIES];
-    uint16_t writers[PARALLEL_MOVES_WRITERS];
-    uint16_t slots[PARALLEL_MOVES_SLOTS];
-    uint16_t diverted[PARALLEL_MOVES_DIVERTED];
-    uint16_t carried[PARALLEL_MOVES_CARRIED];
-    bool free_units[PARALLEL_MOVES_UNITS];
-    bool available[PARALLEL_MOVES_UNITS];
-    bool sources[PARALLEL_MOVES_UNITS];
-    uint8_t marks[PARALLEL_MOVES_MARKS];
-    uint16_t position;
-};
-
-/* parallel_moves_open with the tables of `memory`. */
-PARALLEL_MOVES_LOOK_AT_IT static inline uint8_t parallel_moves_open_in(
-    struct parallel_moves_memory *memory, uint32_t kept_evictions,
-    const uint8_t *bytes, size_t bytes_length)
-{
-    memory->position = 0;
-    return parallel_moves_open(
-        kept_evictions, bytes, bytes_length, memory->target, memory->function, memory->cache);
-}
-
-/* parallel_moves_enough_slots with the tables of `memory`, which has no opened
- * function afterwards. */
-static inline uint16_t parallel_moves_enough_slots_in(
-    struct parallel_moves_memory *memory, uint32_t kept_evictions,
-    const uint8_t *bytes, size_t bytes_length,
-    uint8_t *refusal)
-{
-    return parallel_moves_enough_slots(
-        kept_evictions, bytes, bytes_length, refusal, memory->target, memory->function);
-}
-
-/* parallel_moves_resolve with the tables of `memory`, in which a function was
- * opened. */
-static inline size_t parallel_moves_resolve_in(
-    struct parallel_moves_memory *memory,
-    const uint32_t *free_units, size_t free_units_length,
-    const uint32_t *numbers, size_t numbers_length,
-    uint64_t *list, size_t list_length,
-    uint8_t *refusal)
-{
-    return parallel_moves_resolve(
-        memory->target, memory->function,
-        free_units, free_units_length, numbers, numbers_length,
-        memory->cache, list, list_length, refusal, &memory->position,
-        memory->entries, memory->writers, memory->available, memory->sources,
-        memory->edits, memory->slots, memory->diverted, memory->marks,
-        memory->carried);
-}
-
 /* The code of a register. */
 static inline uint32_t parallel_moves_register(uint32_t number)
 {
@@ -571,8 +560,8 @@ static inline uint32_t parallel_moves_slot(uint32_t number)
     return 2 * number;
 }
 
-/* Writes the entry of a move: `dest` is to hold what `source` holds before the
- * patch, which is `value`. Places are given by their codes. */
+/* Writes the entry of a move as four numbers: `dest` is to hold what `source` holds
+ * before the patch, which is `value`. Places are given by their codes. */
 static inline void parallel_moves_put_move(uint32_t entry[4], uint32_t source, uint32_t dest, uint32_t value)
 {
     entry[0] = 0;
@@ -590,13 +579,152 @@ static inline void parallel_moves_put_remat(uint32_t entry[4], uint32_t dest, ui
     entry[3] = 0;
 }
 
-/* parallel_moves_answer with the tables of `memory`. */
+/* An entry of a patch, as parallel_moves_move and parallel_moves_remat make it. An array
+ * of them is the numbers that parallel_moves_resolve reads. */
+struct parallel_moves_entry {
+    uint32_t numbers[4];
+};
+typedef char parallel_moves_entry_is_four_numbers[sizeof(struct parallel_moves_entry) == 16 ? 1 : -1];
+
+/* The entry of a move, as parallel_moves_put_move has it. */
+static inline struct parallel_moves_entry parallel_moves_move(uint32_t source, uint32_t dest, uint32_t value)
+{
+    struct parallel_moves_entry entry;
+    parallel_moves_put_move(entry.numbers, source, dest, value);
+    return entry;
+}
+
+/* The entry of a rebuild, as parallel_moves_put_remat has it. */
+static inline struct parallel_moves_entry parallel_moves_remat(uint32_t dest, uint32_t value)
+{
+    struct parallel_moves_entry entry;
+    parallel_moves_put_remat(entry.numbers, dest, value);
+    return entry;
+}
+
+/* The entries of a patch, and how many they are: one argument, so that a call which gives
+ * numbers and their length in its place does not compile. */
+struct parallel_moves_entry_list {
+    const struct parallel_moves_entry *first;
+    size_t count;
+};
+
+/* The `count` entries from `first` on. */
+static inline struct parallel_moves_entry_list parallel_moves_entries(const struct parallel_moves_entry *first, size_t count)
+{
+    struct parallel_moves_entry_list entries;
+    entries.first = first;
+    entries.count = count;
+    return entries;
+}
+
+/* The numbers of entries, for a call that takes numbers. */
+static inline const uint32_t *parallel_moves_entry_numbers(struct parallel_moves_entry_list entries)
+{
+    return PARALLEL_MOVES_AS(const uint32_t *, PARALLEL_MOVES_AS(const void *, entries.first));
+}
+
+/* How many numbers they are. */
+static inline size_t parallel_moves_entry_numbers_length(struct parallel_moves_entry_list entries)
+{
+    return 4 * entries.count;
+}
+
+/* All tables, about half a megabyte: make one with calloc, and use it for as
+ * many calls as you like, one at a time. It has one opened function at most, and
+ * `is_open` tells whether it has one: none before the first opening, none where the
+ * last opening was refused, and none after parallel_moves_enough_slots_in,
+ * parallel_moves_answer_in, parallel_moves_answer_groups_in or parallel_moves_try_in,
+ * which use its tables, whatever they answer. A patch without an opened function is
+ * refused with 2, a take with 20, and nothing changes. `position` is that of the last
+ * patch of the function which was resolved or taken, 0 before the first. `openings` rises
+ * with every opening, also a refused one, and with every other use that ends the opened
+ * function: an answer is taken only under the number that it was asked for under. Read
+ * these three, and write none. */
+struct parallel_moves_memory {
+    uint64_t openings;
+    uint64_t edits[PARALLEL_MOVES_EDITS];
+    uint16_t target[PARALLEL_MOVES_TARGET];
+    uint16_t function[PARALLEL_MOVES_FUNCTION];
+    uint16_t cache[PARALLEL_MOVES_CACHE];
+    uint16_t entries[PARALLEL_MOVES_ENTRIES];
+    uint16_t writers[PARALLEL_MOVES_WRITERS];
+    uint16_t slots[PARALLEL_MOVES_SLOTS];
+    uint16_t diverted[PARALLEL_MOVES_DIVERTED];
+    uint16_t carried[PARALLEL_MOVES_CARRIED];
+    bool free_units[PARALLEL_MOVES_UNITS];
+    bool available[PARALLEL_MOVES_UNITS];
+    bool sources[PARALLEL_MOVES_UNITS];
+    uint8_t marks[PARALLEL_MOVES_MARKS];
+    uint16_t position;
+    bool is_open;
+};
+
+/* Ends the function that is open in `memory`, if there is one: no patch can be given, and
+ * no answer of it can be taken any more. */
+static inline void parallel_moves_close_in(struct parallel_moves_memory *memory)
+{
+    memory->is_open = false;
+    memory->openings++;
+}
+
+/* parallel_moves_open with the tables of `memory`. It ends the function that was open
+ * there; refused, it leaves none open. */
+PARALLEL_MOVES_LOOK_AT_IT static inline uint8_t parallel_moves_open_in(
+    struct parallel_moves_memory *memory, uint32_t kept_evictions,
+    const uint8_t *bytes, size_t bytes_length)
+{
+    parallel_moves_close_in(memory);
+    memory->position = 0;
+    uint8_t refusal = parallel_moves_open(
+        kept_evictions, bytes, bytes_length, memory->target, memory->function, memory->cache);
+    memory->is_open = refusal == 0;
+    return refusal;
+}
+
+/* parallel_moves_enough_slots with the tables of `memory`, which has no opened
+ * function afterwards. */
+static inline uint16_t parallel_moves_enough_slots_in(
+    struct parallel_moves_memory *memory, uint32_t kept_evictions,
+    const uint8_t *bytes, size_t bytes_length,
+    uint8_t *refusal)
+{
+    parallel_moves_close_in(memory);
+    return parallel_moves_enough_slots(
+        kept_evictions, bytes, bytes_length, refusal, memory->target, memory->function);
+}
+
+/* parallel_moves_resolve of the function that is open in `memory`; without one, 2 and no
+ * edits. */
+static inline size_t parallel_moves_resolve_in(
+    struct parallel_moves_memory *memory,
+    const uint32_t *free_units, size_t free_units_length,
+    struct parallel_moves_entry_list entries,
+    uint64_t *list, size_t list_length,
+    uint8_t *refusal)
+{
+    if (!memory->is_open) {
+        *refusal = 2;
+        return 0;
+    }
+    return parallel_moves_resolve(
+        memory->target, memory->function, free_units, free_units_length,
+        parallel_moves_entry_numbers(entries), parallel_moves_entry_numbers_length(entries),
+        memory->cache, list, list_length, refusal, &memory->position,
+        memory->entries, memory->writers, memory->available, memory->sources,
+        memory->edits, memory->slots, memory->diverted, memory->marks,
+        memory->carried);
+}
+
+/* parallel_moves_answer with the tables of `memory`, which has no opened function
+ * afterwards. */
 static inline size_t parallel_moves_answer_in(
     struct parallel_moves_memory *memory, uint32_t kept_evictions,
     const uint8_t *job, size_t job_length,
     uint64_t *words, size_t words_length,
     uint8_t *refusal)
 {
+    parallel_moves_close_in(memory);
     return parallel_moves_answer(
         kept_evictions, job, job_length, words, words_length, refusal,
         memory->target, memory->function, memory->cache,
@@ -606,7 +734,7 @@ static inline size_t parallel_moves_answer_in(
 }
 
 /* What parallel_moves_resolve_groups_in and parallel_moves_answer_groups_in work in beside
- * the memory. What it held does not matter. */
+ * the memory: make one with calloc. What the calls left in it does not matter. */
 struct parallel_moves_groups {
     uint64_t joined[PARALLEL_MOVES_JOINED];
     uint32_t numbers[PARALLEL_MOVES_NUMBERS];
@@ -617,24 +745,30 @@ struct parallel_moves_groups {
     bool common[PARALLEL_MOVES_UNITS];
 };
 
-/* parallel_moves_resolve_groups in memory that parallel_moves_open_in opened. */
+/* parallel_moves_resolve_groups of the function that is open in `memory`; without one, 2
+ * and no edits. */
 static inline size_t parallel_moves_resolve_groups_in(
     struct parallel_moves_memory *memory, struct parallel_moves_groups *groups,
     const uint32_t *free_units, size_t free_units_length,
-    const uint32_t *numbers, size_t numbers_length,
+    struct parallel_moves_entry_list entries,
     uint64_t *list, size_t list_length,
     uint8_t *refusal)
 {
+    if (!memory->is_open) {
+        *refusal = 2;
+        return 0;
+    }
     return parallel_moves_resolve_groups(
-        memory->target, memory->function, free_units, free_units_length, numbers,
-        numbers_length, memory->cache, list, list_length, refusal, &memory->position,
-        memory->free_units, memory->entries, memory->writers, memory->available,
+        memory->target, memory->function, free_units, free_units_length,
+        parallel_moves_entry_numbers(entries), parallel_moves_entry_numbers_length(entries),
+        memory->cache, list, list_length, refusal, &memory->position, memory->free_units, memory->entries, memory->writers, memory->available,
         memory->sources, memory->edits, memory->slots, memory->diverted, memory->marks,
         memory->carried, groups->owners, groups->labels, groups->next, groups->common,
         groups->work, groups->joined);
 }
 
-/* parallel_moves_answer_groups with the tables of `memory` and `groups`. */
+/* parallel_moves_answer_groups with the tables of `memory`, which has no opened function
+ * afterwards, and of `groups`. */
 static inline size_t parallel_moves_answer_groups_in(
     struct parallel_moves_memory *memory, struct parallel_moves_groups *groups,
     uint32_t kept_evictions,
@@ -642,6 +776,7 @@ static inline size_t parallel_moves_answer_groups_in(
     uint64_t *words, size_t words_length,
     uint8_t *refusal)
 {
+    parallel_moves_close_in(memory);
     return parallel_moves_answer_groups(
         kept_evictions, job, job_length, words, words_length, refusal,
         memory->target, memory->function, memory->cache,
@@ -651,39 +786,58 @@ static inline size_t parallel_moves_answer_groups_in(
         groups->next, groups->common, groups->work, groups->joined, groups->numbers);
 }
 
-/* What an asking leaves to take, about 64 KiB: one for each answer. */
+/* What an asking leaves to take, about 64 KiB: one for each answer. Beside it stand the
+ * memory that was asked, and its number of openings. */
 struct parallel_moves_preview {
+    const struct parallel_moves_memory *memory;
+    uint64_t openings;
     uint16_t slots[PARALLEL_MOVES_SLOTS];
     uint16_t made;
     uint16_t position;
     uint64_t stamp;
 };
 
-/* parallel_moves_ask of the function that is open in `memory`. Where it is not refused,
- * `preview` has what is to take, and tells the slots made and the position. */
+/* parallel_moves_ask of the function that is open in `memory`; without one, 2 and no
+ * edits. Where it is not refused, `preview` has what is to take, and tells the slots made
+ * and the position. Refused otherwise, `preview` has nothing to take, also where it had
+ * before. */
 static inline size_t parallel_moves_ask_in(
     struct parallel_moves_memory *memory,
     const uint32_t *free_units, size_t free_units_length,
-    const uint32_t *numbers, size_t numbers_length,
+    struct parallel_moves_entry_list entries,
     uint64_t *list, size_t list_length,
     uint8_t *refusal,
     struct parallel_moves_preview *preview)
 {
-    return parallel_moves_ask(
+    if (!memory->is_open) {
+        *refusal = 2;
+        return 0;
+    }
+    preview->memory = NULL;
+    size_t count = parallel_moves_ask(
         memory->target, memory->function, free_units, free_units_length,
-        numbers, numbers_length, memory->cache, list, list_length, refusal,
-        &preview->made, &preview->position, &preview->stamp,
+        parallel_moves_entry_numbers(entries), parallel_moves_entry_numbers_length(entries),
+        memory->cache, list, list_length, refusal, &preview->made, &preview->position, &preview->stamp,
         memory->entries, memory->writers, memory->available, memory->sources,
         memory->edits, preview->slots, memory->diverted, memory->marks,
         memory->carried);
+    if (*refusal == 0) {
+        preview->memory = memory;
+        preview->openings = memory->openings;
+    }
+    return count;
 }
 
-/* parallel_moves_take of a preview that was asked for in `memory`; taken, it sets
- * memory->position. */
+/* parallel_moves_take of a preview that parallel_moves_ask_in left; 20 also where it has
+ * nothing to take, where it was asked for in another memory, and where that function is
+ * open no longer, or was opened anew. Taken, it sets memory->position. */
 PARALLEL_MOVES_LOOK_AT_IT static inline uint8_t parallel_moves_take_in(
     struct parallel_moves_memory *memory,
     const struct parallel_moves_preview *preview)
 {
+    if (preview->memory != memory || preview->openings != memory->openings) {
+        return 20;
+    }
     uint8_t refusal = parallel_moves_take(
         preview->made, preview->stamp, preview->slots, memory->cache);
     if (refusal == 0) {
@@ -903,6 +1057,7 @@ PARALLEL_MOVES_LOOK_AT_IT static inline uint8_t parallel_moves_try_in(
     uint64_t one[PARALLEL_MOVES_TALLY],
     uint64_t two[PARALLEL_MOVES_TALLY])
 {
+    parallel_moves_close_in(memory);
     return parallel_moves_try(
         job, job_length, prices, seed, patches, one, two,
         memory->target, memory->function, memory->cache,

@@ -19,13 +19,16 @@ static const uint8_t target_and_function[] = {
 static uint8_t swap(struct parallel_moves_memory *memory, size_t count)
 {
     static const uint32_t free_units[] = { 2 };
-    uint32_t numbers[8];
-    parallel_moves_put_move(&numbers[0], parallel_moves_register(0), parallel_moves_register(1), 0);
-    parallel_moves_put_move(&numbers[4], parallel_moves_register(1), parallel_moves_register(0), 1);
+    const uint32_t r0 = parallel_moves_register(0), r1 = parallel_moves_register(1);
+    const struct parallel_moves_entry entries[] = {
+        parallel_moves_move(r0, r1, 0),
+        parallel_moves_move(r1, r0, 1),
+    };
     uint64_t list[PARALLEL_MOVES_MOST_EDITS];
     uint8_t refusal;
     size_t edits = parallel_moves_resolve_in(
-        memory, free_units, count, numbers, 8, list, PARALLEL_MOVES_MOST_EDITS, &refusal);
+        memory, free_units, count, parallel_moves_entries(entries, 2), list,
+        PARALLEL_MOVES_MOST_EDITS, &refusal);
     for (size_t i = 0; i < edits; i++) {
         uint16_t to = parallel_moves_to(list[i]), from = parallel_moves_from(list[i]);
         printf("%c%u from %c%u\n",

@@ -13,13 +13,14 @@
 enum { MOST_NUMBERS = 65536, PAST = 16 };
 
 static struct parallel_moves_memory memory;
-/* Two answers of each patch, and one of an earlier patch of the function. */
+/* Two answers of each patch, and one of an earlier patch, of this function or another. */
 static struct parallel_moves_preview first, second, earlier;
 static bool has_earlier;
 static uint16_t cache[PARALLEL_MOVES_CACHE];
 static uint8_t bytes[MOST_NUMBERS];
 static uint32_t free_units[MOST_NUMBERS];
 static uint32_t numbers[MOST_NUMBERS];
+static struct parallel_moves_entry entries[MOST_NUMBERS / 4];
 static uint64_t words[MOST_NUMBERS];
 static uint64_t list[PARALLEL_MOVES_MOST_EDITS + PAST];
 static uint64_t before[PARALLEL_MOVES_MOST_EDITS + PAST];
@@ -70,7 +71,6 @@ static void open_function(void)
     if (parallel_moves_open_in(&memory, kept_evictions, bytes, length) != refusal) {
         fail("another refusal of a function");
     }
-    has_earlier = has_earlier && refusal != 0;
 }
 
 static void cache_stays(const char *what)
@@ -78,6 +78,25 @@ static void cache_stays(const char *what)
     if (memcmp(cache, memory.cache, sizeof cache) != 0) {
         fail(what);
     }
+}
+
+/* Asks for a patch by its entries. One whose numbers end inside an entry has none: it is
+ * asked for by the call that takes numbers. */
+static size_t ask(
+    size_t free_length, size_t numbers_length, size_t room, uint8_t *refusal,
+    struct parallel_moves_preview *preview)
+{
+    if (numbers_length % 4 != 0) {
+        return parallel_moves_ask(
+            memory.target, memory.function, free_units, free_length, numbers, numbers_length,
+            memory.cache, list, room, refusal, &preview->made, &preview->position,
+            &preview->stamp, memory.entries, memory.writers, memory.available, memory.sources,
+            memory.edits, preview->slots, memory.diverted, memory.marks, memory.carried);
+    }
+    memcpy(entries, numbers, numbers_length * sizeof *numbers);
+    return parallel_moves_ask_in(
+        &memory, free_units, free_length, parallel_moves_entries(entries, numbers_length / 4),
+        list, room, refusal, preview);
 }
 
 /* Returns how many patches were taken. */
@@ -102,8 +121,7 @@ static unsigned long take_patch(void)
         }
         memcpy(before, list, sizeof list);
         uint8_t given = 99;
-        size_t edits = parallel_moves_ask_in(
-            &memory, free_units, free_length, numbers, numbers_length, list, room, &given, previews[p]);
+        size_t edits = ask(free_length, numbers_length, room, &given, previews[p]);
         if (given != refusal || edits != length) {
             fail("another refusal, or other edits");
         }

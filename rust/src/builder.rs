@@ -165,6 +165,12 @@ impl JobBuilder {
         Ok(bytes)
     }
 
+    /// Whether there are no more units, slots and entries than a job may have, so that what
+    /// stands in each place can be told: a number of four bytes says of billions.
+    pub(crate) fn can_be_shown(&self, patch: &Patch) -> bool {
+        self.target.unit_count() <= 512 && self.function.slots <= 4096 && patch.entries.len() <= 128
+    }
+
     /// Gives each number of the job in turn, with the part that it says something of.
     pub(crate) fn each_number(&self, mut put: impl FnMut(u32, Part)) {
         self.target.each_number(&mut put);

@@ -86,7 +86,7 @@ pub use patch::Patch;
 pub use picture::Picture;
 pub use preview::{Preview, TakeError};
 pub use price::{Edge, Prices, cheaper};
-pub use reading::Location;
+pub use reading::{Location, patch_count};
 pub use refusal::{Refusal, Unnamed};
 pub use resolver::Resolver;
 pub use trying::{Refusals, Tally, try_settings};

@@ -125,10 +125,14 @@ fn ends(edit: Edit) -> (Place, Option<Place>) {
 
 impl Picture {
     /// The picture of a patch of a job, counted from 1, with the edits that carry it out.
-    /// None if the job has no such patch.
+    /// None if the job has no such patch, or is refused for its number of units, slots or
+    /// entries: there may be too many to be drawn.
     #[must_use]
     pub fn of(name: &str, job: &JobBuilder, patch: usize, edits: Edits<'_>) -> Option<Picture> {
         let given = job.patches.get(patch.checked_sub(1)?)?;
+        if !job.can_be_shown(given) {
+            return None;
+        }
         let sense = Sense::of(job, given);
         let edits: Vec<Edit> = edits.iter().collect();
         let (places, quiet) = places(&sense, &edits);

@@ -91,6 +91,22 @@ impl JobBuilder {
     }
 }
 
+/// How many patches a job's bytes say that it has. The patches themselves are not read, and
+/// nothing is tested: it need not be a job that is accepted.
+///
+/// # Errors
+///
+/// As [`text::from_bytes`](crate::text::from_bytes), up to that number.
+///
+/// ```
+/// let job = std::fs::read("../examples/swap-full.job").unwrap();
+/// assert_eq!(parallel_moves::patch_count(&job), Ok(1));
+/// assert!(parallel_moves::patch_count(&job[..20]).is_err());
+/// ```
+pub fn patch_count(job: &[u8]) -> Result<u32, NoText> {
+    Reader::new(job).opening(&mut JobBuilder::new())
+}
+
 /// The target that bytes begin with.
 pub(crate) fn target(bytes: &[u8]) -> Result<TargetBuilder, NoText> {
     let mut target = TargetBuilder::default();
@@ -188,13 +204,18 @@ impl<'a> Reader<'a> {
         (0..count).map(|_| self.number().map(of)).collect()
     }
 
-    fn job(&mut self, job: &mut JobBuilder) -> Result<(), NoText> {
+    /// The target, the function and the number of patches.
+    fn opening(&mut self, job: &mut JobBuilder) -> Result<u32, NoText> {
         if self.bytes.len() > MOST_BYTES {
             return Err(self.refused(0, Refusal::NamesNothing));
         }
         self.target(&mut job.target)?;
         self.function(&mut job.function)?;
-        let patches = self.number_of(Part::Patches)?;
+        self.number_of(Part::Patches)
+    }
+
+    fn job(&mut self, job: &mut JobBuilder) -> Result<(), NoText> {
+        let patches = self.opening(job)?;
         for number in 1..=patches as usize {
             let patch = self.patch(number)?;
             job.patches.push(patch);

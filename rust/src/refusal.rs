@@ -24,7 +24,7 @@ macro_rules! refusals {
 
         impl Refusal {
             /// The refusal with a number; 0 is none.
-            pub(crate) fn of_number(number: u8) -> Option<Self> {
+            pub fn of_number(number: u8) -> Option<Self> {
                 match number {
                     $($number => Some(Refusal::$name),)*
                     _ => NonZeroU8::new(number).map(|number| Refusal::Other(Unnamed(number))),

@@ -327,7 +327,8 @@ fn functions_are_refused_where_they_are_wrong() {
 
 #[test]
 fn patches_are_refused_where_they_are_wrong() {
-    let check = |change: &dyn Fn(&mut Patch, [PhysReg; 3], [Value; 2]), part: Part, number: u8| {
+    type Change<'a> = &'a dyn Fn(&mut Patch, [PhysReg; 3], [Value; 2]);
+    let check = |change: Change<'_>, part: Part, number: u8| {
         let Three {
             mut job,
             registers,

@@ -2,6 +2,8 @@
 //! `price_job` and `try_settings`, which print the same.
 
 mod common;
+#[path = "command/examines.rs"]
+mod examines;
 #[path = "command/programs.rs"]
 mod programs;
 #[path = "command/several.rs"]
@@ -19,6 +21,23 @@ fn run(words: &str) -> Output {
         .current_dir(root())
         .output()
         .unwrap()
+}
+
+/// The same with something on standard input.
+fn run_with(words: &str, input: &[u8]) -> Output {
+    let mut child = Command::new(env!("CARGO_BIN_EXE_parallel-moves"))
+        .args(words.split(' '))
+        .current_dir(root())
+        .stdin(Stdio::piped())
+        .stdout(Stdio::piped())
+        .stderr(Stdio::piped())
+        .spawn()
+        .unwrap();
+    let mut stdin = child.stdin.take().unwrap();
+    // It need not be read to its end.
+    let _ = stdin.write_all(input);
+    drop(stdin);
+    child.wait_with_output().unwrap()
 }
 
 /// What is printed.
@@ -41,6 +60,18 @@ fn says(words: &str, status: i32, expected: &str) {
     assert!(output.stdout.is_empty());
 }
 
+/// What is refused: what is printed all the same, and how the line on standard error begins.
+fn refuses(words: &str, expected: &str, why: &str) {
+    let output = run(words);
+    assert_eq!(String::from_utf8_lossy(&output.stdout), expected, "{words}");
+    assert_eq!(output.status.code(), Some(1), "{words}");
+    let said = String::from_utf8_lossy(&output.stderr);
+    assert!(
+        said.starts_with(&format!("parallel-moves: {why}")),
+        "{words}: {said}"
+    );
+}
+
 const SWAP: &str = "examples/swap-full.job";
 const UNFIT: &str = "compare/trials/refused-7-top-without-slots.job";
 
@@ -59,109 +90,82 @@ fn prices() {
         &format!("price --kept 1 --prices 65535,0,0,0 --runs 67108863 {SWAP}"),
         "patch 1 edits 3 total 196605 runs 67108863 product 13193938010115\n",
     );
-    says(
-        &format!("price --kept 1 --prices 4,6,16,12 --runs 67108864 {SWAP}"),
-        1,
-        "refused 19: ",
+    // 19 for a run count comes when its patch is resolved, and says if it is no number.
+    let outside = "patch 1: refused 19: a price is above 65,535, ";
+    let runs = |runs: &str| format!("price --kept 1 --prices 4,6,16,12 --runs {runs} {SWAP}");
+    refuses(&runs("67108864"), "refused 19\n", outside);
+    let none = "patch 1: refused 19: --runs is given whole numbers in digits, and `";
+    refuses(&runs("-1"), "refused 19\n", &format!("{none}-1` is none"));
+    refuses(
+        &runs("1,2"),
+        "refused 2\n",
+        "refused 2: 2 run counts for 1 patch",
     );
-    says(
-        &format!("price --kept 1 --prices 4,6,16,12 --runs -1 {SWAP}"),
-        1,
-        "refused 19: ",
-    );
-    says(
-        &format!("price --kept 1 --prices 4,6,65536,12 {SWAP}"),
-        1,
-        "refused 19: ",
-    );
-    says(
-        &format!("price --kept 1 --prices x,6,16,12 {SWAP}"),
-        1,
-        "refused 19: ",
-    );
-    says(
+    // So do prices.
+    let prices = |prices: &str| format!("price --kept 1 --prices {prices} {SWAP}");
+    let outside = "refused 19: a price is above 65,535, ";
+    refuses(&prices("4,6,65536,12"), "refused 19\n", outside);
+    refuses(&prices("4,6,4294967296,12"), "refused 19\n", outside);
+    let none = "refused 19: --prices is given whole numbers in digits, and `";
+    for (list, part) in [
+        ("x,6,16,12", "x"),
+        ("4.5,6,16,12", "4.5"),
+        ("4,6,16,", ""),
+        ("4,+6,16,65536", "+6"),
+    ] {
+        refuses(
+            &prices(list),
+            "refused 19\n",
+            &format!("{none}{part}` is none"),
+        );
+        says(
+            &format!("try --seed 0 --patches 1 --prices {list} {SWAP}"),
+            1,
+            &format!("{none}{part}` is none"),
+        );
+    }
+    for list in ["4,6,16", "4,6,16,12,0", "4.5", "4;6;16;12"] {
+        let four = "--prices is given four numbers with commas between them; ";
+        says(&prices(list), 2, four);
+    }
+    refuses(
         &format!("price --kept 3 --prices 65536,6,16,12 {SWAP}"),
-        1,
+        "refused 22\n",
         "refused 22: ",
     );
-    says(
-        &format!("price --kept 1 --prices 4,6,16,12 --runs 1,2 {SWAP}"),
-        2,
-        "2 run counts of 1 patches",
-    );
     // 7 before 19, and 19 before the patch's own number.
-    says(
+    refuses(
         &format!("price --kept 1 --prices 4,6,16,65536 {UNFIT}"),
-        1,
+        "refused 7\n",
         "byte 11: class 0: refused 7: ",
     );
-    says(
+    refuses(
         "price --kept 1 --prices 4,6,16,12 examples/refused-17.job",
-        1,
+        "patch 1 edits 1 total 4\nrefused 17\n",
         "byte 55: patch 2: refused 17: ",
     );
-    says(
+    refuses(
         "price --kept 1 --prices 4,6,16,65536 examples/refused-17.job",
-        1,
+        "refused 19\n",
         "refused 19: ",
     );
-    says(&format!("price --kept 1 --prices 4,6,16 {SWAP}"), 2, "");
+    // 2 for the run counts before what a patch is refused by.
+    refuses(
+        "price --prices 4,6,16,12 --runs 7,7 compare/trials/refused-10.job",
+        "refused 2\n",
+        "refused 2: 2 run counts for 1 patch",
+    );
+    // Of the several jobs of a call each has its own.
+    let output = run(&format!(
+        "price --prices 1,1,1,1 --runs 7 examples/refused-17.job {SWAP}"
+    ));
+    let printed = String::from_utf8(output.stdout).unwrap();
+    assert_eq!(
+        printed,
+        "refused 2\npatch 1 edits 3 total 3 runs 7 product 21\n"
+    );
+    assert_eq!(output.status.code(), Some(1));
     says("price --kept 1 --prices 4,6,16,12 /nowhere/at.all", 2, "");
-}
-
-/// What `examine` prints of a job and an answer, and says.
-fn examined(job: &str, answer: &str) -> (String, String) {
-    let mut child = Command::new(env!("CARGO_BIN_EXE_parallel-moves"))
-        .args(["examine", job])
-        .current_dir(root())
-        .stdin(Stdio::piped())
-        .stdout(Stdio::piped())
-        .stderr(Stdio::piped())
-        .spawn()
-        .unwrap();
-    let mut input = child.stdin.take().unwrap();
-    input.write_all(answer.as_bytes()).unwrap();
-    drop(input);
-    let output = child.wait_with_output().unwrap();
-    assert_eq!(output.status.code(), Some(0), "{answer}");
-    let text = |bytes: Vec<u8>| String::from_utf8(bytes).unwrap();
-    (text(output.stdout), text(output.stderr))
-}
-
-#[test]
-fn examines() {
-    let is = |answer: &str, printed: &str, said: &str| {
-        let expected = (printed.to_owned(), said.to_owned());
-        assert_eq!(examined(SWAP, answer), expected, "{answer}");
-    };
-    let ours = "patch 1 edits 3 made 1\nM s0 r1 1\nM r1 r0 0\nM r0 s0 1\n";
-    is(ours, "patch 1 yes\n", "");
-    is(ours.split_once('\n').unwrap().1, "patch 1 yes\n", "");
-    // Where a no first goes wrong.
-    is(
-        &ours.replace("M r0 s0 1", "M r0 r1 1"),
-        "patch 1 no\n",
-        "parallel-moves: patch 1: in the end r0 does not hold value 1\n",
-    );
-    is(
-        &ours.replace("M r1 r0 0\n", "M r1 r0 0\nL r2 s0\n"),
-        "patch 1 no\n",
-        "parallel-moves: patch 1: in the end unit 2, of r2, does not hold what it began with\n",
-    );
-    is(
-        "patch 1 edits 3 made 1\nM r1 r0 0\nM r0 s0 1\n",
-        "patch 1 no\n",
-        "parallel-moves: patch 1: line 3: edit 2, `M r0 s0 1`, cannot be done: \
-         what is read may have any number of words\n",
-    );
-    is(
-        "M r1 r0 0\nR r0 1\n",
-        "patch 1 no\n",
-        "parallel-moves: patch 1: line 2: edit 2, `R r0 1`, cannot be done: \
-         the value cannot be rebuilt\n",
-    );
-    is("patch 1 edits 1 made 0\nM r1 r9 0\n", "patch 1 24\n", "");
-    is("patch 1 edits 1 made 0\nM r1\n", "patch 1 24\n", "");
 }
 
 #[test]

@@ -119,6 +119,20 @@ fn trials() {
     }
 }
 
+/// The tables of half a megabyte are on the heap: a thread with a small stack can examine, also
+/// in a build that leaves every temporary where it is.
+#[test]
+fn small_stack() {
+    let swap = plain(0, 1, SWAP);
+    let list = words("M s0 r1 1, M r1 r0 0, M r0 s0 1");
+    let thread = std::thread::Builder::new().stack_size(64 * 1024);
+    let examined = thread.spawn(move || {
+        let whole = examine(&swap, 0, &list);
+        (whole, examine_in(1, &swap, 0, &list[1..]))
+    });
+    assert_eq!(examined.unwrap().join().unwrap(), (Ok(true), Ok(false)));
+}
+
 /// Where a list first goes wrong, printed.
 fn fault(job: &[u8], list: &str) -> String {
     assert_eq!(examine(job, 0, &words(list)), Ok(false), "{list}");

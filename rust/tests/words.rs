@@ -77,7 +77,8 @@ fn whole_jobs() {
 fn patch_by_patch() {
     let mut moves = ParallelMoves::open(1, &opening()).unwrap();
     let [r0, r1, r2, r3, s0, s1] = [reg(0), reg(1), reg(2), reg(3), slot(0), slot(1)];
-    let patches: [(&[usize], &[(Allocation, Allocation)]); 8] = [
+    type Moves<'a> = &'a [(Allocation, Allocation)];
+    let patches: [(&[usize], Moves<'_>); 8] = [
         (&[], &[(r0, r1), (r1, r0)]),
         (&[4], &[(r0, r1), (r1, r0)]),
         (&[], &[(r2, r3), (r3, r2)]),

@@ -115,7 +115,8 @@ fn counted(count: usize, what: &str) -> String {
 /// that cannot be done, or else a place that is wrong in the end. It is told by a machine
 /// written for it, which nobody proved; the no is proved.
 ///
-/// Nothing if it finds nothing wrong, if the job has not that patch, or if a word is no edit.
+/// Nothing if it finds nothing wrong, if the job has not that patch or is refused for what is
+/// outside a limit, or if a word is no edit.
 ///
 /// ```
 /// use parallel_moves::{Edit, PhysReg, Value, first_fault};
@@ -138,6 +139,9 @@ pub fn first_fault(job: &[u8], patch: u32, words: &[u64]) -> Option<Fault> {
     }
     let job = Reading::of(job).job;
     let patch = job.patches.get(usize::try_from(patch).ok()?)?;
+    if !job.can_be_shown(patch) {
+        return None;
+    }
     let sense = Sense::of(&job, patch);
     let start = Held::at_the_start(&sense);
     let mut held = start.clone();

@@ -1,6 +1,6 @@
 //! Lists of edits examined: `examine_c`.
 
-use super::{Entries, Function, RegInfo, RegUnitSet, SparseMap};
+use super::{Entries, Function, RegInfo, RegUnitSet, SparseMap, table};
 
 /// Which kept moves have the same content in every start.
 type Ties = [u16; 12_416];
@@ -52,34 +52,35 @@ unsafe extern "C" {
     ) -> u8;
 }
 
-/// The tables that a list of edits is examined with.
+/// The tables that a list of edits is examined with: half a megabyte, which no stack holds
+/// on the way.
 pub(crate) struct Examiner {
-    target: RegInfo,
-    function: Function,
-    free: RegUnitSet,
-    entries: Entries,
-    writers: SparseMap,
-    ties: Ties,
-    cells: Cells,
-    start: Cells,
+    target: Box<RegInfo>,
+    function: Box<Function>,
+    free: Box<RegUnitSet>,
+    entries: Box<Entries>,
+    writers: Box<SparseMap>,
+    ties: Box<Ties>,
+    cells: Box<Cells>,
+    start: Box<Cells>,
     held: Words,
     asked: Words,
 }
 
 impl Examiner {
-    pub(crate) fn new() -> Box<Self> {
-        Box::new(Examiner {
-            target: [0; 107_520],
-            function: [0; 16_388],
-            free: [false; 512],
-            entries: [0; 1541],
-            writers: [0; 6657],
-            ties: [0; 12_416],
-            cells: [0; 67_072],
-            start: [0; 67_072],
+    pub(crate) fn new() -> Self {
+        Examiner {
+            target: table(),
+            function: table(),
+            free: table(),
+            entries: table(),
+            writers: table(),
+            ties: table(),
+            cells: table(),
+            start: table(),
             held: [0; 10],
             asked: [0; 10],
-        })
+        }
     }
 
     /// Whether the words do what a patch asks, where slots below N plus `limit`, or L

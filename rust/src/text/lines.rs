@@ -90,7 +90,10 @@ impl TextReader {
             "value" => self.value(words)?,
             "patch" => self.patch(words)?,
             "move" | "rebuild" => self.entry(word, words)?,
-            other => return Err(words.mistake(format!("`{other}` begins no line of a job"))),
+            other => {
+                let other = cited(other);
+                return Err(words.mistake(format!("`{other}` begins no line of a job")));
+            }
         };
         words.end()?;
         self.lines.insert(part, words.line);
@@ -254,7 +257,7 @@ impl<'a> Words<'a> {
     /// The mistake that something else is next.
     fn found(&self, wanted: &str) -> TextError {
         match self.peek() {
-            Some(word) => self.mistake(format!("{wanted} is due, and not `{word}`")),
+            Some(word) => self.mistake(format!("{wanted} is due, and not `{}`", cited(word))),
             None => self.mistake(format!("{wanted} is due, and the line ends")),
         }
     }
@@ -333,6 +336,20 @@ impl<'a> Words<'a> {
             Some(_) => Err(self.found("the line's end")),
         }
     }
+}
+
+/// How much of a word is cited.
+const CITED: usize = 40;
+
+/// A word as it is cited: its beginning, with what a terminal would not show escaped.
+fn cited(word: &str) -> String {
+    let start = word.chars().take(CITED).flat_map(char::escape_debug);
+    let rest = if word.chars().nth(CITED).is_some() {
+        ".."
+    } else {
+        ""
+    };
+    start.chain(rest.chars()).collect()
 }
 
 /// A number in base ten, without a sign.

@@ -6,31 +6,47 @@ use std::process::Command;
 use crate::common::{jobs, options, root};
 use crate::{SWAP, UNFIT, run};
 
-/// Gives a program of `target/bin` the job of a file and words, and the command the same:
-/// the command's result is what the program prints; where it is refused, the program's last
-/// line has the number.
-fn same(program: &str, command: &str, file: &str, words: &str) -> bool {
+/// What a program of `target/bin` prints that is given the job of a file and words.
+fn printed(program: &str, file: &str, words: &str) -> String {
     let path = root().join("target/bin").join(program);
     assert!(path.is_file(), "run `rt check {program}`");
     let job = File::open(root().join(file)).unwrap();
     let given = words.split(' ');
     let printed = Command::new(path).args(given).stdin(job).output().unwrap();
     assert!(printed.stderr.is_empty());
-    let printed = String::from_utf8(printed.stdout).unwrap();
+    String::from_utf8(printed.stdout).unwrap()
+}
+
+/// Gives the command what a program is given: it prints the same, whether or not something
+/// is refused, and says the number. `try` prints nothing where it is refused.
+fn same(program: &str, command: &str, file: &str, words: &str) -> bool {
+    let printed = printed(program, file, words);
     let output = run(&format!("{command} {} {file}", options(command, words)));
-    if output.status.success() {
+    let last = printed.lines().last().unwrap();
+    let refused = last
+        .strip_prefix("refused ")
+        .filter(|_| !last.contains("  "));
+    let expected = match (command, refused) {
+        ("try", Some(_)) => "",
+        _ => &printed[..],
+    };
+    let result = String::from_utf8_lossy(&output.stdout);
+    assert_eq!(result, expected, "{file} {words}");
+    let said = String::from_utf8(output.stderr).unwrap();
+    let Some(number) = refused else {
         assert_eq!(
-            String::from_utf8_lossy(&output.stdout),
-            printed,
+            (output.status.code(), &said[..]),
+            (Some(0), ""),
             "{file} {words}"
         );
         return true;
-    }
-    let said = String::from_utf8(output.stderr).unwrap();
-    let (_, number) = said.split_once("refused ").unwrap();
-    let (number, _) = number.split_once(':').unwrap();
-    let last = format!("refused {number}");
-    assert_eq!(printed.lines().last(), Some(&last[..]), "{file} {words}");
+    };
+    assert_eq!(output.status.code(), Some(1), "{file} {words}");
+    assert_eq!(said.lines().count(), 1, "{file} {words}: {said}");
+    assert!(
+        said.contains(&format!("refused {number}: ")),
+        "{file} {words}: {said}"
+    );
     false
 }
 
@@ -51,23 +67,36 @@ fn price_job_prints_the_same() {
     let mut priced = 0;
     for (name, _) in jobs("compare/trials") {
         let file = format!("compare/trials/{name}.job");
-        for words in ["1 4 6 16 12", "2 65535 0 1 65535"] {
+        for words in ["1 4 6 16 12", "2 65535 0 1 65535 7"] {
             priced += u32::from(same("price_job", "price", &file, words));
         }
     }
     assert!(priced > 100, "{priced}");
-    for words in [
-        "1 4 6 16 12 67108863",
-        "1 4 6 16 12 67108864",
-        "2 0 0 0 65536",
-        "0 4 6 16 65536",
-        "1 4 6 16 1x",
-    ] {
-        same("price_job", "price", SWAP, words);
-        same("price_job", "price", UNFIT, words);
-    }
-    for words in ["1 4 6 16 12", "2 4 6 16 12", "1 4 6 16 65536"] {
-        same("price_job", "price", "examples/refused-17.job", words);
+    // Refused before a patch, by the first, by a later one, and behind the last.
+    let refused = [
+        "examples/refused-17",
+        "compare/trials/refused-10",
+        "compare/trials/refused-8",
+    ];
+    let refused = refused.map(|name| format!("{name}.job"));
+    let refused = refused.iter().map(|file| &file[..]);
+    for file in refused.chain([SWAP, UNFIT, "examples/enough-two-sizes.job"]) {
+        for kept in ["1", "2", "0"] {
+            for words in [
+                "4 6 16 12",
+                "4 6 16 65536",
+                "4 6 16 1x",
+                "4 6 16 12 67108863",
+                "4 6 16 12 67108864",
+                "4 6 16 12 7 7",
+                "4 6 16 12 7 67108864",
+                "4 6 16 12 1 2 3",
+                "4 6 16 12 1 x 3",
+                "0 0 0 65536 1 2 3 4",
+            ] {
+                same("price_job", "price", file, &format!("{kept} {words}"));
+            }
+        }
     }
 }
 

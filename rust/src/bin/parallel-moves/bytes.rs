@@ -2,8 +2,9 @@
 
 use parallel_moves::{Resolver, text};
 
-use crate::command::{Command, Each, Outcome, Run, refused};
+use crate::command::{Command, Each, Outcome, Run, if_job, refused};
 use crate::given::Given;
+use crate::jobs::Kind;
 
 pub const COMMAND: Command = Command {
     name: "bytes",
@@ -14,13 +15,17 @@ pub const COMMAND: Command = Command {
         "refuse is not written: the line is said, and the number.",
     ],
     run: Run::Each(Each {
-        reads: "txt",
+        kind: Kind::Text,
         writes: "job",
         run,
     }),
 };
 
-fn run(_: &Given, _: &mut Resolver, text: &[u8]) -> Outcome {
-    let text = std::str::from_utf8(text).map_err(|_| refused("the text is not UTF-8"))?;
-    text::to_bytes(text).map_err(refused)
+fn run(_: &Given, _: &mut Resolver, bytes: &[u8]) -> Outcome {
+    let why = match std::str::from_utf8(bytes).map(text::to_bytes) {
+        Ok(Ok(job)) => return Ok(job),
+        Ok(Err(error)) => error.to_string(),
+        Err(_) => "the text is not UTF-8".to_owned(),
+    };
+    Err(refused(why + if_job(bytes)))
 }

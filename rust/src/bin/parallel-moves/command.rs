@@ -3,6 +3,7 @@
 use parallel_moves::{Refusal, Resolver};
 
 use crate::given::{self, Given, Opt};
+use crate::jobs::Kind;
 
 /// A command: its name, what it is given, what it does, and how.
 pub struct Command {
@@ -28,8 +29,8 @@ pub enum Run {
 /// uses, and what comes out is printed in the order in which they are given.
 #[derive(Clone, Copy)]
 pub struct Each {
-    /// How the files of a folder end that are read.
-    pub reads: &'static str,
+    /// What is read.
+    pub kind: Kind,
     /// How the files end that are written with `--to`.
     pub writes: &'static str,
     pub run: fn(&Given, &mut Resolver, &[u8]) -> Outcome,
@@ -74,9 +75,48 @@ pub fn refused(why: impl ToString) -> Failure {
 
 /// Why a job is refused, with where if that can be told.
 pub fn located(resolver: &mut Resolver, kept: u32, job: &[u8], refusal: Refusal) -> String {
-    match resolver.locate(kept, job, refusal) {
+    let why = match resolver.locate(kept, job, refusal) {
         Some(location) => format!("{location}: {refusal}"),
         None => refusal.to_string(),
+    };
+    why + if_text(job)
+}
+
+/// What the lines of a job's text begin with.
+const LINES: &[&str] = &[
+    "target",
+    "units",
+    "bank",
+    "register",
+    "class",
+    "slots",
+    "emergency-slots",
+    "value",
+    "patch",
+    "move",
+    "rebuild",
+];
+
+/// What is added where a refused job looks like a text.
+pub fn if_text(job: &[u8]) -> &'static str {
+    let text = std::str::from_utf8(job).unwrap_or("");
+    let mut lines = text.lines().filter_map(|line| {
+        let words = line.split('#').next().unwrap_or("");
+        words.split_whitespace().next()
+    });
+    match lines.next() {
+        Some(word) if LINES.contains(&word) => {
+            "; it looks like the text of a job: `parallel-moves bytes` makes the job of it"
+        }
+        _ => "",
+    }
+}
+
+/// What is added where a refused text looks like a job: it has bytes that no text has.
+pub fn if_job(text: &[u8]) -> &'static str {
+    match text.iter().any(|byte| matches!(byte, 0..=8 | 14..=31)) {
+        true => "; it looks like the bytes of a job: `parallel-moves text` prints their text",
+        false => "",
     }
 }
 
@@ -90,6 +130,12 @@ pub fn parted(outcome: Outcome) -> (Vec<u8>, Option<Failure>) {
 }
 
 const ABOUT: &str = "\
+parallel-moves help COMMAND
+    Prints what stands here of that command.
+
+parallel-moves --version
+    Prints the version, and in a second line what `stamp` prints.
+
 JOB and TEXT are files. A folder stands for all files in it whose names end as is said;
 for `-`, or where nothing is named, standard input is read. Of several, the results stand
 one after the other in the order given. The result goes to standard output, and what is
@@ -127,7 +173,8 @@ impl Command {
             .collect();
         let files = match self.run {
             Run::Once(_) => String::new(),
-            Run::Each(Each { reads, writes, .. }) => {
+            Run::Each(Each { kind, writes, .. }) => {
+                let reads = kind.ending();
                 format!("    Of a folder *.{reads} are read; --to makes *.{writes}.\n")
             }
         };

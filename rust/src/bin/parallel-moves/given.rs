@@ -3,7 +3,7 @@
 use std::ffi::OsString;
 use std::str::FromStr;
 
-use parallel_moves::Prices;
+use parallel_moves::{Prices, Refusal};
 
 use crate::command::{Command, Failure};
 
@@ -141,6 +141,22 @@ impl Given {
     pub fn list<T: FromStr + Copy>(&self, option: &Opt, outside: T) -> Vec<T> {
         self.value(option)
             .map_or(Vec::new(), |word| list(word, outside))
+    }
+
+    /// Why a number that an option is given is refused as one outside its range: it is too
+    /// large, or no number at all.
+    pub fn outside(&self, option: &Opt, refusal: Refusal) -> String {
+        let word = self.value(option).map(|word| word.to_string_lossy());
+        let word = word.unwrap_or_default();
+        let is_number = |part: &&str| !part.is_empty() && part.bytes().all(|b| b.is_ascii_digit());
+        match word.split(',').find(|part| !is_number(part)) {
+            Some(part) => format!(
+                "refused {}: {} is given whole numbers in digits, and `{part}` is none",
+                refusal.number(),
+                option.name
+            ),
+            None => refusal.to_string(),
+        }
     }
 
     /// How many evictions are kept; one that is neither 1 nor 2 is refused.

@@ -4,6 +4,7 @@ use parallel_moves::{Refusal, RefusedJob, Resolver};
 
 use crate::command::{self, Command, Each, Failure, Outcome, Run};
 use crate::given::{Given, KEPT};
+use crate::jobs::Kind;
 
 pub const COMMAND: Command = Command {
     name: "groups",
@@ -16,7 +17,7 @@ pub const COMMAND: Command = Command {
         "are those that no source of another group has.",
     ],
     run: Run::Each(Each {
-        reads: "job",
+        kind: Kind::Job,
         writes: "out",
         run,
     }),

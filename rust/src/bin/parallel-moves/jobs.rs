@@ -39,20 +39,57 @@ impl Source {
         }
     }
 
-    pub fn read(&self) -> Result<Vec<u8>, Failure> {
+    /// What is read of it. Of a job that is longer than any, a byte more: it is refused for
+    /// its length, and nothing behind is needed for that.
+    pub fn read(&self, kind: Kind) -> Result<Vec<u8>, Failure> {
         let mut bytes = Vec::new();
+        let most = kind.most() + 1;
         let read = match self {
-            Source::StandardInput => io::stdin().lock().read_to_end(&mut bytes),
+            Source::StandardInput => io::stdin().lock().take(most).read_to_end(&mut bytes),
             Source::File(path) => {
-                File::open(path).and_then(|mut file| file.read_to_end(&mut bytes))
+                File::open(path).and_then(|file| file.take(most).read_to_end(&mut bytes))
             }
         };
+        let failed = |why: String| Failure::Failed(format!("{} was not read: {why}", self.name()));
         match read {
+            Err(error) => Err(failed(error.to_string())),
+            Ok(read) if read as u64 == most && kind != Kind::Job => {
+                Err(failed(format!("it has more than {} bytes", kind.most())))
+            }
             Ok(_) => Ok(bytes),
-            Err(error) => Err(Failure::Failed(format!(
-                "{} was not read: {error}",
-                self.name()
-            ))),
+        }
+    }
+}
+
+/// What is read.
+#[derive(Clone, Copy, PartialEq, Eq)]
+pub enum Kind {
+    Job,
+    /// A job's text.
+    Text,
+    /// Lists of edits.
+    Answer,
+}
+
+impl Kind {
+    /// How the files of a folder end that are read.
+    pub fn ending(self) -> &'static str {
+        match self {
+            Kind::Job => "job",
+            Kind::Text => "txt",
+            Kind::Answer => "out",
+        }
+    }
+
+    /// How many bytes it may have.
+    fn most(self) -> u64 {
+        match self {
+            Kind::Job => 65_536,
+            // Of no byte of a job come more than 18 of its text: a value that can be rebuilt
+            // takes 3, and its line at most 53. The rest is for remarks and spaces.
+            Kind::Text => 64 * 65_536,
+            // Ours have at most 132,096 lines of at most 25. Others may have more edits.
+            Kind::Answer => 64 * 1_048_576,
         }
     }
 }
@@ -99,7 +136,8 @@ fn in_folder(folder: &Path, ending: &str) -> Result<Vec<Source>, Failure> {
 
 /// Does what is done with each job: the exit status.
 pub fn run_each(given: &Given, each: Each) -> u8 {
-    let prepared = sources(given, each.reads).and_then(|sources| Work::new(given, each, sources));
+    let prepared =
+        sources(given, each.kind.ending()).and_then(|sources| Work::new(given, each, sources));
     match prepared {
         Ok(work) => work.run(),
         Err(failure) => {
@@ -185,7 +223,7 @@ impl<'a> Work<'a> {
     }
 
     fn outcome(&self, source: &Source, resolver: &mut Resolver) -> Outcome {
-        let bytes = source.read()?;
+        let bytes = source.read(self.each.kind)?;
         let outcome = (self.each.run)(self.given, resolver, &bytes);
         let Some(folder) = &self.folder else {
             return outcome;

@@ -8,6 +8,7 @@ mod examine;
 mod given;
 mod groups;
 mod jobs;
+mod lists;
 mod positions;
 mod price;
 mod resolve;
@@ -16,7 +17,7 @@ mod stamp;
 mod text;
 mod tries;
 
-use std::ffi::OsString;
+use std::ffi::{OsStr, OsString};
 use std::io::{self, Write};
 use std::process::ExitCode;
 
@@ -45,13 +46,19 @@ fn main() -> ExitCode {
 /// Carries out the command of these words: the exit status.
 fn run(words: &[OsString]) -> u8 {
     let Some((name, words)) = words.split_first() else {
-        return end(Err(no_command()));
+        return end(Err(no_command(None)));
     };
     if ["--help", "-h", "help"].iter().any(|word| name == word) {
-        return end(Ok(command::help(COMMANDS).into_bytes()));
+        return end(help_of(words));
     }
-    let Some(command) = COMMANDS.iter().find(|command| name == command.name) else {
-        return end(Err(no_command()));
+    if ["--version", "-V"].iter().any(|word| name == word) {
+        return end(match words {
+            [] => Ok(stamp::version().into_bytes()),
+            _ => Err(Failure::Failed("--version is given nothing".to_owned())),
+        });
+    }
+    let Some(command) = command_of(name) else {
+        return end(Err(no_command(Some(name))));
     };
     if words.iter().any(|word| word == "--help" || word == "-h") {
         return end(Ok(command.help().into_bytes()));
@@ -65,12 +72,33 @@ fn run(words: &[OsString]) -> u8 {
     }
 }
 
-fn no_command() -> Failure {
+fn command_of(name: &OsStr) -> Option<&'static Command> {
+    COMMANDS.iter().find(|command| name == command.name)
+}
+
+/// What is said of the command of a word, or of all.
+fn help_of(words: &[OsString]) -> command::Outcome {
+    match words {
+        [] => Ok(command::help(COMMANDS).into_bytes()),
+        [name] => match command_of(name) {
+            Some(command) => Ok(command.help().into_bytes()),
+            None => Err(no_command(Some(name))),
+        },
+        _ => Err(Failure::Failed("help is given one command".to_owned())),
+    }
+}
+
+fn no_command(name: Option<&OsStr>) -> Failure {
     let names: Vec<&str> = COMMANDS.iter().map(|command| command.name).collect();
-    Failure::Failed(format!(
-        "the command is one of: {}; `parallel-moves --help` says more",
-        names.join(", ")
-    ))
+    let names = names.join(", ");
+    let what = match name {
+        Some(name) => {
+            let name = name.to_string_lossy();
+            format!("`{name}` is no command; one of these is: {names}")
+        }
+        None => format!("the command is one of: {names}"),
+    };
+    Failure::Failed(format!("{what}; `parallel-moves --help` says more"))
 }
 
 /// Prints what came out, and says what is wrong: the exit status.
@@ -91,8 +119,16 @@ fn print(result: &[u8]) -> Result<(), Failure> {
     written.map_err(|error| Failure::Failed(format!("the result was not written: {error}")))
 }
 
-/// Says what is wrong.
+/// Says what is wrong, in one line. What it cites may have any characters: those that a terminal
+/// would not show but do are escaped.
 fn say(what: &str) {
+    let mut line = String::new();
+    for character in what.chars() {
+        match character {
+            '\'' | '"' | '\\' => line.push(character),
+            _ => line.extend(character.escape_debug()),
+        }
+    }
     // Nobody is left to be told if this fails.
-    let _ = writeln!(io::stderr(), "parallel-moves: {what}");
+    let _ = writeln!(io::stderr(), "parallel-moves: {line}");
 }

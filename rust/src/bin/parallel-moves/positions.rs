@@ -4,6 +4,7 @@ use parallel_moves::{Answer, Resolver};
 
 use crate::command::{Command, Each, Failure, Outcome, Run, located};
 use crate::given::{Given, KEPT};
+use crate::jobs::Kind;
 
 pub const COMMAND: Command = Command {
     name: "positions",
@@ -15,7 +16,7 @@ pub const COMMAND: Command = Command {
         "there would do, and 0 without searches.",
     ],
     run: Run::Each(Each {
-        reads: "job",
+        kind: Kind::Job,
         writes: "positions",
         run,
     }),

@@ -1,9 +1,10 @@
 //! `parallel-moves price`.
 
-use parallel_moves::{Edge, ResolvedPatch, Resolver, try_settings};
+use parallel_moves::{Refusal, Resolver, patch_count, try_settings};
 
 use crate::command::{Command, Each, Failure, Outcome, Run, located, refused};
 use crate::given::{Given, KEPT, Opt, PRICES};
+use crate::jobs::Kind;
 
 const RUNS: Opt = Opt {
     name: "--runs",
@@ -16,9 +17,12 @@ pub const COMMAND: Command = Command {
     name: "price",
     words: "[--kept K] --prices M,R,S,L [--runs N,..] [JOB..]",
     options: &[KEPT, PRICES, RUNS],
-    about: &["Prints what each patch of a job costs, as the program `price_job` does."],
+    about: &[
+        "Prints what each patch of a job costs, as the program `price_job` does. Where one is",
+        "refused, those before it are printed and `refused` with the number.",
+    ],
     run: Run::Each(Each {
-        reads: "job",
+        kind: Kind::Job,
         writes: "price",
         run,
     }),
@@ -27,35 +31,67 @@ pub const COMMAND: Command = Command {
 fn run(given: &Given, resolver: &mut Resolver, job: &[u8]) -> Outcome {
     let (kept, prices) = (given.kept(), given.prices()?);
     let runs: Vec<u64> = given.list(&RUNS, u64::MAX);
-    // 19 comes after the target's refusals, and before those of the function.
+    // 22 comes first, and is left to the answer.
     if (1..=2).contains(&kept) {
-        try_settings(job, prices, 0, 1)
-            .map_err(|refusal| refused(located(resolver, kept, job, refusal)))?;
+        // 19 comes after the target's refusals, and before those of the function.
+        if let Err(refusal) = try_settings(job, prices, 0, 1) {
+            let why = match refusal {
+                Refusal::OutsidePrice => given.outside(&PRICES, refusal),
+                _ => located(resolver, kept, job, refusal),
+            };
+            return Err(refused_at(String::new(), refusal, why));
+        }
+        // Then 2 for the run counts, before a patch is looked at.
+        let patches = patch_count(job).map_err(refused)? as usize;
+        if !runs.is_empty() && runs.len() != patches {
+            let (runs, patches) = (counted(runs.len(), "run count"), counted(patches, "patch"));
+            let refusal = Refusal::NamesNothing;
+            let why = format!("refused {}: {runs} for {patches}", refusal.number());
+            return Err(refused_at(String::new(), refusal, why));
+        }
     }
-    let answer = resolver
-        .answer(kept, job)
-        .map_err(|error| refused(located(resolver, kept, job, error.refusal())))?;
-    let patches: Vec<ResolvedPatch<'_>> = answer.patches().collect();
-    let (counts, patch_count) = (runs.len(), patches.len());
-    if counts != 0 && counts != patch_count {
-        return Err(Failure::Failed(format!(
-            "{counts} run counts of {patch_count} patches"
-        )));
-    }
+    let answered = resolver.answer(kept, job);
+    let answer = match &answered {
+        Ok(answer) => answer,
+        Err(error) => error.before(),
+    };
     let mut lines = String::new();
-    for (index, patch) in patches.iter().enumerate() {
-        let count = runs.get(index).copied();
-        let Edge {
-            total,
-            runs,
-            product,
-        } = patch.price(prices, count.unwrap_or(0))?;
+    for (number, patch) in (1..).zip(answer.patches()) {
+        let count = runs.get(number - 1).copied();
+        let edge = match patch.price(prices, count.unwrap_or(0)) {
+            Ok(edge) => edge,
+            Err(refusal) => {
+                let why = format!("patch {number}: {}", given.outside(&RUNS, refusal));
+                return Err(refused_at(lines, refusal, why));
+            }
+        };
         let edits = patch.edits().len();
-        lines += &format!("patch {} edits {edits} total {total}", index + 1);
+        lines += &format!("patch {number} edits {edits} total {}", edge.total);
         if count.is_some() {
-            lines += &format!(" runs {runs} product {product}");
+            lines += &format!(" runs {} product {}", edge.runs, edge.product);
         }
         lines.push('\n');
     }
-    Ok(lines.into_bytes())
+    match answered {
+        Ok(_) => Ok(lines.into_bytes()),
+        Err(error) => {
+            let refusal = error.refusal();
+            let why = located(resolver, kept, job, refusal);
+            Err(refused_at(lines, refusal, why))
+        }
+    }
+}
+
+/// The lines before a refusal, its own, and why.
+fn refused_at(mut lines: String, refusal: Refusal, why: String) -> Failure {
+    lines += &format!("refused {}\n", refusal.number());
+    Failure::Refused(lines.into_bytes(), why)
+}
+
+fn counted(count: usize, what: &str) -> String {
+    match (count, what) {
+        (1, what) => format!("1 {what}"),
+        (count, "patch") => format!("{count} patches"),
+        (count, what) => format!("{count} {what}s"),
+    }
 }

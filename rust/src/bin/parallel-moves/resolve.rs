@@ -4,6 +4,7 @@ use parallel_moves::Resolver;
 
 use crate::command::{Command, Each, Failure, Outcome, Run, located};
 use crate::given::{Given, KEPT};
+use crate::jobs::Kind;
 
 pub const COMMAND: Command = Command {
     name: "resolve",
@@ -14,7 +15,7 @@ pub const COMMAND: Command = Command {
         "patch is refused, those before it are printed and `refused` with the number.",
     ],
     run: Run::Each(Each {
-        reads: "job",
+        kind: Kind::Job,
         writes: "out",
         run,
     }),

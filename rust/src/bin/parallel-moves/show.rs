@@ -8,7 +8,7 @@ use parallel_moves::{JobBuilder, Picture, Resolver};
 use crate::command::{Command, Failure, Outcome, Run, located, refused};
 use crate::given::{Given, KEPT, Opt};
 use crate::groups;
-use crate::jobs::Source;
+use crate::jobs::{Kind, Source};
 
 const PLAIN: Opt = Opt {
     name: "--plain",
@@ -53,7 +53,7 @@ fn run(given: &Given) -> Outcome {
         }
         _ => return Err(given.wrong("show is given a job and the number of a patch")),
     };
-    let bytes = Source::of(job_name).read()?;
+    let bytes = Source::of(job_name).read(Kind::Job)?;
     let (kept, mut resolver) = (given.kept(), Resolver::new());
     let by_groups = given.has(&GROUPS);
     let answered = match by_groups {

@@ -22,3 +22,8 @@ fn run(given: &Given) -> Outcome {
         false => Err(given.wrong("stamp is given nothing")),
     }
 }
+
+/// The version of the crate, and which build this is.
+pub fn version() -> String {
+    format!("parallel-moves {}\n{BUILD}\n", env!("CARGO_PKG_VERSION"))
+}

@@ -2,8 +2,9 @@
 
 use parallel_moves::{Resolver, text};
 
-use crate::command::{Command, Each, Outcome, Run, refused};
+use crate::command::{Command, Each, Outcome, Run, if_text, refused};
 use crate::given::Given;
+use crate::jobs::Kind;
 
 pub const COMMAND: Command = Command {
     name: "text",
@@ -15,13 +16,15 @@ pub const COMMAND: Command = Command {
         "told apart.",
     ],
     run: Run::Each(Each {
-        reads: "job",
+        kind: Kind::Job,
         writes: "txt",
         run,
     }),
 };
 
 fn run(_: &Given, _: &mut Resolver, job: &[u8]) -> Outcome {
-    let text = text::from_bytes(job).map_err(refused)?;
-    Ok(text.into_bytes())
+    match text::from_bytes(job) {
+        Ok(text) => Ok(text.into_bytes()),
+        Err(error) => Err(refused(error.to_string() + if_text(job))),
+    }
 }

@@ -4,6 +4,7 @@ use parallel_moves::{Refusal, Resolver, Tally, try_settings};
 
 use crate::command::{Command, Each, Outcome, Run, located, refused};
 use crate::given::{Given, Opt, PRICES};
+use crate::jobs::Kind;
 
 const SEED: Opt = Opt {
     name: "--seed",
@@ -28,7 +29,7 @@ pub const COMMAND: Command = Command {
         "with one kept eviction and with two, as the program `try_settings` does.",
     ],
     run: Run::Each(Each {
-        reads: "job",
+        kind: Kind::Job,
         writes: "tries",
         run,
     }),
@@ -39,8 +40,12 @@ fn run(given: &Given, resolver: &mut Resolver, job: &[u8]) -> Outcome {
     let patches = given.number(&PATCHES, 0);
     let prices = given.prices()?;
     let seed = u32::try_from(seed).map_err(|_| Refusal::NamesNothing)?;
-    let tallies = try_settings(job, prices, seed, patches)
-        .map_err(|refusal| refused(located(resolver, 1, job, refusal)))?;
+    let tallies = try_settings(job, prices, seed, patches).map_err(|refusal| {
+        refused(match refusal {
+            Refusal::OutsidePrice => given.outside(&PRICES, refusal),
+            _ => located(resolver, 1, job, refusal),
+        })
+    })?;
     Ok(format!("seed {seed} patches {patches}\n{}", rows(&tallies)).into_bytes())
 }
 
