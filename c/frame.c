@@ -102,17 +102,38 @@ static uint8_t take(size_t i, const struct asked *a)
         frame, i, a->to, a->stamp, a->counter, a->slots, formulas[i].cache);
 }
 
+/* Opens formula `number` with the tables of formula i. */
+static uint8_t open_one(size_t number, size_t i, const uint8_t *given, size_t length)
+{
+    struct formula *f = &formulas[i];
+    return parallel_moves_frame_formula(
+        frame, number, 1, given, length, f->target, f->function, f->cache);
+}
+
 static void open(uint32_t limit, uint32_t first, uint32_t second)
 {
     const uint32_t shares[] = {first, second};
     is("a frame", parallel_moves_frame_open(frame, limit, shares, 2), 0);
     for (size_t i = 0; i < 2; i++) {
-        struct formula *f = &formulas[i];
-        is("a formula",
-           parallel_moves_frame_formula(
-               frame, i, 1, bytes, sizeof bytes, f->target, f->function, f->cache),
-           0);
+        is("a formula", open_one(i, i, bytes, sizeof bytes), 0);
     }
+}
+
+/* Opens formula `number` where it is not the next: 2, and frame and tables are as they were. */
+static void is_not_next(const char *what, size_t number)
+{
+    struct formula *before = PARALLEL_MOVES_AS(struct formula *, malloc(2 * sizeof *before));
+    uint16_t held[PARALLEL_MOVES_FRAME];
+    if (before == NULL) {
+        wrong = 1;
+        return;
+    }
+    memcpy(before, formulas, 2 * sizeof *before);
+    memcpy(held, frame, sizeof held);
+    is(what, open_one(number, 0, bytes, sizeof bytes), 2);
+    is("nothing changed", memcmp(before, formulas, 2 * sizeof *before) == 0, 1);
+    is("nor the frame", memcmp(held, frame, sizeof held) == 0, 1);
+    free(before);
 }
 
 int main(void)
@@ -162,6 +183,26 @@ int main(void)
     is("refusal by groups", refusal, 17);
     is("edits by groups of the first", PARALLEL_MOVES_AS(unsigned, by_groups(0, &refusal)), 3);
     is("no refusal by groups", refusal, 0);
+
+    /* Formulas are opened in order, each once, before a slot is made. */
+    {
+        const uint32_t two[] = {1, 1};
+        is("a frame anew", parallel_moves_frame_open(frame, 2, two, 2), 0);
+        is_not_next("out of order", 1);
+        is_not_next("past the shares", 5);
+        is("a formula refused", open_one(0, 0, bytes, sizeof bytes - 1), 1);
+        is("tried again", open_one(0, 0, bytes, sizeof bytes), 0);
+        is_not_next("open already", 0);
+        is("edits of the first", PARALLEL_MOVES_AS(unsigned, resolve(0, &refusal)), 3);
+        is_not_next("after a slot was made", 1);
+    }
+
+    /* An answer is not taken by a formula that was opened since. */
+    open(2, 1, 1);
+    is("edits asked for", PARALLEL_MOVES_AS(unsigned, ask(0, &a[0], &refusal)), 3);
+    open(2, 1, 1);
+    is("another frame's answer", take(0, &a[0]), 20);
+    is("nothing made", parallel_moves_frame_made(frame, 0), 0);
     free(groups);
     free(work);
     free(formulas);

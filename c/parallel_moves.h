@@ -61,24 +61,21 @@
  *   that and the calls of the function since left them. A refused opening, and any other
  *   call that works in these tables, ends the function;
  * - parallel_moves_take: made, stamp and slots are as one parallel_moves_ask left them
- *   that was not refused, and the cache is the one that it asked on, not opened since;
+ *   that was not refused, and the cache is the one that it asked on;
  * - parallel_moves_slots_made: the cache is an opened function's, else the number says
  *   nothing.
  * For the others it does not matter what the tables hold.
  *
  * The calls with a frame ask:
  * - parallel_moves_frame_formula: the frame is as parallel_moves_frame_open left it when
- *   it answered 0, or as the formulas opened since did. The formulas are opened in the
- *   order of their numbers, from 0 on, each below the number of shares; each once, but
- *   for refused openings, which may be made anew; all before the first patch is given or
- *   asked for; and each with a target, function and cache of its own;
+ *   it answered 0, or as the calls since did; and each formula has a target, function and
+ *   cache of its own;
  * - parallel_moves_frame_resolve, parallel_moves_frame_resolve_groups and
  *   parallel_moves_frame_ask: the formula was opened so in the frame; target, function
  *   and cache are its own, as its last call left them, and the frame is as the last call
  *   of any formula left it. So one call at a time is made of all formulas of a frame;
  * - parallel_moves_frame_take: the same, and to, stamp, counter and slots are as one
- *   parallel_moves_frame_ask of that formula left them that was not refused, with neither
- *   frame nor formula opened since;
+ *   parallel_moves_frame_ask of that formula left them that was not refused;
  * - parallel_moves_frame_made: the formula's number is below 16.
  * The library is for x86-64 Linux.
  */
@@ -92,7 +89,7 @@
 /* The version of the interface: of what each function is lent, and how long the
  * tables are. The names in the library end in it, so that a library of another
  * version does not link. A version may gain a function: what it has stays. */
-#define PARALLEL_MOVES_INTERFACE 4
+#define PARALLEL_MOVES_INTERFACE 5
 
 #define PARALLEL_MOVES_STRING_OF(text) #text
 #define PARALLEL_MOVES_STRING(text) PARALLEL_MOVES_STRING_OF(text)
@@ -143,7 +140,7 @@
 #define PARALLEL_MOVES_WRITERS 6657
 #define PARALLEL_MOVES_EDITS 1025
 #define PARALLEL_MOVES_SLOTS 32835
-#define PARALLEL_MOVES_FRAME 36
+#define PARALLEL_MOVES_FRAME 37
 #define PARALLEL_MOVES_DIVERTED 12288
 #define PARALLEL_MOVES_MARKS 129
 #define PARALLEL_MOVES_CARRIED 2049
@@ -257,13 +254,11 @@ size_t parallel_moves_ask(
 
 /* Takes what was asked for: the cache becomes what resolving the patch would have made
  * it. Returns 0; or 20, the cache as it was, where that cache has taken an answer or
- * resolved a patch since the asking. Of askings and takes this is promised while a cache
- * has taken or resolved fewer than 2^64 patches. Asked of the caller, and not tested:
- * `made`, `stamp` and `slots` are as one asking, which was not refused, left them; `cache`
- * is the one that it was asked for on; and that was not opened since, for this function or
- * another, nor lent to parallel_moves_answer or any call that begins a function. A stamp
- * begins anew with each function, so that an answer of the last one may be taken for one
- * of this. parallel_moves_take_in tests for this where parallel_moves_ask_in asked. */
+ * resolved a patch since the asking, or was opened or cleared for another function. Of
+ * askings and takes this is promised while a cache has fewer than 2^64 patches taken or
+ * resolved and functions opened. Asked of the caller, and not tested: `made`, `stamp` and
+ * `slots` are as one asking, which was not refused, left them, and `cache` is the one that
+ * it was asked for on. parallel_moves_take_in tests for this. */
 PARALLEL_MOVES_LOOK_AT_IT uint8_t parallel_moves_take(
     uint16_t made,
     uint64_t stamp,
@@ -320,11 +315,10 @@ PARALLEL_MOVES_LOOK_AT_IT uint8_t parallel_moves_frame_open(
 /* Opens a formula of an opened frame, number 0 first, with tables of its own; the bytes
  * are as for parallel_moves_open, and their L is read but not used. Returns 0 or the
  * refusal's number, the frame and the cache then as they were: another N than the first
- * formula's is 2, when it is read. Asked of the caller, and not tested: the number is
- * below that of the shares, the formulas are opened in the order of their numbers, none
- * that is open is opened again, and none is opened once a patch of the frame was given or
- * asked for. Else it may answer 0 all the same, and later two formulas have one slot, or a
- * call reads and writes past the frame's table. */
+ * formula's is 2, when it is read. First 2, with nothing changed at all, for a formula that
+ * is not the next: its number is not below that of the shares, it is out of order or open
+ * already, or a slot of the frame is made. After any refusal the same one may be tried
+ * again. */
 PARALLEL_MOVES_LOOK_AT_IT uint8_t parallel_moves_frame_formula(
     uint16_t frame[PARALLEL_MOVES_FRAME],
     size_t formula,
@@ -423,10 +417,10 @@ size_t parallel_moves_frame_ask(
     PARALLEL_MOVES_SYMBOL("parallel_moves_frame_ask");
 
 /* Takes what a formula asked for. Returns 0; or 20, frame and cache as they were, where
- * the formula has taken an answer or resolved a patch since the asking, or another
- * formula made a slot. Asked of the caller, and not tested: `to`, `stamp`, `counter` and
- * `slots` are as one asking of this formula, which was not refused, left them, and neither
- * the frame nor the formula was opened since. */
+ * the formula has taken an answer or resolved a patch since the asking, another formula
+ * made a slot, or the formula's cache was opened anew. Asked of the caller, and not
+ * tested: `to`, `stamp`, `counter` and `slots` are as one asking of this formula, which was
+ * not refused, left them. */
 PARALLEL_MOVES_LOOK_AT_IT uint8_t parallel_moves_frame_take(
     uint16_t frame[PARALLEL_MOVES_FRAME],
     size_t formula,

@@ -22,7 +22,7 @@ grouped SEED COUNT [FAULT]
 #[link(name = "groups_c", kind = "static")]
 #[link(name = "answer_groups_c", kind = "static")]
 unsafe extern "C" {
-    #[link_name = "parallel_moves_open_4"]
+    #[link_name = "parallel_moves_open_5"]
     fn parallel_moves_open(
         kept_evictions: u32,
         bytes: *const u8,
@@ -32,10 +32,10 @@ unsafe extern "C" {
         cache: *mut u16,
     ) -> u8;
 
-    #[link_name = "parallel_moves_made_4"]
+    #[link_name = "parallel_moves_made_5"]
     fn parallel_moves_made(cache: *const u16) -> u16;
 
-    #[link_name = "parallel_moves_resolve_groups_4"]
+    #[link_name = "parallel_moves_resolve_groups_5"]
     fn parallel_moves_resolve_groups(
         target: *const u16,
         function: *const u16,
@@ -66,7 +66,7 @@ unsafe extern "C" {
         joined: *mut u64,
     ) -> usize;
 
-    #[link_name = "parallel_moves_answer_groups_4"]
+    #[link_name = "parallel_moves_answer_groups_5"]
     fn parallel_moves_answer_groups(
         kept_evictions: u32,
         bytes: *const u8,

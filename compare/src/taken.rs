@@ -27,7 +27,7 @@ const NOT_SET: u16 = 0x5a5a;
 #[link(name = "calls_c", kind = "static")]
 #[link(name = "asking_c", kind = "static")]
 unsafe extern "C" {
-    #[link_name = "parallel_moves_open_4"]
+    #[link_name = "parallel_moves_open_5"]
     fn parallel_moves_open(
         kept_evictions: u32,
         bytes: *const u8,
@@ -37,7 +37,7 @@ unsafe extern "C" {
         cache: *mut u16,
     ) -> u8;
 
-    #[link_name = "parallel_moves_resolve_4"]
+    #[link_name = "parallel_moves_resolve_5"]
     fn parallel_moves_resolve(
         target: *const u16,
         function: *const u16,
@@ -61,10 +61,10 @@ unsafe extern "C" {
         carried: *mut u16,
     ) -> usize;
 
-    #[link_name = "parallel_moves_made_4"]
+    #[link_name = "parallel_moves_made_5"]
     fn parallel_moves_made(cache: *const u16) -> u16;
 
-    #[link_name = "parallel_moves_ask_4"]
+    #[link_name = "parallel_moves_ask_5"]
     fn parallel_moves_ask(
         target: *const u16,
         function: *const u16,
@@ -90,7 +90,7 @@ unsafe extern "C" {
         carried: *mut u16,
     ) -> usize;
 
-    #[link_name = "parallel_moves_take_4"]
+    #[link_name = "parallel_moves_take_5"]
     fn parallel_moves_take(made: u16, stamp: u64, slots: *const u16, cache: *mut u16) -> u8;
 }
 

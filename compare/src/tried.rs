@@ -19,7 +19,7 @@ type Table = [u64; 263];
 
 #[link(name = "trying_c", kind = "static")]
 unsafe extern "C" {
-    #[link_name = "parallel_moves_try_4"]
+    #[link_name = "parallel_moves_try_5"]
     fn parallel_moves_try(
         job: *const u8,
         job_len: usize,

@@ -11,7 +11,7 @@
 #[link(name = "trying_c", kind = "static")]
 #[link(name = "examine_c", kind = "static")]
 unsafe extern "C" {
-    #[link_name = "parallel_moves_open_4"]
+    #[link_name = "parallel_moves_open_5"]
     pub fn parallel_moves_open(
         kept_evictions: u32,
         bytes: *const u8,
@@ -21,7 +21,7 @@ unsafe extern "C" {
         cache: *mut u16,
     ) -> u8;
 
-    #[link_name = "parallel_moves_resolve_4"]
+    #[link_name = "parallel_moves_resolve_5"]
     pub fn parallel_moves_resolve(
         target: *const u16,
         function: *const u16,
@@ -45,7 +45,7 @@ unsafe extern "C" {
         carried: *mut u16,
     ) -> usize;
 
-    #[link_name = "parallel_moves_resolve_groups_4"]
+    #[link_name = "parallel_moves_resolve_groups_5"]
     pub fn parallel_moves_resolve_groups(
         target: *const u16,
         function: *const u16,
@@ -76,7 +76,7 @@ unsafe extern "C" {
         joined: *mut u64,
     ) -> usize;
 
-    #[link_name = "parallel_moves_try_4"]
+    #[link_name = "parallel_moves_try_5"]
     pub fn parallel_moves_try(
         job: *const u8,
         job_len: usize,
@@ -99,7 +99,7 @@ unsafe extern "C" {
         carried: *mut u16,
     ) -> u8;
 
-    #[link_name = "parallel_moves_answer_4"]
+    #[link_name = "parallel_moves_answer_5"]
     pub fn parallel_moves_answer(
         kept_evictions: u32,
         job: *const u8,
@@ -122,7 +122,7 @@ unsafe extern "C" {
         carried: *mut u16,
     ) -> usize;
 
-    #[link_name = "parallel_moves_answer_groups_4"]
+    #[link_name = "parallel_moves_answer_groups_5"]
     pub fn parallel_moves_answer_groups(
         kept_evictions: u32,
         job: *const u8,
@@ -152,7 +152,7 @@ unsafe extern "C" {
         numbers: *mut u32,
     ) -> usize;
 
-    #[link_name = "parallel_moves_write_4"]
+    #[link_name = "parallel_moves_write_5"]
     pub fn parallel_moves_write(
         numbers: *const u32,
         numbers_len: usize,
@@ -167,7 +167,7 @@ unsafe extern "C" {
         writers: *mut u16,
     ) -> usize;
 
-    #[link_name = "parallel_moves_examine_4"]
+    #[link_name = "parallel_moves_examine_5"]
     pub fn parallel_moves_examine(
         job: *const u8,
         job_len: usize,

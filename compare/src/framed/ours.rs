@@ -9,10 +9,10 @@ const SHARES: usize = 4;
 
 #[link(name = "frame_c", kind = "static")]
 unsafe extern "C" {
-    #[link_name = "parallel_moves_frame_open_4"]
+    #[link_name = "parallel_moves_frame_open_5"]
     fn frame_open(frame: *mut u16, limit: u32, shares: *const u32, shares_len: usize) -> u8;
 
-    #[link_name = "parallel_moves_frame_formula_4"]
+    #[link_name = "parallel_moves_frame_formula_5"]
     fn frame_formula(
         frame: *mut u16,
         formula: usize,
@@ -24,7 +24,7 @@ unsafe extern "C" {
         cache: *mut u16,
     ) -> u8;
 
-    #[link_name = "parallel_moves_frame_resolve_4"]
+    #[link_name = "parallel_moves_frame_resolve_5"]
     fn frame_resolve(
         frame: *mut u16,
         formula: usize,
@@ -50,7 +50,7 @@ unsafe extern "C" {
         carried: *mut u16,
     ) -> usize;
 
-    #[link_name = "parallel_moves_frame_ask_4"]
+    #[link_name = "parallel_moves_frame_ask_5"]
     fn frame_ask(
         frame: *const u16,
         formula: usize,
@@ -80,7 +80,7 @@ unsafe extern "C" {
         carried: *mut u16,
     ) -> usize;
 
-    #[link_name = "parallel_moves_frame_take_4"]
+    #[link_name = "parallel_moves_frame_take_5"]
     fn frame_take(
         frame: *mut u16,
         formula: usize,
@@ -91,7 +91,7 @@ unsafe extern "C" {
         cache: *mut u16,
     ) -> u8;
 
-    #[link_name = "parallel_moves_frame_made_4"]
+    #[link_name = "parallel_moves_frame_made_5"]
     fn frame_made(frame: *const u16, formula: usize) -> u16;
 }
 
@@ -152,7 +152,7 @@ impl Ours {
     pub fn new(fault: Fault) -> Self {
         Ours {
             fault,
-            frame: shorts(36),
+            frame: shorts(37),
             formulas: Vec::new(),
             list: vec![0; MOST_EDITS],
             entries: shorts(1541),

@@ -125,7 +125,7 @@ fn whole_patches(words: &[u64], room: usize) -> usize {
 
 /// # Safety
 /// As the library's.
-#[unsafe(export_name = "parallel_moves_answer_4")]
+#[unsafe(export_name = "parallel_moves_answer_5")]
 pub unsafe extern "C" fn parallel_moves_answer(
     kept_evictions: u32,
     job: *const u8,
@@ -179,7 +179,7 @@ pub unsafe extern "C" fn parallel_moves_answer(
 
 /// # Safety
 /// As the library's.
-#[unsafe(export_name = "parallel_moves_text_4")]
+#[unsafe(export_name = "parallel_moves_text_5")]
 pub unsafe extern "C" fn parallel_moves_text(
     words: *const u64,
     words_len: usize,

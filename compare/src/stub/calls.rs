@@ -20,7 +20,7 @@ fn opened() -> &'static Mutex<HashMap<usize, Session<'static>>> {
 
 /// # Safety
 /// As the library's.
-#[unsafe(export_name = "parallel_moves_open_4")]
+#[unsafe(export_name = "parallel_moves_open_5")]
 pub unsafe extern "C" fn parallel_moves_open(
     kept_evictions: u32,
     bytes: *const u8,
@@ -54,7 +54,7 @@ pub unsafe extern "C" fn parallel_moves_open(
 
 /// # Safety
 /// As the library's.
-#[unsafe(export_name = "parallel_moves_enough_slots_4")]
+#[unsafe(export_name = "parallel_moves_enough_slots_5")]
 pub unsafe extern "C" fn parallel_moves_enough_slots(
     kept_evictions: u32,
     bytes: *const u8,
@@ -108,7 +108,7 @@ fn overlaps_the_last(session: &Session<'_>, call: &Call) -> bool {
 
 /// # Safety
 /// As the library's.
-#[unsafe(export_name = "parallel_moves_resolve_4")]
+#[unsafe(export_name = "parallel_moves_resolve_5")]
 pub unsafe extern "C" fn parallel_moves_resolve(
     target: *const u16,
     _function: *const u16,
@@ -186,7 +186,7 @@ pub unsafe extern "C" fn parallel_moves_resolve(
 
 /// # Safety
 /// As the library's.
-#[unsafe(export_name = "parallel_moves_made_4")]
+#[unsafe(export_name = "parallel_moves_made_5")]
 pub unsafe extern "C" fn parallel_moves_made(cache: *const u16) -> u16 {
     let made = unsafe { *cache };
     if fault() == "call-made" && made > 0 {

@@ -64,7 +64,7 @@ fn price(
 
 /// # Safety
 /// As the library's.
-#[unsafe(export_name = "parallel_moves_price_4")]
+#[unsafe(export_name = "parallel_moves_price_5")]
 pub unsafe extern "C" fn parallel_moves_price(
     words: *const u64,
     words_len: usize,
@@ -97,7 +97,7 @@ pub unsafe extern "C" fn parallel_moves_price(
 
 /// # Safety
 /// As the library's.
-#[unsafe(export_name = "parallel_moves_price_edits_4")]
+#[unsafe(export_name = "parallel_moves_price_edits_5")]
 pub unsafe extern "C" fn parallel_moves_price_edits(
     list: *const u64,
     list_len: usize,
@@ -113,7 +113,7 @@ pub unsafe extern "C" fn parallel_moves_price_edits(
 
 /// # Safety
 /// As the library's.
-#[unsafe(export_name = "parallel_moves_cheaper_4")]
+#[unsafe(export_name = "parallel_moves_cheaper_5")]
 pub unsafe extern "C" fn parallel_moves_cheaper(
     first: *const u64,
     first_len: usize,

@@ -9,7 +9,7 @@ use crate::faults::fault;
 
 /// # Safety
 /// As the library's.
-#[unsafe(export_name = "parallel_moves_try_4")]
+#[unsafe(export_name = "parallel_moves_try_5")]
 pub unsafe extern "C" fn parallel_moves_try(
     job: *const u8,
     job_len: usize,

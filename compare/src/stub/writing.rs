@@ -32,7 +32,7 @@ fn write_number(bytes: &[u8]) -> u8 {
 
 /// # Safety
 /// As the library's.
-#[unsafe(export_name = "parallel_moves_write_4")]
+#[unsafe(export_name = "parallel_moves_write_5")]
 pub unsafe extern "C" fn parallel_moves_write(
     numbers: *const u32,
     numbers_len: usize,

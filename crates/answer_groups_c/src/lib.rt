@@ -24,7 +24,7 @@ ghost use Rattle.answer_groups.specs.Job.{jobByGroupsIn};
 // A whole job of a function with so many kept evictions, each patch by groups: answers how many words the patches that were resolved have, and sets `refusal` to 01's
 // number or 0: 22, tested before the job, for a setting other than 1 or 2; 16 at a patch for which too few words are left.
 #[no_mangle]
-pub extern "C" fn parallel_moves_answer_groups_4(
+pub extern "C" fn parallel_moves_answer_groups_5(
     kept_evictions: u32,
     bytes: &[u8],
     words: &mut [u64],

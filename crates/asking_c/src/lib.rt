@@ -30,7 +30,7 @@ ghost use Rattle.asking_c.specs.Asked.{AskedAs, TakenAs};
 // `refusal` to 01's number or 0 and, unless it is refused, `made` to the slots that the function has once the answer is taken, `position` to the
 // greatest position that its searches met, and `stamp`. Taking needs `made`, `stamp` and the table `slots` as it is left.
 #[no_mangle]
-pub extern "C" fn parallel_moves_ask_4(
+pub extern "C" fn parallel_moves_ask_5(
     target: &RegInfo,
     function: &Function,
     free: &[u32],
@@ -90,7 +90,7 @@ pub extern "C" fn parallel_moves_ask_4(
 // taken an answer or resolved a patch since the asking. Asked is that `made`, `stamp` and `slots` are as the asking left them, and the cache as the
 // last call on it left it.
 #[no_mangle]
-pub extern "C" fn parallel_moves_take_4(
+pub extern "C" fn parallel_moves_take_5(
     made: u16,
     stamp: u64,
     slots: &Slots,

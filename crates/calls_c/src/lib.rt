@@ -28,7 +28,7 @@ ghost use Rattle.calls_c.specs.Called.{OpenedBy, PlannedBy, CalledAs};
 // Opens the target and the function that the bytes are, with its number of kept evictions, for `parallel_moves_resolve`: answers 0, or 01's number:
 // 22, tested before the bytes, for one other than 1 or 2.
 #[no_mangle]
-pub extern "C" fn parallel_moves_open_4(
+pub extern "C" fn parallel_moves_open_5(
     kept_evictions: u32,
     bytes: &[u8],
     target: &mut RegInfo,
@@ -46,7 +46,7 @@ pub extern "C" fn parallel_moves_open_4(
 // 02 j: the L to plan with: with it no patch of the function that the bytes are gets 17. The bytes are as for `parallel_moves_open`, with any L. Sets
 // `refusal` to 0, or to the number that `parallel_moves_open` answers, and then answers 0. `target` and `function` are worked in.
 #[no_mangle]
-pub extern "C" fn parallel_moves_enough_slots_4(
+pub extern "C" fn parallel_moves_enough_slots_5(
     kept_evictions: u32,
     bytes: &[u8],
     refusal: &mut u8,
@@ -72,7 +72,7 @@ pub extern "C" fn parallel_moves_enough_slots_4(
 // `refusal` to 01's number or 0, and `position`, unless it is refused, to the greatest position that its searches met. Asked is that target, function and cache are as `parallel_moves_open` left them when it answered 0, the cache
 // as the last call on it left it: "nothing else writes the cache between calls".
 #[no_mangle]
-pub extern "C" fn parallel_moves_resolve_4(
+pub extern "C" fn parallel_moves_resolve_5(
     target: &RegInfo,
     function: &Function,
     free: &[u32],
@@ -126,7 +126,7 @@ pub extern "C" fn parallel_moves_resolve_4(
 
 // How many emergency slots the function has.
 #[no_mangle]
-pub extern "C" fn parallel_moves_made_4(cache: &EmergencySpillSlotCache) -> u16
+pub extern "C" fn parallel_moves_made_5(cache: &EmergencySpillSlotCache) -> u16
     ensures { λ n. ⌜ n ≡ cacheOf (now (cache .entry)) .made ⌝ }
 {
     slots::made(cache)

@@ -37,7 +37,7 @@ fn told(r: Examined, refusal: &mut u8) -> u8
 // job, the patch or, with 24, the list is refused; the number is 0 where none is. Patches are counted from 0; those before it are read and not resolved, those behind it are not
 // read; a number that the job has no patch of is 2. The list may have any length.
 #[no_mangle]
-pub extern "C" fn parallel_moves_examine_4(
+pub extern "C" fn parallel_moves_examine_5(
     job: &[u8],
     patch: u32,
     words: &[u64],
@@ -76,7 +76,7 @@ pub extern "C" fn parallel_moves_examine_4(
 
 // The same for a formula of a shared frame: slots below N plus the frame's limit may be named. A limit over 2,048 is 2, tested first.
 #[no_mangle]
-pub extern "C" fn parallel_moves_examine_in_4(
+pub extern "C" fn parallel_moves_examine_in_5(
     limit: u32,
     job: &[u8],
     patch: u32,

@@ -313,7 +313,7 @@ fn run(
 
 // One schedule.
 fn answer(s: &[u8]) {
-    let mut frame = [0u16; 36];
+    let mut frame = [0u16; 37];
     let mut t1 = [0u16; 107520];
     let mut f1 = [0u16; 16388];
     let mut cache1 = [0u16; 65600];

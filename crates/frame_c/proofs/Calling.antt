@@ -62,7 +62,6 @@ module _ (frame frame′ : List ℕ) (i : ℕ) (x : Read job.Opened) (t t′ f f
       go (read.got x rest) h = let e = h .0 in absurd (let z : _≡_ {A = ℕ} 0 1 = cc in omega arith)
 
 module _ (frame frame′ : List ℕ) (i : ℕ) where
-
   module _ (f : List ℕ) (position : ℕ) (list list′ cache cache′ : List ℕ) where
     pub gave-edits : (a : Answer) (n m : ℕ) → GivesIn frame frame′ i f a (R.Edits n m) list list′ cache cache′ → ResolvedBy frame frame′ i f a n 0 position m list list′ cache cache′
     gave-edits (refused k) n m h = let e = h .0 in absurd (let z : _≡_ {A = ℕ} 0 1 = cc in omega arith)

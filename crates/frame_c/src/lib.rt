@@ -38,7 +38,7 @@ ghost use Rattle.frame_c.specs.Called.{FrameBy, FormulaIf, ResolvedBy, A
 // Opens a frame for as many formulas as there are shares: answers 0; or 2 for none or over 16, or for a limit over 2,048, then 23 for shares above the
 // limit, and leaves the frame as it was.
 #[no_mangle]
-pub extern "C" fn parallel_moves_frame_open_4(frame: &mut Frame, limit: u32, shares: &[u32]) -> u8
+pub extern "C" fn parallel_moves_frame_open_5(frame: &mut Frame, limit: u32, shares: &[u32]) -> u8
     ensures { λ r. ⌜ FrameBy limit (now (shares .entry)) (firstOf (shareConditions limit (now (shares .entry)))) r (now (frame .entry)) (now (frame .exit)) ⌝ }
 {
     match frame_table::open_frame(frame, limit, shares) {
@@ -51,7 +51,7 @@ pub extern "C" fn parallel_moves_frame_open_4(frame: &mut Frame, limit: u32, sha
 // read. First 2, and nothing changed, for a formula that is not the next: not below the shares, out of order, open already, or once a slot is made. After
 // a refusal the same one may be tried again.
 #[no_mangle]
-pub extern "C" fn parallel_moves_frame_formula_4(
+pub extern "C" fn parallel_moves_frame_formula_5(
     frame: &mut Frame,
     formula: usize,
     kept_evictions: u32,
@@ -85,7 +85,7 @@ pub extern "C" fn parallel_moves_frame_formula_4(
 
 // One patch of a formula, as `parallel_moves_resolve` has it. A refusal leaves the frame too.
 #[no_mangle]
-pub extern "C" fn parallel_moves_frame_resolve_4(
+pub extern "C" fn parallel_moves_frame_resolve_5(
     frame: &mut Frame,
     formula: usize,
     target: &RegInfo,
@@ -143,7 +143,7 @@ pub extern "C" fn parallel_moves_frame_resolve_4(
 
 // One patch of a formula by groups, as `parallel_moves_resolve_groups` has it. A refusal leaves the frame too.
 #[no_mangle]
-pub extern "C" fn parallel_moves_frame_resolve_groups_4(
+pub extern "C" fn parallel_moves_frame_resolve_groups_5(
     frame: &mut Frame,
     formula: usize,
     target: &RegInfo,
@@ -217,7 +217,7 @@ pub extern "C" fn parallel_moves_frame_resolve_groups_4(
 // Asks for a patch of a formula, as `parallel_moves_ask` does, and changes neither frame nor cache. Unless it is refused, `made` is the formula's own count
 // once the answer is taken; taking needs `to`, `stamp`, `counter` and the table `slots` as they are left.
 #[no_mangle]
-pub extern "C" fn parallel_moves_frame_ask_4(
+pub extern "C" fn parallel_moves_frame_ask_5(
     frame: &Frame,
     formula: usize,
     target: &RegInfo,
@@ -284,7 +284,7 @@ pub extern "C" fn parallel_moves_frame_ask_4(
 // Takes what a formula asked for: answers 0; or first 20, frame and cache as they were, where the formula has taken an answer or resolved a patch since the
 // asking, or the frame's counter has gone on.
 #[no_mangle]
-pub extern "C" fn parallel_moves_frame_take_4(
+pub extern "C" fn parallel_moves_frame_take_5(
     frame: &mut Frame,
     formula: usize,
     to: u16,
@@ -311,7 +311,7 @@ pub extern "C" fn parallel_moves_frame_take_4(
 
 // How many emergency slots a formula has made.
 #[no_mangle]
-pub extern "C" fn parallel_moves_frame_made_4(frame: &Frame, formula: usize) -> u16
+pub extern "C" fn parallel_moves_frame_made_5(frame: &Frame, formula: usize) -> u16
     requires { ⌜ formula < 16 ⌝ }
     ensures { λ n. ⌜ n ≡ madeOf (now (frame .entry)) formula ⌝ }
 {

@@ -301,7 +301,8 @@ module _ (t f : ℕ → List ℕ) (limit : ℕ) (l : List Inlined) (frame₀ : L
   unfolding any
   claimed [] k s b low n c = tt
   claimed (x ∷ xs) k s b low n c =
-      let low′ = λ e. few-next (requestOf t f (x .formula) (x .kind)) (x .formula) (callsOf t f xs) s (low (later-of (isTake x) (any isTake xs) e)) in
+      let low′ : (any isTake xs ≡ true → FewAfter (callsOf t f xs) (ruledAfter t f s x)) =
+      λ e. few-next (requestOf t f (x .formula) (x .kind)) (x .formula) (callsOf t f xs) s (low (later-of (isTake x) (any isTake xs) e)) in
       let y = step k s b (x .formula) (n .0) (x .frame) (x .cache) (x .kind) (c .0) (λ e. few-now (callsOf t f (x ∷ xs)) s (low (first-of (isTake x) (any isTake xs) e)) (x .formula) (n .0)) in
       (y .0, same t f limit l (B .opens) (B .target) (B .function) starts (after t f k x) (ruledAfter t f s x) (y .1), claimed xs (after t f k x) (ruledAfter t f s x) (y .1) low′ (n .1) (c .1))
 

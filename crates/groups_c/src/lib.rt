@@ -27,7 +27,7 @@ ghost use Rattle.groups_c.specs.Called.{CalledAs};
 // Resolves a patch, given as to `parallel_moves_resolve`, by groups: answers how many edits stand at the front of `list`, and sets `refusal` to 01's
 // number or 0, and `position`, unless it is refused, to the greatest position that its searches met. Asked is as for `parallel_moves_resolve`.
 #[no_mangle]
-pub extern "C" fn parallel_moves_resolve_groups_4(
+pub extern "C" fn parallel_moves_resolve_groups_5(
     target: &RegInfo,
     function: &Function,
     free: &[u32],

@@ -18,7 +18,7 @@ ghost use Rattle.job_writer_c.specs.Told.{ToldAs};
 // Writes a job, given as all its numbers, to the front of `bytes`: answers its length, and sets `refusal` to 0; or answers 0, and sets `refusal` to
 // the number by which the reader would refuse it, or to 18, where `bytes` are too few. Then no byte is written.
 #[no_mangle]
-pub extern "C" fn parallel_moves_write_4(
+pub extern "C" fn parallel_moves_write_5(
     numbers: &[u32],
     bytes: &mut [u8],
     refusal: &mut u8,
@@ -55,7 +55,7 @@ pub extern "C" fn parallel_moves_write_4(
 
 // Writes the shipped target to the front of `work`, as a job on it begins, and answers how many bytes it has. What stands past them may be anything.
 #[no_mangle]
-pub extern "C" fn parallel_moves_shipped_4(work: &mut Work, target: &mut RegInfo) -> usize
+pub extern "C" fn parallel_moves_shipped_5(work: &mut Work, target: &mut RegInfo) -> usize
     ensures { λ n. ⌜ (n ≡ length (bytesOf (targetNumbers shipped))) × (take n (now (work .exit)) ≡ bytesOf (targetNumbers shipped)) × Anything (now (target .exit)) ⌝ }
 {
     shipped::fill(target);

@@ -21,7 +21,7 @@ ghost use Rattle.answer.specs.Answered.{AnsweredAs};
 // A whole job of a function with so many kept evictions: answers how many words the patches that were resolved have, and sets `refusal` to 01's
 // number or 0: 22, tested before the job, for a setting other than 1 or 2; 16 at a patch for which too few words are left.
 #[no_mangle]
-pub extern "C" fn parallel_moves_answer_4(
+pub extern "C" fn parallel_moves_answer_5(
     kept_evictions: u32,
     bytes: &[u8],
     words: &mut [u64],
@@ -74,7 +74,7 @@ pub extern "C" fn parallel_moves_answer_4(
 
 // The text of an answer, as the program `resolve` prints it: answers its length, or 0 where `text` is too short and holds the lines that fit.
 #[no_mangle]
-pub extern "C" fn parallel_moves_text_4(words: &[u64], refusal: u8, text: &mut [u8]) -> usize
+pub extern "C" fn parallel_moves_text_5(words: &[u64], refusal: u8, text: &mut [u8]) -> usize
     ensures { λ r. ⌜ Printed (now (text .entry)) (now (text .exit)) (answerText (now (words .entry)) refusal) r ⌝ }
 {
     answer_text::put_answer(text, words, refusal)

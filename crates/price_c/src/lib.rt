@@ -63,7 +63,7 @@ fn put_price(
 // answers 0. Or it answers a number, and sets nothing: 19 for a run count from 2^26 on or a price over 65,535, then 2 for a patch that there is not,
 // where a head counts over 1,024 edits or beyond the words.
 #[no_mangle]
-pub extern "C" fn parallel_moves_price_4(
+pub extern "C" fn parallel_moves_price_5(
     words: &[u64],
     patch: usize,
     prices: &[u32; 4],
@@ -89,7 +89,7 @@ pub extern "C" fn parallel_moves_price_4(
 
 // The same of the edits that one call gave, without a head; 2 for over 1,024 words.
 #[no_mangle]
-pub extern "C" fn parallel_moves_price_edits_4(
+pub extern "C" fn parallel_moves_price_edits_5(
     list: &[u64],
     prices: &[u32; 4],
     runs: u64,
@@ -111,7 +111,7 @@ pub extern "C" fn parallel_moves_price_edits_4(
 
 // 02 f: which of two edit lists is the cheaper, 1 or 2, and 1 where both cost the same; or 19, for a price over 65,535 or a list of over 65,536 entries.
 #[no_mangle]
-pub extern "C" fn parallel_moves_cheaper_4(first: &[u64], second: &[u64], prices: &[u32; 4]) -> u8
+pub extern "C" fn parallel_moves_cheaper_5(first: &[u64], second: &[u64], prices: &[u32; 4]) -> u8
     ensures { λ r. ⌜ r ≡ choiceNumber (choiceOf (pricesIn (now (prices .entry))) (now (first .entry)) (now (second .entry))) ⌝ }
 {
     match cheaper::choose(prices_of(prices), first, second) {

@@ -102,9 +102,9 @@ other-stands frame frame′ i t f cache slots left n m o h l x =
     }
 
 -- ---- its own
-pub can-of : {start count : ℕ} (frame : List ℕ) (i : ℕ) (f cache slots : List ℕ) (left : Left) → WaitsIf start count frame i f cache slots left → CanTakeIf frame i left slots cache
-can-of frame i f cache slots Nothing w = tt
-can-of frame i f cache slots (Held a) w = λ s c. w .can s c .0
+pub can-of : (start count : ℕ) (frame : List ℕ) (i : ℕ) (f cache slots : List ℕ) (left : Left) → WaitsIf start count frame i f cache slots left → CanTakeIf frame i left slots cache
+can-of start count frame i f cache slots Nothing w = tt
+can-of start count frame i f cache slots (Held a) w = λ s c. w .can s c .0
 
 -- an answer that was left before a patch was taken or resolved
 waits-late : (start count : ℕ) → count + 1 < 18446744073709551616 → (frame frame′ : List ℕ) (i : ℕ) (f cache cache′ slots : List ℕ) (left : Left) → counterOf frame ≤ counterOf frame′

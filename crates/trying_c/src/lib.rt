@@ -34,7 +34,7 @@ fn prices_of(prices: &[u32; 4]) -> Prices
 // and both tables are left as they were: 2 for a count of patches outside 1 to 1,024, then that of the job's opening, 19 after 7 for a price over
 // 65,535. Of the job's own patches only the count is read.
 #[no_mangle]
-pub extern "C" fn parallel_moves_try_4(
+pub extern "C" fn parallel_moves_try_5(
     job: &[u8],
     prices: &[u32; 4],
     seed: u32,

@@ -7,7 +7,7 @@ use super::{
 use crate::entity::RegUnit;
 
 unsafe extern "C" {
-    #[link_name = "parallel_moves_ask_4"]
+    #[link_name = "parallel_moves_ask_5"]
     fn parallel_moves_ask(
         target: &RegInfo,
         function: &Function,
@@ -33,7 +33,7 @@ unsafe extern "C" {
         carried: &mut Carried,
     ) -> usize;
 
-    #[link_name = "parallel_moves_take_4"]
+    #[link_name = "parallel_moves_take_5"]
     fn parallel_moves_take(
         made: u16,
         stamp: u64,

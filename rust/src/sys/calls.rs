@@ -9,7 +9,7 @@ use super::{
 use crate::entity::RegUnit;
 
 unsafe extern "C" {
-    #[link_name = "parallel_moves_open_4"]
+    #[link_name = "parallel_moves_open_5"]
     fn parallel_moves_open(
         kept_evictions: u32,
         bytes: *const u8,
@@ -19,7 +19,7 @@ unsafe extern "C" {
         cache: &mut EmergencySpillSlotCache,
     ) -> u8;
 
-    #[link_name = "parallel_moves_enough_slots_4"]
+    #[link_name = "parallel_moves_enough_slots_5"]
     fn parallel_moves_enough_slots(
         kept_evictions: u32,
         bytes: *const u8,
@@ -29,7 +29,7 @@ unsafe extern "C" {
         function: &mut Function,
     ) -> u16;
 
-    #[link_name = "parallel_moves_resolve_4"]
+    #[link_name = "parallel_moves_resolve_5"]
     fn parallel_moves_resolve(
         target: &RegInfo,
         function: &Function,
@@ -53,7 +53,7 @@ unsafe extern "C" {
         carried: &mut Carried,
     ) -> usize;
 
-    #[link_name = "parallel_moves_made_4"]
+    #[link_name = "parallel_moves_made_5"]
     safe fn parallel_moves_made(cache: &EmergencySpillSlotCache) -> u16;
 }
 

@@ -10,7 +10,7 @@ type Cells = [u16; 67_072];
 type Words = [u16; 10];
 
 unsafe extern "C" {
-    #[link_name = "parallel_moves_examine_4"]
+    #[link_name = "parallel_moves_examine_5"]
     fn parallel_moves_examine(
         job: *const u8,
         job_length: usize,
@@ -30,7 +30,7 @@ unsafe extern "C" {
         asked: &mut Words,
     ) -> u8;
 
-    #[link_name = "parallel_moves_examine_in_4"]
+    #[link_name = "parallel_moves_examine_in_5"]
     fn parallel_moves_examine_in(
         limit: u32,
         job: *const u8,

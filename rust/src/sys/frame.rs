@@ -10,10 +10,10 @@ use super::{
 use crate::entity::RegUnit;
 
 /// A frame that formulas share.
-type Frame = [u16; 36];
+type Frame = [u16; 37];
 
 unsafe extern "C" {
-    #[link_name = "parallel_moves_frame_open_4"]
+    #[link_name = "parallel_moves_frame_open_5"]
     fn parallel_moves_frame_open(
         frame: &mut Frame,
         limit: u32,
@@ -21,7 +21,7 @@ unsafe extern "C" {
         shares_length: usize,
     ) -> u8;
 
-    #[link_name = "parallel_moves_frame_formula_4"]
+    #[link_name = "parallel_moves_frame_formula_5"]
     fn parallel_moves_frame_formula(
         frame: &mut Frame,
         formula: usize,
@@ -33,7 +33,7 @@ unsafe extern "C" {
         cache: &mut EmergencySpillSlotCache,
     ) -> u8;
 
-    #[link_name = "parallel_moves_frame_resolve_4"]
+    #[link_name = "parallel_moves_frame_resolve_5"]
     fn parallel_moves_frame_resolve(
         frame: &mut Frame,
         formula: usize,
@@ -59,7 +59,7 @@ unsafe extern "C" {
         carried: &mut Carried,
     ) -> usize;
 
-    #[link_name = "parallel_moves_frame_resolve_groups_4"]
+    #[link_name = "parallel_moves_frame_resolve_groups_5"]
     fn parallel_moves_frame_resolve_groups(
         frame: &mut Frame,
         formula: usize,
@@ -92,7 +92,7 @@ unsafe extern "C" {
         joined: &mut Joined,
     ) -> usize;
 
-    #[link_name = "parallel_moves_frame_ask_4"]
+    #[link_name = "parallel_moves_frame_ask_5"]
     fn parallel_moves_frame_ask(
         frame: &Frame,
         formula: usize,
@@ -122,7 +122,7 @@ unsafe extern "C" {
         carried: &mut Carried,
     ) -> usize;
 
-    #[link_name = "parallel_moves_frame_take_4"]
+    #[link_name = "parallel_moves_frame_take_5"]
     fn parallel_moves_frame_take(
         frame: &mut Frame,
         formula: usize,
@@ -133,7 +133,7 @@ unsafe extern "C" {
         cache: &mut EmergencySpillSlotCache,
     ) -> u8;
 
-    #[link_name = "parallel_moves_frame_made_4"]
+    #[link_name = "parallel_moves_frame_made_5"]
     fn parallel_moves_frame_made(frame: &Frame, formula: usize) -> u16;
 }
 

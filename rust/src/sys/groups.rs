@@ -10,7 +10,7 @@ use crate::entity::RegUnit;
 type Numbers = [u32; 512];
 
 unsafe extern "C" {
-    #[link_name = "parallel_moves_resolve_groups_4"]
+    #[link_name = "parallel_moves_resolve_groups_5"]
     fn parallel_moves_resolve_groups(
         target: &RegInfo,
         function: &Function,
@@ -41,7 +41,7 @@ unsafe extern "C" {
         joined: &mut Joined,
     ) -> usize;
 
-    #[link_name = "parallel_moves_answer_groups_4"]
+    #[link_name = "parallel_moves_answer_groups_5"]
     fn parallel_moves_answer_groups(
         kept_evictions: u32,
         job: *const u8,

@@ -6,7 +6,7 @@ use super::{
 };
 
 unsafe extern "C" {
-    #[link_name = "parallel_moves_answer_4"]
+    #[link_name = "parallel_moves_answer_5"]
     fn parallel_moves_answer(
         kept_evictions: u32,
         job: *const u8,
@@ -29,7 +29,7 @@ unsafe extern "C" {
         carried: &mut Carried,
     ) -> usize;
 
-    #[link_name = "parallel_moves_text_4"]
+    #[link_name = "parallel_moves_text_5"]
     fn parallel_moves_text(
         words: *const u64,
         words_length: usize,

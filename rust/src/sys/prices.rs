@@ -4,7 +4,7 @@ use super::Prices;
 use crate::price::{Choice, Edge};
 
 unsafe extern "C" {
-    #[link_name = "parallel_moves_price_4"]
+    #[link_name = "parallel_moves_price_5"]
     fn parallel_moves_price(
         words: *const u64,
         words_length: usize,
@@ -16,7 +16,7 @@ unsafe extern "C" {
         product: &mut f64,
     ) -> u8;
 
-    #[link_name = "parallel_moves_price_edits_4"]
+    #[link_name = "parallel_moves_price_edits_5"]
     fn parallel_moves_price_edits(
         list: *const u64,
         list_length: usize,
@@ -27,7 +27,7 @@ unsafe extern "C" {
         product: &mut f64,
     ) -> u8;
 
-    #[link_name = "parallel_moves_cheaper_4"]
+    #[link_name = "parallel_moves_cheaper_5"]
     fn parallel_moves_cheaper(
         first: *const u64,
         first_length: usize,

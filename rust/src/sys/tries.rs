@@ -9,7 +9,7 @@ use super::{
 pub(crate) type Tally = [u64; 263];
 
 unsafe extern "C" {
-    #[link_name = "parallel_moves_try_4"]
+    #[link_name = "parallel_moves_try_5"]
     fn parallel_moves_try(
         job: *const u8,
         job_length: usize,

@@ -6,7 +6,7 @@ use super::{Entries, Function, RegInfo, RegUnitSet, SparseMap, table};
 type Work = [u8; 65_536];
 
 unsafe extern "C" {
-    #[link_name = "parallel_moves_write_4"]
+    #[link_name = "parallel_moves_write_5"]
     fn parallel_moves_write(
         numbers: *const u32,
         numbers_length: usize,
@@ -21,7 +21,7 @@ unsafe extern "C" {
         writers: &mut SparseMap,
     ) -> usize;
 
-    #[link_name = "parallel_moves_shipped_4"]
+    #[link_name = "parallel_moves_shipped_5"]
     fn parallel_moves_shipped(work: &mut Work, target: &mut RegInfo) -> usize;
 }
 

@@ -18,7 +18,7 @@ extern crate stub;
 #[cfg_attr(not(stub), link(name = "trying_c", kind = "static"))]
 #[cfg_attr(not(stub), link(name = "examine_c", kind = "static"))]
 unsafe extern "C" {
-    #[link_name = "parallel_moves_open_4"]
+    #[link_name = "parallel_moves_open_5"]
     pub fn parallel_moves_open(
         kept_evictions: u32,
         bytes: *const u8,
@@ -28,7 +28,7 @@ unsafe extern "C" {
         cache: *mut u16,
     ) -> u8;
 
-    #[link_name = "parallel_moves_resolve_4"]
+    #[link_name = "parallel_moves_resolve_5"]
     pub fn parallel_moves_resolve(
         target: *const u16,
         function: *const u16,
@@ -52,10 +52,10 @@ unsafe extern "C" {
         carried: *mut u16,
     ) -> usize;
 
-    #[link_name = "parallel_moves_made_4"]
+    #[link_name = "parallel_moves_made_5"]
     pub fn parallel_moves_made(cache: *const u16) -> u16;
 
-    #[link_name = "parallel_moves_enough_slots_4"]
+    #[link_name = "parallel_moves_enough_slots_5"]
     pub fn parallel_moves_enough_slots(
         kept_evictions: u32,
         bytes: *const u8,
@@ -65,7 +65,7 @@ unsafe extern "C" {
         function: *mut u16,
     ) -> u16;
 
-    #[link_name = "parallel_moves_answer_4"]
+    #[link_name = "parallel_moves_answer_5"]
     pub fn parallel_moves_answer(
         kept_evictions: u32,
         job: *const u8,
@@ -88,7 +88,7 @@ unsafe extern "C" {
         carried: *mut u16,
     ) -> usize;
 
-    #[link_name = "parallel_moves_price_4"]
+    #[link_name = "parallel_moves_price_5"]
     pub fn parallel_moves_price(
         words: *const u64,
         words_len: usize,
@@ -100,7 +100,7 @@ unsafe extern "C" {
         product: &mut f64,
     ) -> u8;
 
-    #[link_name = "parallel_moves_price_edits_4"]
+    #[link_name = "parallel_moves_price_edits_5"]
     pub fn parallel_moves_price_edits(
         list: *const u64,
         list_len: usize,
@@ -111,7 +111,7 @@ unsafe extern "C" {
         product: &mut f64,
     ) -> u8;
 
-    #[link_name = "parallel_moves_cheaper_4"]
+    #[link_name = "parallel_moves_cheaper_5"]
     pub fn parallel_moves_cheaper(
         first: *const u64,
         first_len: usize,
@@ -120,7 +120,7 @@ unsafe extern "C" {
         prices: &Prices,
     ) -> u8;
 
-    #[link_name = "parallel_moves_try_4"]
+    #[link_name = "parallel_moves_try_5"]
     pub fn parallel_moves_try(
         job: *const u8,
         job_len: usize,
@@ -143,7 +143,7 @@ unsafe extern "C" {
         carried: *mut u16,
     ) -> u8;
 
-    #[link_name = "parallel_moves_text_4"]
+    #[link_name = "parallel_moves_text_5"]
     pub fn parallel_moves_text(
         words: *const u64,
         words_len: usize,
@@ -152,7 +152,7 @@ unsafe extern "C" {
         text_len: usize,
     ) -> usize;
 
-    #[link_name = "parallel_moves_write_4"]
+    #[link_name = "parallel_moves_write_5"]
     pub fn parallel_moves_write(
         numbers: *const u32,
         numbers_len: usize,

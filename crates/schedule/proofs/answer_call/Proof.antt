@@ -25,7 +25,7 @@ put-taken-requires : tie.Need-put-taken-requires
 put-taken-requires c κs =
     let s = c .before .before .before .before .before .before .before .before .before .before .before in
     let a = s .args in
-    (s .pre .0, s .pre .1, can-of (a .frame .now) (a .i) (a .f .now) (a .cache .now) (a .slots .now) (a .left) (s .pre .2 .waits), s .pre .3)
+    (s .pre .0, s .pre .1, can-of (s .pre .2 .start) (s .pre .2 .count) (a .frame .now) (a .i) (a .f .now) (a .cache .now) (a .slots .now) (a .left) (s .pre .2 .waits), s .pre .3)
 
 same-length : tie.Need-same-length
 same-length c = search needs
