@@ -11,6 +11,6 @@
 /// ```
 /// let words: Vec<&str> = parallel_moves::BUILD.split(' ').collect();
 /// assert_eq!(words[0], "parallel_moves");
-/// assert_eq!(words[2..5], ["interface", "4", "library"]);
+/// assert_eq!(words[2..5], ["interface", "5", "library"]);
 /// ```
 pub const BUILD: &str = env!("PARALLEL_MOVES_BUILD");
