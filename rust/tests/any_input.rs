@@ -174,9 +174,8 @@ fn any_job() {
         }
         let Ok(built) = built else { continue };
         // Written or not, it is with the number that reading gives.
-        if round % 4 == 0
-            && let Err(error) = built.bytes()
-        {
+        let written = (round % 4 == 0).then(|| built.bytes());
+        if let Some(Err(error)) = written {
             is_message(&error.to_string());
         }
         if round % 8 != 0 {
@@ -188,9 +187,8 @@ fn any_job() {
             Some(fault) => is_message(&fault.to_string()),
             None => assert!(examine(&job, 0, words) != Ok(false)),
         }
-        if let Some(edits) = edits
-            && let Some(picture) = Picture::of("any", &built, 1, edits)
-        {
+        let picture = edits.and_then(|edits| Picture::of("any", &built, 1, edits));
+        if let Some(picture) = picture {
             assert!(picture.to_string().lines().count() > 3);
             assert!(picture.page().contains("</svg>") && picture.drawing().contains("</svg>"));
         }
