@@ -144,8 +144,8 @@ module _ (t : RegInfo) (f : Function)
           done (and (canRematerialize f v) (inClass t (rematClass f v) to)) (wrote t f to (γ v) (s .waiting) s) (wrote t f to (content v) (s′ .waiting) s′) s₁ (h .0) (h .1)
           (written to (γ v) (content v) (s .waiting) (s′ .waiting) s s′ (same v vn) (λ _. few v vn) i)
       step-image most (EmergencySpill x r) s s₁ s′ n i d =
-          let w : List Waiting = record { reg = r; slot = x } ∷ without r (s .waiting) in
-          let w′ : List Waiting = record { reg = r; slot = x } ∷ without r (s′ .waiting) in
+          let w : List Waiting = record { reg = r; slot = x; words = read t f (s .memory) (reg r) } ∷ without r (s .waiting) in
+          let w′ : List Waiting = record { reg = r; slot = x; words = read t f (s′ .memory) (reg r) } ∷ without r (s′ .waiting) in
           let a : Machine = wrote t f (slot x) (read t f (s .memory) (reg r)) w s in
           let b : Machine = wrote t f (slot x) (read t f (s′ .memory) (reg r)) w′ s′ in
           let e : a ≡ s₁ = cc in

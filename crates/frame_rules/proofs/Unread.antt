@@ -1,6 +1,6 @@
 -- L is read by none of demand 3's definitions: what is right of a function is right of it with another L.
 use Prim.Native.Nat.{ℕ}
-use mathlib.Core.Path.{_≡_, refl, ap, _∙_}
+use mathlib.Core.Path.{_≡_, refl, sym, ap, _∙_}
 use mathlib.Core.List.{List, [], _∷_}
 use mathlib.Core.Option.{Option, none, some}
 use lib.ListN.{take}
@@ -10,7 +10,7 @@ use Rattle.rules.specs.Edit.{Edit, Move, Rematerialize, EmergencySpill, Emergen
 use Rattle.rules.specs.Patch.{Entry, move, remat, Patch, Sorted, nothingSorted, add, sortedFrom, sorted, Answer, refused, resolved}
 use Rattle.rules.specs.Refusals.{withLimit}
 use Rattle.machine.specs.Machine.{Memory, Machine, Waiting, begin, read, write, fits, step, steps, counted}
-use Rattle.machine.specs.Claim.{Holding, Stopped, Finished, Right, Accepted, Answered}
+use Rattle.machine.specs.Claim.{Holding, Stopped, Finished, Right, Keeps, Accepted, Answered}
 
 module _ (t : RegInfo) (f : Function) (l : ℕ) where
   abbrev F : Function
@@ -69,6 +69,9 @@ module _ (t : RegInfo) (f : Function) (l : ℕ) where
     unfolding read
     finished-same s h = record { entries = h .entries; none-waits = h .none-waits }
 
+    keeps-same : (es : List Edit) → Keeps t F p content es → Keeps t f p content es
+    keeps-same es h start hold k s e = h start (holding-same start hold) k s (sym (steps-same content (take k es) (begin start)) ∙ e)
+
     right-same : (es : List Edit) → Right t F p content es → Right t f p content es
     right-same es h start hold =
         let r = h start (holding-same start hold) in
@@ -79,7 +82,7 @@ module _ (t : RegInfo) (f : Function) (l : ℕ) where
 
   accepted-same : (p : Patch) (es : List Edit) → Accepted t F p es → Accepted t f p es
   unfolding valueBank
-  accepted-same p es h = record { right = λ content whole. right-same p content es (h .right content whole); few = rw (sorted-same (p .entries) nothingSorted) (h .few) }
+  accepted-same p es h = record { right = λ content whole. right-same p content es (h .right content whole); few = rw (sorted-same (p .entries) nothingSorted) (h .few); saved = λ content whole. keeps-same p content es (h .saved content whole) }
 
   pub answered-same : (p : Patch) (r : Answer) → Answered t F p r → Answered t f p r
   answered-same p (refused n) h = tt

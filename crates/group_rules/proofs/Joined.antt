@@ -25,7 +25,7 @@ use Rattle.rules.specs.Order.{KeptMove, noMove}
 use Rattle.rules.specs.Patch.{Entry, move, remat, Patch, Sorted, nothingSorted, bound, Answer, refused, resolved, unlessRefused, cacheAfter, add, sorted, namesPlace, entryConditions, patchConditions, resolve}
 use Rattle.rules.specs.Refusals.{entriesConditions}
 use Rattle.machine.specs.Machine.{Memory, inSlot, Waiting, Written, Machine, begin, read, steps, seen, counted}
-use Rattle.machine.specs.Claim.{entryDest, entryValue, Contents, kept, numKept, Holding, OfValue, IsScratch, Stopped, Finished, RightFrom, Accepted, Answered}
+use Rattle.machine.specs.Claim.{entryDest, entryValue, Contents, kept, numKept, Holding, OfValue, IsScratch, Saved, Stopped, Finished, RightFrom, Keeps, Accepted, Answered}
 use Rattle.machine.proofs.Entries.{dests-are}
 use Rattle.machine.proofs.Cache.{CacheOk}
 use Rattle.machine.proofs.Demand.{called}
@@ -351,20 +351,20 @@ module _ (t : RegInfo) (f : Function) (ta : target.Accepted t) (fa : function.Ac
 
     -- ---- the groups one after the other
     record RunsOn (m : Memory) (w : List Written) (es : List Edit) : Type 0 where
-      stops : (k : ℕ) → (s : Machine) × (steps t f content (take k es) (extended w (begin m)) ≡ some s) × Stopped t f p content start s
+      stops : (k : ℕ) → (s : Machine) × (steps t f content (take k es) (extended w (begin m)) ≡ some s) × Stopped t f p content start s × Saved s
       ends : (s : Machine) × (steps t f content es (extended w (begin m)) ≡ some s) × Finished t f p content s
 
     none-left : (D : ℕ → Type 0) (m : Memory) (w : List Written) → Begun D [] m → RunsOn m w []
     unfolding steps
-    none-left D m w b = record { stops = λ k. (extended w (begin m), nothing k, stopped-last D m w b); ends = (extended w (begin m), refl, finished-last D m w b) }
+    none-left D m w b = record { stops = λ k. (extended w (begin m), nothing k, stopped-last D m w b, λ x h. absurd (List·Memᴰ·not-nil h)); ends = (extended w (begin m), refl, finished-last D m w b) }
       where
         nothing : (k : ℕ) → steps t f content (take k []) (extended w (begin m)) ≡ some (extended w (begin m))
         nothing zero = refl
         nothing (suc k) = refl
 
     one-more : (D : ℕ → Type 0) (g : ℕ) (rest : List ℕ) (m : Memory) (w : List Written) (b : Begun D (g ∷ rest) m) (fresh : has g rest ≡ false) (es fs : List Edit)
-        → RightFrom t f (piece g) content m es → ((m′ : Memory) (w′ : List Written) → Begun (λ x. D x ⊎ (x ≡ g)) rest m′ → RunsOn m′ w′ fs) → RunsOn m w (es ++ fs)
-    one-more D g rest m w b fresh es fs r on =
+        → RightFrom t f (piece g) content m es → ((k : ℕ) (s : Machine) → steps t f content (take k es) (begin m) ≡ some s → Saved s) → ((m′ : Memory) (w′ : List Written) → Begun (λ x. D x ⊎ (x ≡ g)) rest m′ → RunsOn m′ w′ fs) → RunsOn m w (es ++ fs)
+    one-more D g rest m w b fresh es fs r kp on =
         record {
           stops = λ k. go k (below? (length es) k);
           ends = (onward .ends .0, steps-then t f content es fs (extended w (begin m)) then ran ∙ onward .ends .1, onward .ends .2);
@@ -391,18 +391,20 @@ module _ (t : RegInfo) (f : Function) (ta : target.Accepted t) (fa : function.Ac
         onward : RunsOn (s .memory) (s .written ++ w) fs
         onward = on (s .memory) (s .written ++ w) (next D g rest m b fresh s st (r .ends .2))
 
-        go : (k : ℕ) → (length es < k) ⊎ (k ≤ length es) → (x : Machine) × (steps t f content (take k (es ++ fs)) (extended w (begin m)) ≡ some x) × Stopped t f p content start x
+        go : (k : ℕ) → (length es < k) ⊎ (k ≤ length es) → (x : Machine) × (steps t f content (take k (es ++ fs)) (extended w (begin m)) ≡ some x) × Stopped t f p content start x × Saved x
         go k (inr n) =
             let y = r .stops k in (
               extended w (y .0),
               ap (λ (l : List Edit). steps t f content l (extended w (begin m))) (take-short k es fs (omega arith)) ∙ steps-extended t f content w (take k es) (begin m) (y .0) (y .1),
               stopped-in D g rest m b fresh (y .0) (y .2) w,
+              kp k (y .0) (y .1),
             )
         go k (inl n) =
             let y = onward .stops (k - length es) in (
               y .0,
               ap (λ (l : List Edit). steps t f content l (extended w (begin m))) (take-long k es fs (omega arith)) ∙ steps-then t f content es (take (k - length es) fs) (extended w (begin m)) then ran ∙ y .1,
               y .2,
+              y .3,
             )
 
     -- whatever the caches, the groups' edits run on
@@ -414,8 +416,9 @@ module _ (t : RegInfo) (f : Function) (ta : target.Accepted t) (fa : function.Ac
         let q = or-false (has g rest) (twice rest) o in
         let j = joint (resolve t f (piece g) room c) (λ d. resolveParts t f (map piece rest) room d) es c′ n e in
         let k = called t f ta fa (record { patch = piece g; room = room }) c co (resolved (j .front) (j .between) (j .at)) (j .first) in
+        let h = b .holds g (or-left (eqb g g) (has g rest) (eq-eqb g g refl)) in
         subst (RunsOn m w) (sym (j .edits))
-        (one-more D g rest m w b (q .0) (j .front) (j .back) (k .0 .right content whole m (b .holds g (or-left (eqb g g) (has g rest) (eq-eqb g g refl))))
+        (one-more D g rest m w b (q .0) (j .front) (j .back) (k .0 .right content whole m h) (k .0 .saved content whole m h)
         (λ m′ w′ b′. groups-run rest (q .1) (λ x. D x ⊎ (x ≡ g)) (j .between) c′ (j .back) (j .at′) (k .1) (j .rest) m′ w′ b′))
 
     begun : Holding t f p content start → Begun (λ x. ⊥) gs start
@@ -435,7 +438,16 @@ module _ (t : RegInfo) (f : Function) (ta : target.Accepted t) (fa : function.Ac
     unfolding parts
     right-from c c′ es n co e hold =
         let r = groups-run gs (once t f ta p) (λ x. ⊥) c c′ es n co e start [] (begun hold) in
-        record { stops = r .stops; ends = r .ends }
+        record { stops = λ k. let y = r .stops k in (y .0, y .1, y .2); ends = r .ends }
+
+    keeps-from : (c c′ : Cache) (es : List Edit) (n : ℕ) → CacheOk t f c → resolveParts t f (parts t p) room c ≡ resolved es c′ n → Holding t f p content start
+        → (k : ℕ) (s : Machine) → steps t f content (take k es) (begin start) ≡ some s → Saved s
+    unfolding parts
+    keeps-from c c′ es n co e hold k s d =
+        let r = groups-run gs (once t f ta p) (λ x. ⊥) c c′ es n co e start [] (begun hold) in
+        let y = r .stops k in
+        let z : y .0 ≡ s = let a = y .1 in cc in
+        subst Saved z (y .3)
 
   -- the cache is one to go on with, and the groups' bounds add up
   groups-few : (rest : List ℕ) (c c′ : Cache) (es : List Edit) (n : ℕ) → CacheOk t f c → resolveParts t f (map piece rest) room c ≡ resolved es c′ n
@@ -452,7 +464,7 @@ module _ (t : RegInfo) (f : Function) (ta : target.Accepted t) (fa : function.Ac
   unfolding parts
   parts-right c c′ es n co e =
       let y = groups-few gs c c′ es n co e in
-      (record { right = λ content whole start hold. right-from content whole start c c′ es n co e hold; few = rw (sp .bounds) (y .1) }, y .0)
+      (record { right = λ content whole start hold. right-from content whole start c c′ es n co e hold; few = rw (sp .bounds) (y .1); saved = λ content whole start hold. keeps-from content whole start c c′ es n co e hold }, y .0)
 
 -- a call by groups that is not refused passed the whole patch's tests
 pub passed-whole : (t : RegInfo) (f : Function) (p : Patch) (room : ℕ) (c c′ : Cache) (es : List Edit) (n : ℕ) → resolveByGroups t f p room c ≡ resolved es c′ n

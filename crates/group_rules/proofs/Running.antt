@@ -65,7 +65,7 @@ module _ (t : RegInfo) (f : Function) (content : ℕ → List ℕ) where
   unfolding step
   step-extended w (Move to from v) s s′ e = when-extended w (and (no (and (isMemory t to) (isMemory t from))) (fits t f to (length (read t f (s .memory) from)))) (wrote t f to (read t f (s .memory) from) (s .waiting) s) s′ e
   step-extended w (Rematerialize to v) s s′ e = when-extended w (and (canRematerialize f v) (inClass t (rematClass f v) to)) (wrote t f to (content v) (s .waiting) s) s′ e
-  step-extended w (EmergencySpill x r) s s′ e = when-extended w true (wrote t f (slot x) (read t f (s .memory) (reg r)) (record { reg = r; slot = x } ∷ without r (s .waiting)) s) s′ e
+  step-extended w (EmergencySpill x r) s s′ e = when-extended w true (wrote t f (slot x) (read t f (s .memory) (reg r)) (record { reg = r; slot = x; words = read t f (s .memory) (reg r) } ∷ without r (s .waiting)) s) s′ e
   step-extended w (EmergencyReload r x) s s′ e = when-extended w (fits t f (reg r) (length (inSlot (s .memory) x))) (wrote t f (reg r) (inSlot (s .memory) x) (without r (s .waiting)) s) s′ e
 
   pub steps-extended : (w : List Written) (es : List Edit) (s s′ : Machine) → steps t f content es s ≡ some s′ → steps t f content es (extended w s) ≡ some (extended w s′)

@@ -9,7 +9,7 @@ use native.Mathlib.Omega.{arith}
 use native.Mathlib.Nat.{add-left-cancel}
 use native.Mathlib.Decide.{decLt}
 use lib.Dec.{T, T-not, eqb→eq, eqb-refl}
-use lib.ListN.{length, getD, replicate, length-replicate}
+use lib.ListN.{length, getD, take, replicate, length-replicate}
 use Rattle.entity.specs.Logic.{has, any, twice}
 use Rattle.entity.specs.Place.{Place, reg, slot, samePlace}
 use Rattle.reginfo.specs.RegInfo.{RegInfo, numClasses, numBanks, regUnits, bankForClass, classMembers, includesSpillslots, lastInOrder, topLevelClass, stackToStackClass, overlap}
@@ -26,8 +26,8 @@ use Rattle.rules.specs.Sorted.{SortedOk, RematOk, Ran}
 use Rattle.rules.specs.Take.{Request, Served, fresh, Standing, stampedBy, request, standing, after}
 use Rattle.rules.proofs.Accepted.{accepted}
 use Rattle.rules.proofs.Take.{Previews, previews-fresh, previews-after, stands}
-use Rattle.machine.specs.Machine.{Memory, Machine, fits}
-use Rattle.machine.specs.Claim.{entryDest, entryValue, Contents, OfValue, Stopped, Finished, Right, Accepted, Answered, Owed, RequestsClaim, Claim, Demand3}
+use Rattle.machine.specs.Machine.{Memory, Machine, begin, fits, steps}
+use Rattle.machine.specs.Claim.{entryDest, entryValue, Contents, OfValue, Saved, Stopped, Finished, Right, Keeps, Accepted, Answered, Owed, RequestsClaim, Claim, Demand3}
 use Rattle.rules.proofs.Steps.{All}
 use Rattle.machine.proofs.Tests.{hasIn, both, yes-of, no-of, of-yes, of-no, never}
 use Rattle.machine.proofs.Memory.{distinct, TargetOk, covers, Apart}
@@ -327,6 +327,12 @@ module _ (t : RegInfo) (f : Function) (ta : target.Accepted t) (fa : function.Ac
           ends = let y = ends t f job (ran .allocator .edits) start _ every in (y .0, y .1, finished (y .0) (y .2));
         })
 
+    keeps : CacheOk t f c → Keeps t f p content es
+    keeps co start hold k s e =
+        let y = stops t f job (ran .allocator .edits) start _ (done co .every start hold) k in
+        let z : y .0 ≡ s = let a : steps t f content (take k (ran .allocator .edits)) (begin start) ≡ some s = rw (ran .edits) at e in let b = y .1 in cc in
+        subst Saved z (y .2 .saved)
+
   -- a value's width is that of the last register of its bank's stack class
   pub width : ℕ → ℕ
   width v = length (regUnits t (lastInOrder t (stackToStackClass t (valueBank f v))))
@@ -357,7 +363,7 @@ module _ (t : RegInfo) (f : Function) (ta : target.Accepted t) (fa : function.Ac
   called x c co (refused n) e = (tt, co)
   called x c co (resolved es c′ n) e =
       let ran = accepted t f (x .patch) (x .room) c c′ es n e in (
-        record { right = λ content whole. right content whole (x .patch) (x .room) c c′ es ran co; few = bound-ok t f ta fa (x .patch) (x .room) c c′ es ran },
+        record { right = λ content whole. right content whole (x .patch) (x .room) c c′ es ran co; few = bound-ok t f ta fa (x .patch) (x .room) c c′ es ran; saved = λ content whole. keeps content whole (x .patch) (x .room) c c′ es ran co },
         rw (ran .cache) (done zeros zeros-whole (x .patch) (x .room) c c′ es ran co .cache-ok),
       )
 

@@ -13,7 +13,7 @@ use Rattle.reginfo.specs.RegInfo.{spillslotSize, topLevelClass, stackToStackCla
 use Rattle.reginfo.specs.Refused.{orderTotal, countsFit, bankFits, regFits, classFits, outsideLimits, listedTwice, unequalWidths, foreignMember, sharedMemory, unfitClass, firstOf, targetRefusal}
 use Rattle.function.specs.Function.{valueBank, rematCost, rematClass, isSetting}
 use Rattle.function.specs.Refused as function
-use Rattle.rules.specs.Edit.{Edit, Move, updated, andThen, each, find, filter}
+use Rattle.rules.specs.Edit.{Edit, Move, EmergencySpill, updated, andThen, each, find, filter}
 use Rattle.rules.specs.Scratch.{acquireFrom, unevict, unevictBut, unevictForReg, makeRoom, slotScratch, evictLast, reuse, orScratch, getScratchReg, moveEdits, doMove}
 use Rattle.rules.specs.Order.{KeptMove, noMove, carryOne, carry, remats, rematWithScratch, writerFrom, writersOf, writers, cycleMoveSources, divert, lead, undivert, undivertAll, close, visit, visitUnlessMemory, start, moves}
 use Rattle.rules.specs.Patch.{move, Patch, destinations, add, sortedFrom, sorted, entryConditions, patchConditions, run, resolveSorted, resolveFrom, resolve}
@@ -128,31 +128,72 @@ three-holds c x y = rw three-kept at
 differ : {x y : ℕ} {l m : List ℕ} → (x ≡ y → ⊥) → x ∷ l ≡ y ∷ m → ⊥
 differ n e = n (ap (λ (l : List ℕ). getD l 0 0) e)
 
+-- where r0 holds 71, r1 counts as holding 1 and no edit wrote 70 elsewhere, value 0 is lost
+module _ (c : ℕ) (s : Machine) (r0 : read seven values (seen seven values s) (reg 0) ≡ 71 ∷ []) (r1 : read seven values (seen seven values s) (reg 1) ≡ 1 ∷ [])
+    (alone : (q : Place) → IsScratch seven values lists.three (words 70 71 c) s q 0 → q ≡ reg 1)
+  where
+    nowhere : (q : Place) → read seven values (seen seven values s) q ≡ 70 ∷ [] → OfValue seven values lists.three (words 70 71 c) q 0 ⊎ IsScratch seven values lists.three (words 70 71 c) s q 0 → ⊥
+    unfolding seven any has regMemory classMembers rematCost rematClass sortedFrom add
+    nowhere q e (inl (zero, h, v, inl p)) = differ (λ (z : 71 ≡ 70). omega arith) (sym r0 ∙ ap (read seven values (seen seven values s)) (sym p) ∙ e)
+    nowhere q e (inl (zero, h, v, inr p)) = differ (λ (z : 1 ≡ 70). omega arith) (sym r1 ∙ ap (read seven values (seen seven values s)) (sym p) ∙ e)
+    nowhere q e (inl (suc zero, h, v, p)) = omega arith
+    nowhere q e (inl (suc (suc zero), h, v, p)) = omega arith
+    nowhere q e (inl (suc (suc (suc i)), h, v, p)) = omega arith
+    nowhere q e (inr m) = differ (λ (z : 1 ≡ 70). omega arith) (sym r1 ∙ ap (read seven values (seen seven values s)) (sym (alone q m)) ∙ e)
+
+    lost : (m : Memory) → Stopped seven values lists.three (words 70 71 c) m s → ⊥
+    unfolding seven any has regMemory classMembers rematCost rematClass sortedFrom add
+    lost m st = let w = st .survives 0 (omega arith) in nowhere (w .0) (w .1) (w .2)
+
+-- what was written and does not begin with 70
+other : {q p : Place} {x : ℕ} {A : Type 0} → (x ≡ 70 → ⊥) → _≡_ {A = Written} (record { place = q; words = 70 ∷ [] }) (record { place = p; words = x ∷ [] }) → A
+other n e = absurd (differ n (sym (ap (λ (w : Written). w .words) e)))
+
 -- the edit that loses value 0
 abbrev losing : Edit
 losing = Move (reg 0) (reg 2) 1
 
--- then its words are in no place of a kept move of its value, and no edit wrote them
-module _ (c : ℕ) (x y : List ℕ) where
+-- at once
+module _ (c : ℕ) (x y : List ℕ) (es : List Edit) where
   abbrev begun : Memory
   begun = holding (70 ∷ 1 ∷ 71 ∷ c ∷ 4 ∷ 5 ∷ 6 ∷ 7 ∷ []) x y
 
-  abbrev then : Machine
-  then = the (begin begun) (steps seven values (words 70 71 c) (losing ∷ []) (begin begun))
+  lost-at-once : RightFrom seven values lists.three (words 70 71 c) begun (losing ∷ es) → ⊥
+  unfolding seven regUnits regMemory updated andThen put read write fits step steps counted the after
+  lost-at-once r = lost c (after _ _ _ _ r 1) refl refl alone begun (stopped _ _ _ _ r 1)
+    where
+      alone : (q : Place) → IsScratch seven values lists.three (words 70 71 c) (after _ _ _ _ r 1) q 0 → q ≡ reg 1
+      alone q (List·Memᴰ·head w) = other (λ (z : 71 ≡ 70). omega arith) w
+      alone q (List·Memᴰ·tail m) = absurd (List·Memᴰ·not-nil m)
 
-  nowhere : (q : Place) → read seven values (seen seven values then) q ≡ 70 ∷ [] → OfValue seven values lists.three (words 70 71 c) q 0 ⊎ IsScratch seven values lists.three (words 70 71 c) then q 0 → ⊥
-  unfolding seven any has regMemory classMembers rematCost rematClass sortedFrom add regUnits updated andThen put read write fits step steps counted the
-  nowhere q e (inl (zero, h, v, inl p)) = differ (λ (z : 71 ≡ 70). omega arith) (rw p at e)
-  nowhere q e (inl (zero, h, v, inr p)) = differ (λ (z : 1 ≡ 70). omega arith) (rw p at e)
-  nowhere q e (inl (suc zero, h, v, p)) = omega arith
-  nowhere q e (inl (suc (suc zero), h, v, p)) = omega arith
-  nowhere q e (inl (suc (suc (suc i)), h, v, p)) = omega arith
-  nowhere q e (inr (List·Memᴰ·head w)) = differ (λ (z : 70 ≡ 71). omega arith) (ap (λ (w : Written). w .words) w)
-  nowhere q e (inr (List·Memᴰ·tail m)) = List·Memᴰ·not-nil m
+-- while r1 waits
+module _ (es : List Edit) where
+  abbrev after-3 : List Edit
+  after-3 = EmergencySpill 2 1 ∷ right ∷ losing ∷ es
 
-  lost : (es : List Edit) → RightFrom seven values lists.three (words 70 71 c) begun (losing ∷ es) → ⊥
-  unfolding seven any has regMemory classMembers rematCost rematClass sortedFrom add the after
-  lost es r = let w = stopped lists.three (words 70 71 c) begun (losing ∷ es) r 1 .survives 0 (omega arith) in nowhere (w .0) (w .1) (w .2)
+  lost-waiting : RightFrom seven values lists.three (words 70 71 72) lists.start after-3 → ⊥
+  unfolding seven regUnits regMemory updated andThen filter put read write fits step steps counted the after
+  lost-waiting r = lost 72 (after _ _ _ _ r 3) refl refl alone lists.start (stopped _ _ _ _ r 3)
+    where
+      alone : (q : Place) → IsScratch seven values lists.three (words 70 71 72) (after _ _ _ _ r 3) q 0 → q ≡ reg 1
+      alone q (List·Memᴰ·head w) = other (λ (z : 71 ≡ 70). omega arith) w
+      alone q (List·Memᴰ·tail (List·Memᴰ·head w)) = ap (λ (w : Written). w .place) w
+      alone q (List·Memᴰ·tail (List·Memᴰ·tail (List·Memᴰ·head w))) = other (λ (z : 1 ≡ 70). omega arith) w
+      alone q (List·Memᴰ·tail (List·Memᴰ·tail (List·Memᴰ·tail m))) = absurd (List·Memᴰ·not-nil m)
+
+  abbrev after-4 : List Edit
+  after-4 = EmergencySpill 2 1 ∷ EmergencySpill 3 3 ∷ right ∷ losing ∷ es
+
+  lost-earlier : RightFrom seven values lists.three (words 70 71 72) lists.start after-4 → ⊥
+  unfolding seven regUnits regMemory updated andThen filter put read write fits step steps counted the after
+  lost-earlier r = lost 72 (after _ _ _ _ r 4) refl refl alone lists.start (stopped _ _ _ _ r 4)
+    where
+      alone : (q : Place) → IsScratch seven values lists.three (words 70 71 72) (after _ _ _ _ r 4) q 0 → q ≡ reg 1
+      alone q (List·Memᴰ·head w) = other (λ (z : 71 ≡ 70). omega arith) w
+      alone q (List·Memᴰ·tail (List·Memᴰ·head w)) = ap (λ (w : Written). w .place) w
+      alone q (List·Memᴰ·tail (List·Memᴰ·tail (List·Memᴰ·head w))) = other (λ (z : 72 ≡ 70). omega arith) w
+      alone q (List·Memᴰ·tail (List·Memᴰ·tail (List·Memᴰ·tail (List·Memᴰ·head w)))) = other (λ (z : 1 ≡ 70). omega arith) w
+      alone q (List·Memᴰ·tail (List·Memᴰ·tail (List·Memᴰ·tail (List·Memᴰ·tail m)))) = absurd (List·Memᴰ·not-nil m)
 
 pub not-accepted : NotAccepted
 unfolding any all has meets lastOr indices spillslotSize topLevelClass stackToStackClass regMemory bankForReg regUnits bankForClass classSlots classMembers allocationOrder firstOf valueBank rematCost rematClass updated andThen each find filter acquireFrom unevict unevictBut unevictForReg makeRoom slotScratch evictLast reuse orScratch getScratchReg moveEdits doMove carryOne carry remats rematWithScratch writerFrom writersOf writers cycleMoveSources divert lead undivert undivertAll close visit visitUnlessMemory start moves destinations add sortedFrom entryConditions patchConditions run resolveSorted resolveFrom resolve seven orderTotal countsFit bankFits regFits classFits outsideLimits listedTwice unequalWidths foreignMember sharedMemory unfitClass targetRefusal twice isSetting function.countsFit function.valueFits function.foreignClass function.valuesRefusal function.functionRefusal put read write fits step steps counted the can after
@@ -168,16 +209,19 @@ not-accepted =
       foreign-slot = plainly-wrong _ (omega arith) (λ r. differ (λ (z : 70 ≡ 9). omega arith) (stopped _ _ _ _ r 2 .slots 1 (omega arith) refl));
       source-overwritten = plainly-wrong _ (omega arith) (λ r. let e : 71 ≡ 70 = stopped _ _ _ _ r 2 .units 0 (omega arith) refl refl .0 in omega arith);
       left-waiting = plainly-wrong _ (omega arith) (λ r. let e : 1 ≡ 0 = ap length (finished _ _ _ _ r .none-waits) in omega arith);
-      waiting-lost = plainly-wrong _ (omega arith) (λ r. let e : 70 ≡ 71 = stopped _ _ _ _ r 2 .units 2 (omega arith) refl refl .0 in omega arith);
-      earlier-lost = plainly-wrong _ (omega arith) (λ r. let e : 70 ≡ 71 = stopped _ _ _ _ r 3 .units 2 (omega arith) refl refl .0 in omega arith);
+      saved-lost = plainly-wrong _ (omega arith) (λ r. let e : 70 ≡ 71 = stopped _ _ _ _ r 3 .units 2 (omega arith) refl refl .0 in omega arith);
+      waiting-lost = record { whole = whole 70 71 72; holds = three-holds 72 _ _; within = omega arith; not-right = lost-waiting _ };
+      earlier-lost = record { whole = whole 70 71 72; holds = three-holds 72 _ _; within = omega arith; not-right = lost-earlier _ };
       empty = plainly-wrong _ (omega arith) (λ r. differ (λ (z : 1 ≡ 70). omega arith) (finished _ _ _ _ r .entries (move (reg 0) (reg 1) 0) (List·Memᴰ·head refl)));
-      lost-to-chance = record { whole = whole 70 71 72; holds = three-holds 72 _ _; within = omega arith; not-right = lost 72 _ _ _ };
-      lost-to-another = record { whole = whole 70 71 70; holds = three-holds 70 _ _; within = omega arith; not-right = lost 70 _ _ _ };
+      lost-to-chance = record { whole = whole 70 71 72; holds = three-holds 72 _ _; within = omega arith; not-right = lost-at-once 72 _ _ _ };
+      lost-to-another = record { whole = whole 70 71 70; holds = three-holds 70 _ _; within = omega arith; not-right = lost-at-once 70 _ _ _ };
       memory-to-memory = record { whole = whole 70 71 72; holds = stored-holds; within = omega arith; not-right = λ r. false≢true (can-do _ _ _ _ r) };
       another-length = plainly-wrong _ (omega arith) (λ r. false≢true (can-do _ _ _ _ r));
       reload-of-another-length = plainly-wrong _ (omega arith) (λ r. false≢true (can-do _ _ _ _ r));
       outside-its-class = plainly-wrong _ (omega arith) (λ r. false≢true (can-do _ _ _ _ r));
       not-rebuildable = plainly-wrong _ (omega arith) (λ r. false≢true (can-do _ _ _ _ r));
+      counts-as-saved = (_, refl, refl);
+      not-kept = λ a. differ (λ (z : 70 ≡ 71). omega arith) (a .saved (words 70 71 72) (whole 70 71 72) lists.start one-holds 2 _ refl _ (List·Memᴰ·head refl));
       over-the-bound = λ a. let h : 9 ≤ 8 = a .few in omega arith;
     }
   where

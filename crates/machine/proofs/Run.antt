@@ -1,7 +1,7 @@
 -- What holds at each stop of a run, for any set of places that may change.
 use mathlib.Core.Path.{_≡_, refl}
 use mathlib.Core.Bool.{Bool, true, false}
-use mathlib.Core.List.{List, [], _∷_, List·Memᴰ}
+use mathlib.Core.List.{List, [], _∷_, map, List·Memᴰ, List·Memᴰ·head, List·Memᴰ·tail, List·Memᴰ·not-nil}
 use mathlib.Core.Option.{some}
 use mathlib.Core.Logic.{_⊎_}
 use Prim.Native.Nat.{ℕ, zero, suc}
@@ -13,28 +13,45 @@ use Rattle.function.specs.Function.{Function}
 use Rattle.rules.specs.Edit.{Edit, andThen}
 use Rattle.rules.proofs.Steps.{Every}
 use Rattle.rules.proofs.Parts.{Picked, here, later, every-put}
-use Rattle.machine.specs.Machine.{Memory, Waiting, Written, Machine, read, step, steps, counted, seen, when}
+use Rattle.machine.specs.Claim.{Saved}
+use Rattle.machine.specs.Machine.{Memory, inSlot, Waiting, Written, Machine, read, step, steps, counted, seen, when}
 
--- the registers that wait, each with its slot
+-- a register that waits and its slot: what was saved is what the slot holds
+pub record Wait : Type 0 where
+  pub reg : ℕ
+  pub slot : ℕ
+
 abbrev pub Waits : Type 0
-Waits = List Waiting
+Waits = List Wait
+
+-- as the machine lists them
+abbrev pub as-held : Memory → Wait → Waiting
+as-held m x = record { reg = x .reg; slot = x .slot; words = inSlot m (x .slot) }
+
+abbrev pub held : Memory → Waits → List Waiting
+held m ws = map (as-held m) ws
+
+pub held-saved : (m : Memory) (ws : Waits) (w : Waiting) → List·Memᴰ w (held m ws) → inSlot m (w .slot) ≡ w .words
+held-saved m [] w h = absurd (List·Memᴰ·not-nil h)
+held-saved m (x ∷ ws) w (List·Memᴰ·head e) = rw e refl
+held-saved m (x ∷ ws) w (List·Memᴰ·tail h) = held-saved m ws w h
 
 -- the first list is the second in some order: a save puts its register in front, and which of those that wait was saved last is known only
 -- once all are saved
 pub data Orders : Waits → Waits → Type 0 where
   nobody : Orders [] []
-  more : {x : Waiting} {w v ws : Waits} → Picked x w v → Orders v ws → Orders w (x ∷ ws)
+  more : {x : Wait} {w v ws : Waits} → Picked x w v → Orders v ws → Orders w (x ∷ ws)
 
 pub as-listed : (ws : Waits) → Orders ws ws
 as-listed [] = nobody
 as-listed (x ∷ ws) = more here (as-listed ws)
 
-pub orders-every : (P : Waiting → Type 0) (w ws : Waits) → Orders w ws → Every P ws → Every P w
+pub orders-every : (P : Wait → Type 0) (w ws : Waits) → Orders w ws → Every P ws → Every P w
 orders-every P _ _ nobody h = tt
 orders-every P w _ (more {x = x} {v = v} {ws = ws} p o) h = every-put P x w v p (h .0) (orders-every P v ws o (h .1))
 
 -- one more in front
-pub orders-insert : (x : Waiting) (w zs ws : Waits) → Picked x zs ws → Orders w ws → Orders (x ∷ w) zs
+pub orders-insert : (x : Wait) (w zs ws : Waits) → Picked x zs ws → Orders w ws → Orders (x ∷ w) zs
 orders-insert x w _ ws here o = more here o
 orders-insert x w _ _ (later {y = y} {l = l} {m = m} p) (more {v = v} q o) = more (later q) (orders-insert x v l m p o)
 
@@ -45,7 +62,7 @@ abbrev pub wr : Place → List ℕ → Written
 wr p ws = record { place = p; words = ws }
 
 abbrev pub state : Waits → Memory → Log → Machine
-state w m l = record { memory = m; waiting = w; written = l }
+state w m l = record { memory = m; waiting = held m w; written = l }
 
 pub when-yes : (b : Bool) (s : Machine) → T b → when b s ≡ some s
 when-yes true s h = refl
@@ -64,7 +81,7 @@ pub record Job : Type 1 where
 
 module _ (t : RegInfo) (f : Function) where
   abbrev pub view : Waits → Memory → Memory
-  view w m = counted t f w m
+  view w m = counted t f (held m w) m
 
   module _ (j : Job) where
     -- the view agrees outside what may change
@@ -82,6 +99,7 @@ module _ (t : RegInfo) (f : Function) where
     pub record Stop (a : Memory) (st : Machine) : Type 0 where
       pub frame : Frame a (seen t f st)
       pub lives : (v : ℕ) → j .tracked v → (p : Place) × Holds st p v
+      pub saved : Saved st
 
     pub record Final (st : Machine) : Type 0 where
       pub placed : (p : Place) (v : ℕ) → j .final p v → read t f (st .memory) p ≡ j .content v

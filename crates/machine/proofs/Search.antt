@@ -16,18 +16,18 @@ use Rattle.reginfo.specs.RegInfo.{RegInfo, regUnits, classMembers, allocationOr
 use Rattle.function.specs.Function.{Function}
 use Rattle.rules.specs.Edit.{Edit, EmergencySpill, EmergencyReload, find, filter}
 use Rattle.rules.specs.Scratch.{Cache, Evicted, ScratchAllocator, Found, Acquired, withEvicted, withCache, push, acquire, release, unitsOfReg, unevict, unevictAll, unevictBut, overlapsEvicted, unevictForReg, makeRoom, usable, slotScratch, evictLast, reuse, orScratch, getScratchReg, meeting, searchedTo}
-use Rattle.machine.specs.Machine.{Waiting, fits}
+use Rattle.machine.specs.Machine.{fits}
 use Rattle.rules.proofs.Steps.{All, all-then, all-map, Every, every-map}
 use Rattle.rules.proofs.Parts.{Picked, here, later, Parts, every-picked, picked-map, all-parts, filter-parts, drop-parts}
 use Rattle.rules.proofs.Evictions.{unevict-evicted}
 use Rattle.machine.proofs.Tests.{hasIn, has-cons, all-has, find-all, or-split, or-l, or-r, and-split, if}
 use Rattle.machine.proofs.Memory.{TargetOk, covers, Apart}
-use Rattle.machine.proofs.Run.{Waits, Job}
+use Rattle.machine.proofs.Run.{Wait, Waits, Job}
 use Rattle.machine.proofs.View.{Away, Spread, Plain, spread-picked, under, Clear, Aside}
 use Rattle.machine.proofs.Sound.{Needs, Within, Ok, Sound, reload, spill}
 use Rattle.machine.proofs.Cache.{Loose, CacheOk, Taken, take-ok, give-ok, loose-give}
 
-abbrev pub waiting : Evicted → Waiting
+abbrev pub waiting : Evicted → Wait
 waiting e = record { reg = e .reg; slot = e .slot }
 
 abbrev pub waitOf : List Evicted → Waits
@@ -41,7 +41,7 @@ WaitsIn [] s = ⊥
 WaitsIn (x ∷ ws) s = (s ≡ x .slot) ⊎ WaitsIn ws s
 
 -- the slot of one of them, or of another
-waits-picked : (x : Waiting) (zs ws : Waits) (s : ℕ) → Picked x zs ws → (s ≡ x .slot) ⊎ WaitsIn ws s → WaitsIn zs s
+waits-picked : (x : Wait) (zs ws : Waits) (s : ℕ) → Picked x zs ws → (s ≡ x .slot) ⊎ WaitsIn ws s → WaitsIn zs s
 waits-picked x _ ws s here h = h
 waits-picked x _ _ s (later {l = zs} {m = ws} p) h = ⊎-elim (λ e. inr (waits-picked x zs ws s p (inl e))) (⊎-elim inl (λ i. inr (waits-picked x zs ws s p (inr i)))) h
 
@@ -75,7 +75,7 @@ module _ (t : RegInfo) (F : Function) (tk : TargetOk t) where
   reg-covers (slot s) u h = absurd h
 
   module _ (j : Job) (em : (s : ℕ) → F .slots ≤ s → j .may (512 + s)) where
-    pub record Saved (p : Cache) (x : Waiting) : Type 0 where
+    pub record Saved (p : Cache) (x : Wait) : Type 0 where
       pub plain : T (not (isMemoryReg t (x .reg)))
       pub above : F .slots ≤ x .slot
       pub below : x .slot < F .slots + p .made
@@ -113,7 +113,7 @@ module _ (t : RegInfo) (F : Function) (tk : TargetOk t) where
       given-waits z s p ws (o .1) (λ i. g (inr i)),
     )
 
-    away-slot : (x : Waiting) (ws : Waits) → Every (Away t F tk x) ws → WaitsIn ws (x .slot) → ⊥
+    away-slot : (x : Wait) (ws : Waits) → Every (Away t F tk x) ws → WaitsIn ws (x .slot) → ⊥
     away-slot x [] a e = e
     away-slot x (y ∷ ws) a e = ⊎-elim (a .0 .slots) (away-slot x ws (a .1)) e
 
@@ -296,7 +296,7 @@ module _ (t : RegInfo) (F : Function) (tk : TargetOk t) where
           }
 
       -- the register that is evicted, whose units the view hides
-      under-own : (x : Waiting) (ws : Waits) (u : ℕ) → T (covers t F tk (reg (x .reg)) u) → T (under t F tk (x ∷ ws) u)
+      under-own : (x : Wait) (ws : Waits) (u : ℕ) → T (covers t F tk (reg (x .reg)) u) → T (under t F tk (x ∷ ws) u)
       unfolding covers under
       under-own x ws u d = or-l (hasIn (regUnits t (x .reg)) u) (under t F tk ws u) d
 
@@ -348,7 +348,7 @@ module _ (t : RegInfo) (F : Function) (tk : TargetOk t) where
                 plain = λ _ pl. ck .last-plain ns;
               }
             where
-              new : Waiting
+              new : Wait
               new = record { reg = lastInOrder t c; slot = x .slot }
 
               was : (s : ℕ) → EmptyIn (x .cache) (new ∷ wait k) s → Empty k s

@@ -4,7 +4,7 @@ use mathlib.Core.Bool.{Bool, true, false, not, _&&_}
 use mathlib.Core.List.{List, [], _∷_, List·Memᴰ·head, List·Memᴰ·tail}
 use mathlib.Core.Option.{some}
 use mathlib.Core.Logic.{_⊎_, inl, inr}
-use Prim.Native.Nat.{ℕ}
+use Prim.Native.Nat.{ℕ, _+_}
 use lib.Dec.{T, not-T}
 use lib.ListN.{length}
 use Rattle.entity.specs.Place.{Place, reg, slot}
@@ -15,8 +15,8 @@ use Rattle.rules.proofs.Parts.{Picked}
 use Rattle.machine.specs.Machine.{Memory, inSlot, Machine, Waiting, Written, read, write, fits, step, counted, seen}
 use Rattle.machine.proofs.Tests.{or-r, both}
 use Rattle.machine.proofs.Memory.{TargetOk, Off, covers, Apart, write-off, read-off, read-write}
-use Rattle.machine.proofs.Run.{Waits, Orders, nobody, more, orders-insert, Log, wr, state, when-yes, Job, view, Frame, Anchored, Holds, Stop, Along}
-use Rattle.machine.proofs.View.{Spread, Plain, Ready, under, shown, Clear, Aside, clear-aside, clear-read, same-view, under-lists, view-off, ready-off, reloaded, reload-view, reload-ready, reload-without, spill-off, spill-ready, spill-without}
+use Rattle.machine.proofs.Run.{Wait, Waits, held, held-saved, Orders, orders-every, nobody, more, orders-insert, Log, wr, state, when-yes, Job, view, Frame, Anchored, Holds, Stop, Along}
+use Rattle.machine.proofs.View.{Spread, Plain, Ready, under, shown, Clear, Aside, clear-aside, clear-read, same-view, under-lists, view-off, held-off, ready-off, reloaded, reload-view, reload-ready, reload-without, spill-off, spill-ready, spill-without}
 
 abbrev pub Needs : Type 1
 Needs = Place → ℕ → Type 0
@@ -48,10 +48,10 @@ module _ (t : RegInfo) (F : Function) (tk : TargetOk t) where
         }
 
     along-frame : (es : List Edit) (a b : Memory) (st : Machine) → Frame t F j a b → Along t F j es b st → Along t F j es a st
-    along-frame [] a b st f h = (record { frame = frame-trans a b (seen t F st) f (h .0 .frame); lives = h .0 .lives }, h .1)
+    along-frame [] a b st f h = (record { frame = frame-trans a b (seen t F st) f (h .0 .frame); lives = h .0 .lives; saved = h .0 .saved }, h .1)
     along-frame (e ∷ es) a b st f h = (
       h .0,
-      record { frame = frame-trans a b (seen t F st) f (h .1 .frame); lives = h .1 .lives },
+      record { frame = frame-trans a b (seen t F st) f (h .1 .frame); lives = h .1 .lives; saved = h .1 .saved },
       h .2,
       along-frame es a b (h .0) f (h .3),
     )
@@ -78,7 +78,7 @@ module _ (t : RegInfo) (F : Function) (tk : TargetOk t) where
     stop-here : (needs : Needs) (o w : Waits) (m : Memory) (l : Log) → Orders o w → Ok needs w m l → Stop t F j (view t F w m) (state o m l)
     stop-here needs o w m l od ok =
         rw (← same-view t F tk o w m od (ok .ready .plain) (ok .ready .spread))
-        (record { frame = frame-refl (view t F o m); lives = λ v k. (ok .live v k .0, holds (ok .live v k .0) v (ok .met (ok .live v k .0) v (ok .live v k .1))) })
+        (record { frame = frame-refl (view t F o m); lives = λ v k. (ok .live v k .0, holds (ok .live v k .0) v (ok .met (ok .live v k .0) v (ok .live v k .1))); saved = held-saved m o })
       where
         holds : (p : Place) (v : ℕ) → Holds t F j (state w m l) p v → Holds t F j (state o m l) p v
         holds p v h = (h .0, rw (same-view t F tk o w m od (ok .ready .plain) (ok .ready .spread)) (h .1))
@@ -110,7 +110,7 @@ module _ (t : RegInfo) (F : Function) (tk : TargetOk t) where
     pub sound-nil : (needs : Needs) → ((p : Place) (v : ℕ) → j .final p v → needs p v) → Sound [] [] (Ok needs [])
     unfolding Sound counted
     sound-nil needs all o od m l ok =
-        (stop-here needs o [] m l od ok, record { placed = λ p v k. ok .met p v (all p v k) .1; none-waits = none-left o od })
+        (stop-here needs o [] m l od ok, record { placed = λ p v k. ok .met p v (all p v k) .1; none-waits = ap (held m) (none-left o od) })
       where
         none-left : (o : Waits) → Orders o [] → o ≡ []
         none-left _ nobody = refl
@@ -123,7 +123,15 @@ module _ (t : RegInfo) (F : Function) (tk : TargetOk t) where
     pub record Gives (e : Edit) (p : Place) (v : ℕ) (m : Memory) (l : Log) : Type 0 where
       pub ws : List ℕ
       pub whole : ws ≡ j .content v
-      pub done : (o : Waits) → step t F (j .content) e (state o m l) ≡ some (wrote p ws o m l)
+      pub done : (o : List Waiting) → step t F (j .content) e (record { memory = m; waiting = o; written = l }) ≡ some (record { memory = write t F p ws m; waiting = o; written = wr p ws ∷ l })
+
+    -- past the slots of those that wait
+    done-aside : (e : Edit) (p : Place) (v : ℕ) (m : Memory) (l : Log) (w o : Waits) → Orders o w → Aside t F tk w (covers t F tk p) → (g : Gives e p v m l)
+        → step t F (j .content) e (state o m l) ≡ some (wrote p (g .ws) o m l)
+    done-aside e p v m l w o od asd g =
+        g .done (held m o)
+        ∙ ap (λ (y : List Waiting). some (record { memory = write t F p (g .ws) m; waiting = y; written = wr p (g .ws) ∷ l }))
+        (held-off t F tk o (covers t F tk p) (write t F p (g .ws) m) m (orders-every (λ x. T (not (covers t F tk p (512 + x .slot)))) o w od asd) (write-off t F tk p (g .ws) m))
 
     pub move-gives : (to from : Place) (v : ℕ) (m : Memory) (l : Log) → read t F m from ≡ j .content v
         → T (not (isMemory t to && isMemory t from)) → T (fits t F to (length (j .content v))) → Gives (Move to from v) to v m l
@@ -190,7 +198,7 @@ module _ (t : RegInfo) (F : Function) (tk : TargetOk t) where
                   ordered = od;
                   mem = a;
                   log = wr to (g .ws) ∷ l;
-                  done = g .done o;
+                  done = done-aside e to v m l w o od asd g;
                   pre = record { live = lv; ready = ready-off t F tk w (covers t F tk to) a m asd f (ok .ready); met = met-write (g .ws) m l (g .whole) ft ct turns f′ (ok .met) };
                   frame = off-frame (shown t F tk w (covers t F tk to)) (view t F w m) (view t F w a) inn f′;
                 },
@@ -225,7 +233,7 @@ module _ (t : RegInfo) (F : Function) (tk : TargetOk t) where
                   ordered = od;
                   mem = a;
                   log = (wr sc (g .ws)) ∷ l;
-                  done = g .done o;
+                  done = done-aside e sc v m l w o od asd g;
                   pre =
                       record {
                         ok =
@@ -249,7 +257,7 @@ module _ (t : RegInfo) (F : Function) (tk : TargetOk t) where
     unfolding step fits
     reload r s w prog needs snd = prepend (EmergencyReload r s) prog w (x ∷ w) (Ok needs (x ∷ w)) (Ok needs w) needs snd next
       where
-        x : Waiting
+        x : Wait
         x = record { reg = r; slot = s }
 
         next : (o : Waits) → Orders o (x ∷ w) → (m : Memory) (l : Log) → Ok needs (x ∷ w) m l → Ok needs (x ∷ w) m l × Leads (EmergencyReload r s) (view t F (x ∷ w) m) (state o m l) w (Ok needs w)
@@ -264,14 +272,14 @@ module _ (t : RegInfo) (F : Function) (tk : TargetOk t) where
                 log = (wr (reg r) ws) ∷ l;
                 done =
                     when-yes (fits t F (reg r) (length (inSlot m s))) _ (or-r (isMemoryReg t r) _ (ok .ready .full .0))
-                    ∙ ap (λ (y : Waits). some (record { memory = write t F (reg r) ws m; waiting = y; written = wr (reg r) ws ∷ l })) (reload-without t F tk x w m (ok .ready) o v p od);
+                    ∙ ap (λ (y : List Waiting). some (record { memory = write t F (reg r) ws m; waiting = y; written = wr (reg r) ws ∷ l })) (reload-without t F tk x w m (ok .ready) o v p od);
                 pre = record { live = ok .live; ready = reload-ready t F tk x w m (ok .ready); met = λ p v n. (later l (wr (reg r) ws) p v (ok .met p v n .0), rw e at (ok .met p v n .1)) };
                 frame = rw e (frame-refl (view t F w (write t F (reg r) ws m)));
               },
             )
 
     -- saved: what is needed later lies outside the slot
-    pub spill : (x : Waiting) (zs w : Waits) → Picked x zs w → Plain t F tk zs → Spread t F tk zs → (prog : List Edit) (needs : Needs) → Sound prog zs (Ok needs zs)
+    pub spill : (x : Wait) (zs w : Waits) → Picked x zs w → Plain t F tk zs → Spread t F tk zs → (prog : List Edit) (needs : Needs) → Sound prog zs (Ok needs zs)
         → ((p : Place) (v : ℕ) → needs p v → Apart t F tk p (slot (x .slot))) → Within (covers t F tk (slot (x .slot)))
         → Sound (EmergencySpill (x .slot) (x .reg) ∷ prog) w (Ok needs w)
     unfolding step
@@ -288,7 +296,7 @@ module _ (t : RegInfo) (F : Function) (tk : TargetOk t) where
                 ordered = orders-insert x o zs w pk od;
                 mem = a;
                 log = (wr (slot (x .slot)) ws) ∷ l;
-                done = ap (λ (y : Waits). some (record { memory = a; waiting = x ∷ y; written = wr (slot (x .slot)) ws ∷ l })) (spill-without t F tk x zs w pk pl sp m (ok .ready) o od);
+                done = ap (λ (y : List Waiting). some (record { memory = a; waiting = y; written = wr (slot (x .slot)) ws ∷ l })) (spill-without t F tk x zs w pk pl sp m (ok .ready) o od);
                 pre =
                     record {
                       live = ok .live;

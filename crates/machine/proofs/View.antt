@@ -17,7 +17,7 @@ use Rattle.rules.proofs.Parts.{Picked, here, later, every-picked, every-put}
 use Rattle.machine.specs.Machine.{Memory, inSlot, Waiting, put, read, write, counted, without}
 use Rattle.machine.proofs.Tests.{hasIn, or-split, or-case}
 use Rattle.machine.proofs.Memory.{TargetOk, Off, covers, Apart, write-off, read-off, map-cong, put-other, put-cong, put-comm, put-hit, put-self, plain-write, plain-read, plain-lists}
-use Rattle.machine.proofs.Run.{Waits, Orders, nobody, more, as-listed, orders-every, orders-insert, view}
+use Rattle.machine.proofs.Run.{Wait, Waits, as-held, held, Orders, nobody, more, as-listed, orders-every, orders-insert, view}
 
 not-and : (a b : Bool) → T (not (a && not b)) → T (not b) → T (not a)
 not-and true true h k = absurd k
@@ -25,36 +25,36 @@ not-and true false h k = h
 not-and false b h k = tt
 
 -- a reload takes its register out of the list, and a save finds it in none
-without-other : (r : ℕ) (w : Waits) → Every (λ y. r ≡ y .reg → ⊥) w → without r w ≡ w
+without-other : (m : Memory) (r : ℕ) (w : Waits) → Every (λ y. r ≡ y .reg → ⊥) w → without r (held m w) ≡ held m w
 unfolding filter
-without-other r [] h = refl
-without-other r (y ∷ w) h = go (eqb (y .reg) r) (eqb→eq (y .reg) r) (without-other r w (h .1))
+without-other m r [] h = refl
+without-other m r (y ∷ w) h = go (eqb (y .reg) r) (eqb→eq (y .reg) r) (without-other m r w (h .1))
   where
-    go : (b : Bool) → (T b → y .reg ≡ r) → without r w ≡ w → cond {A = Waits} (not b) (y ∷ without r w) (without r w) ≡ y ∷ w
+    go : (b : Bool) → (T b → y .reg ≡ r) → without r (held m w) ≡ held m w → cond {A = List Waiting} (not b) (as-held m y ∷ without r (held m w)) (without r (held m w)) ≡ held m (y ∷ w)
     go true e on = absurd (h .0 (sym (e tt)))
-    go false e on = ap (y ∷_) on
+    go false e on = ap (as-held m y ∷_) on
 
-without-picked : (x : Waiting) (w v : Waits) → Picked x w v → Every (λ y. x .reg ≡ y .reg → ⊥) v → without (x .reg) w ≡ v
+without-picked : (n : Memory) (x : Wait) (w v : Waits) → Picked x w v → Every (λ y. x .reg ≡ y .reg → ⊥) v → without (x .reg) (held n w) ≡ held n v
 unfolding filter
-without-picked x _ v here h = go (eqb (x .reg) (x .reg)) (eqb-refl (x .reg))
+without-picked n x _ v here h = go (eqb (x .reg) (x .reg)) (eqb-refl (x .reg))
   where
-    go : (b : Bool) → T b → cond {A = Waits} (not b) (x ∷ without (x .reg) v) (without (x .reg) v) ≡ v
-    go true e = without-other (x .reg) v h
+    go : (b : Bool) → T b → cond {A = List Waiting} (not b) (as-held n x ∷ without (x .reg) (held n v)) (without (x .reg) (held n v)) ≡ held n v
+    go true e = without-other n (x .reg) v h
     go false e = absurd e
-without-picked x _ _ (later {y = y} {l = l} {m = m} p) h = go (eqb (y .reg) (x .reg)) (eqb→eq (y .reg) (x .reg)) (without-picked x l m p (h .1))
+without-picked n x _ _ (later {y = y} {l = l} {m = m} p) h = go (eqb (y .reg) (x .reg)) (eqb→eq (y .reg) (x .reg)) (without-picked n x l m p (h .1))
   where
-    go : (b : Bool) → (T b → y .reg ≡ x .reg) → without (x .reg) l ≡ m → cond {A = Waits} (not b) (y ∷ without (x .reg) l) (without (x .reg) l) ≡ y ∷ m
+    go : (b : Bool) → (T b → y .reg ≡ x .reg) → without (x .reg) (held n l) ≡ held n m → cond {A = List Waiting} (not b) (as-held n y ∷ without (x .reg) (held n l)) (without (x .reg) (held n l)) ≡ held n (y ∷ m)
     go true e on = absurd (h .0 (sym (e tt)))
-    go false e on = ap (y ∷_) on
+    go false e on = ap (as-held n y ∷_) on
 
 module _ (t : RegInfo) (F : Function) (tk : TargetOk t) where
   -- two that wait: no unit and no slot is both's
-  pub record Away (x y : Waiting) : Type 0 where
+  pub record Away (x y : Wait) : Type 0 where
     pub apart : Apart t F tk (reg (x .reg)) (reg (y .reg))
     pub regs : x .reg ≡ y .reg → ⊥
     pub slots : x .slot ≡ y .slot → ⊥
 
-  away-comm : (x y : Waiting) → Away x y → Away y x
+  away-comm : (x y : Wait) → Away x y → Away y x
   away-comm x y a = record { apart = λ u h k. a .apart u k h; regs = λ e. a .regs (sym e); slots = λ e. a .slots (sym e) }
 
   abbrev pub Spread : Waits → Type 0
@@ -62,7 +62,7 @@ module _ (t : RegInfo) (F : Function) (tk : TargetOk t) where
   Spread (x ∷ ws) = Every (Away x) ws × Spread ws
 
   -- one of them, and the others
-  pub spread-picked : (x : Waiting) (zs ws : Waits) → Picked x zs ws → Spread zs → Every (Away x) ws × Spread ws
+  pub spread-picked : (x : Wait) (zs ws : Waits) → Picked x zs ws → Spread zs → Every (Away x) ws × Spread ws
   spread-picked x _ ws here h = h
   spread-picked x _ _ (later {y = y} {l = l} {m = m} p) h =
       let r = spread-picked x l m p (h .1) in
@@ -129,7 +129,7 @@ module _ (t : RegInfo) (F : Function) (tk : TargetOk t) where
   view-over (x ∷ ws) m h = ap (write t F (reg (x .reg)) (inSlot m (x .slot))) (view-over ws m (h .1)) ∙ plain-write t F tk (x .reg) (h .0) (inSlot m (x .slot)) (overMemory ws m)
 
   -- what a register shares no unit with
-  away-under : (x : Waiting) (ws : Waits) → Every (Away x) ws → (u : ℕ) → T (hasIn (regUnits t (x .reg)) u) → T (not (under ws u))
+  away-under : (x : Wait) (ws : Waits) → Every (Away x) ws → (u : ℕ) → T (hasIn (regUnits t (x .reg)) u) → T (not (under ws u))
   unfolding under covers
   away-under x [] h u k = tt
   away-under x (y ∷ ws) h u k = go (hasIn (regUnits t (y .reg)) u) (λ i. h .0 .apart u k i) (away-under x ws (h .1) u k)
@@ -146,7 +146,7 @@ module _ (t : RegInfo) (F : Function) (tk : TargetOk t) where
       put-other (regUnits t (x .reg)) (l (512 + x .slot)) (over ws l f) u (s .0) ∙ over-outside ws l f u (s .1)
 
   -- in another order
-  over-picked : (x : Waiting) (zs ws : Waits) (l : ℕ → List ℕ) (f : ℕ → ℕ) → Picked x zs ws → Every (Away x) ws → (u : ℕ) → over zs l f u ≡ over (x ∷ ws) l f u
+  over-picked : (x : Wait) (zs ws : Waits) (l : ℕ → List ℕ) (f : ℕ → ℕ) → Picked x zs ws → Every (Away x) ws → (u : ℕ) → over zs l f u ≡ over (x ∷ ws) l f u
   unfolding over covers
   over-picked x _ ws l f here h u = refl
   over-picked x _ _ l f (later {y = y} {l = zs} {m = ws} p) h u =
@@ -204,11 +204,16 @@ module _ (t : RegInfo) (F : Function) (tk : TargetOk t) where
   full-off [] c a b h o k = tt
   full-off (x ∷ ws) c a b h o k = (rw (o .lists (512 + x .slot) (h .0)) (k .0), full-off ws c a b (h .1) o (k .1))
 
+  -- what was saved stays saved
+  pub held-off : (ws : Waits) (c : ℕ → Bool) (a b : Memory) → Aside ws c → Off c a b → held b ws ≡ held a ws
+  held-off [] c a b h o = refl
+  held-off (x ∷ ws) c a b h o = rw (o .lists (512 + x .slot) (h .0), held-off ws c a b (h .1) o)
+
   pub ready-off : (ws : Waits) (c : ℕ → Bool) (a b : Memory) → Aside ws c → Off c a b → Ready ws b → Ready ws a
   ready-off ws c a b h o k = record { plain = k .plain; spread = k .spread; full = full-off ws c a b h o (k .full) }
 
   -- one of those that wait is brought back: the view stays
-  module _ (x : Waiting) (ws : Waits) (m : Memory) (k : Ready (x ∷ ws) m) where
+  module _ (x : Wait) (ws : Waits) (m : Memory) (k : Ready (x ∷ ws) m) where
     abbrev pub reloaded : Memory
     reloaded = write t F (reg (x .reg)) (inSlot m (x .slot)) m
 
@@ -232,11 +237,11 @@ module _ (t : RegInfo) (F : Function) (tk : TargetOk t) where
     pub reload-ready : Ready ws reloaded
     reload-ready = record { plain = k .plain .1; spread = k .spread .1; full = rw reloaded-is (k .full .1) }
 
-    pub reload-without : (w v : Waits) → Picked x w v → Orders v ws → without (x .reg) w ≡ v
-    reload-without w v p o = without-picked x w v p (orders-every (λ y. x .reg ≡ y .reg → ⊥) v ws o (every-map (Away x) (λ y. x .reg ≡ y .reg → ⊥) (λ y a. a .regs) ws (k .spread .0)))
+    pub reload-without : (w v : Waits) → Picked x w v → Orders v ws → without (x .reg) (held m w) ≡ held reloaded v
+    reload-without w v p o = rw reloaded-is (without-picked m x w v p (orders-every (λ y. x .reg ≡ y .reg → ⊥) v ws o (every-map (Away x) (λ y. x .reg ≡ y .reg → ⊥) (λ y a. a .regs) ws (k .spread .0))))
 
   -- one is saved that does not wait yet: its units count as what they hold
-  module _ (x : Waiting) (zs ws : Waits) (p : Picked x zs ws) (pl : Plain zs) (sp : Spread zs) (m : Memory) (k : Ready ws m) where
+  module _ (x : Wait) (zs ws : Waits) (p : Picked x zs ws) (pl : Plain zs) (sp : Spread zs) (m : Memory) (k : Ready ws m) where
     abbrev pub after : Memory
     after = write t F (slot (x .slot)) (read t F m (reg (x .reg))) m
 
@@ -257,7 +262,7 @@ module _ (t : RegInfo) (F : Function) (tk : TargetOk t) where
     unfolding write
     slot-words = refl
 
-    slot-other : (y : Waiting) → Away x y → inSlot after (y .slot) ≡ inSlot m (y .slot)
+    slot-other : (y : Wait) → Away x y → inSlot after (y .slot) ≡ inSlot m (y .slot)
     unfolding write
     slot-other y a = updated-other (512 + x .slot) (read t F m (reg (x .reg))) (m .lists) (512 + y .slot) (λ e. a .slots (sym (add-left-cancel 512 e)))
 
@@ -295,5 +300,15 @@ module _ (t : RegInfo) (F : Function) (tk : TargetOk t) where
         still [] h q = tt
         still (y ∷ vs) h q = (rw (slot-other y (h .0)) (q .0), still vs (h .1) (q .1))
 
-    pub spill-without : (w : Waits) → Orders w ws → without (x .reg) w ≡ w
-    spill-without w o = without-other (x .reg) w (orders-every (λ y. x .reg ≡ y .reg → ⊥) w ws o (every-map (Away x) (λ y. x .reg ≡ y .reg → ⊥) (λ y a. a .regs) ws away))
+    slot-saved : inSlot after (x .slot) ≡ read t F m (reg (x .reg))
+    unfolding write
+    slot-saved = updated-same (512 + x .slot) (read t F m (reg (x .reg))) (m .lists)
+
+    held-other : (vs : Waits) → Every (Away x) vs → held m vs ≡ held after vs
+    held-other [] h = refl
+    held-other (y ∷ vs) h = rw (slot-other y (h .0), held-other vs (h .1))
+
+    -- and it is listed with what its slot then holds
+    pub spill-without : (w : Waits) → Orders w ws → _≡_ {A = List Waiting} (record { reg = x .reg; slot = x .slot; words = read t F m (reg (x .reg)) } ∷ without (x .reg) (held m w)) (held after (x ∷ w))
+    spill-without w o =
+        rw (slot-saved, without-other m (x .reg) w (orders-every (λ y. x .reg ≡ y .reg → ⊥) w ws o (every-map (Away x) (λ y. x .reg ≡ y .reg → ⊥) (λ y a. a .regs) ws away)), held-other w (orders-every (Away x) w ws o away))

@@ -17,7 +17,7 @@ use Rattle.rules.specs.Scratch.{Cache, unitsOfReg}
 use Rattle.rules.specs.Order.{KeptMove, noMove}
 use Rattle.rules.specs.Patch.{Entry, move, remat, Patch, sorted, bound, Answer, refused, resolved, resolve, Call, cacheAfter}
 use Rattle.rules.specs.Take.{Request, Served, fresh, Standing, standing, after}
-use Rattle.machine.specs.Machine.{Memory, inSlot, Machine, begin, read, steps, seen}
+use Rattle.machine.specs.Machine.{Memory, inSlot, Waiting, Machine, begin, read, steps, seen}
 
 -- where an entry puts its value, whatever becomes of it: kept, dropped or rebuilt
 abbrev pub entryDest : Entry → Place
@@ -27,6 +27,10 @@ entryDest (remat d v) = d
 abbrev pub entryValue : Entry → ℕ
 entryValue (move s d v) = v
 entryValue (remat d v) = v
+
+-- the slot of each register that waits holds what was saved
+abbrev pub Saved : Machine → Type 0
+Saved s = (w : Waiting) → List·Memᴰ w (s .waiting) → inSlot (s .memory) (w .slot) ≡ w .words
 
 module _ (t : RegInfo) (f : Function) where
   -- "Each value has a content, as many words as its bank's registers have units."; 02 b: "as wide as those registers of its bank that are
@@ -78,11 +82,17 @@ module _ (t : RegInfo) (f : Function) where
     abbrev pub Right : List Edit → Type 0
     Right es = (start : Memory) → Holding start → RightFrom start es
 
+    -- more than the demand: wherever the edits stop, the slot of each register that waits holds what was saved, so that its reload brings that
+    -- back
+    abbrev pub Keeps : List Edit → Type 0
+    Keeps es = (start : Memory) → Holding start → (k : ℕ) (s : Machine) → steps t f content (take k es) (begin start) ≡ some s → Saved s
+
   -- of an accepted patch: "whatever the contents are"; "Whatever the sources hold, the edits number at
   -- most 8 × kept moves + 5 × rebuilds with scratch + other rebuilds."
   pub record Accepted (p : Patch) (es : List Edit) : Type 0 where
     pub right : (content : ℕ → List ℕ) → Contents content → Right p content es
     pub few : length es ≤ bound (sorted t f p)
+    pub saved : (content : ℕ → List ℕ) → Contents content → Keeps p content es
 
   abbrev pub Answered : Patch → Answer → Type 0
   Answered p (refused n) = Unit {0}

@@ -62,16 +62,16 @@ pub record Swapped (start : Memory) (a b : ℕ) : Type 0 where
 abbrev pub SwapFull : Type 0
 SwapFull = (start : Memory) (a b : ℕ) → start .word 0 ≡ a → start .word 1 ≡ b → Swapped start a b
 
--- r2 waits in slot 2
-abbrev pub r2Waits : List Waiting
-r2Waits = record { reg = 2; slot = 2 } ∷ []
+-- r2 waits in slot 2, its own word saved
+abbrev pub r2Waits : Memory → List Waiting
+r2Waits start = record { reg = 2; slot = 2; words = start .word 2 ∷ [] } ∷ []
 
 -- a goes from slot 0 to slot 1 through r2, which waits in slot 2 meanwhile and then holds its own word again
 pub record Carried (start : Memory) (a : ℕ) : Type 0 where
   pub stop-0 : StopOfThree (plain 2 1) slotToSlot (words a a) slotEdits start 0 (start .word 0 ∷ start .word 1 ∷ start .word 2 ∷ []) ((a ∷ []) ∷ inSlot start 1 ∷ inSlot start 2 ∷ []) []
-  pub stop-1 : StopOfThree (plain 2 1) slotToSlot (words a a) slotEdits start 1 (start .word 0 ∷ start .word 1 ∷ start .word 2 ∷ []) ((a ∷ []) ∷ inSlot start 1 ∷ (start .word 2 ∷ []) ∷ []) r2Waits
-  pub stop-2 : StopOfThree (plain 2 1) slotToSlot (words a a) slotEdits start 2 (start .word 0 ∷ start .word 1 ∷ a ∷ []) ((a ∷ []) ∷ inSlot start 1 ∷ (start .word 2 ∷ []) ∷ []) r2Waits
-  pub stop-3 : StopOfThree (plain 2 1) slotToSlot (words a a) slotEdits start 3 (start .word 0 ∷ start .word 1 ∷ a ∷ []) ((a ∷ []) ∷ (a ∷ []) ∷ (start .word 2 ∷ []) ∷ []) r2Waits
+  pub stop-1 : StopOfThree (plain 2 1) slotToSlot (words a a) slotEdits start 1 (start .word 0 ∷ start .word 1 ∷ start .word 2 ∷ []) ((a ∷ []) ∷ inSlot start 1 ∷ (start .word 2 ∷ []) ∷ []) (r2Waits start)
+  pub stop-2 : StopOfThree (plain 2 1) slotToSlot (words a a) slotEdits start 2 (start .word 0 ∷ start .word 1 ∷ a ∷ []) ((a ∷ []) ∷ inSlot start 1 ∷ (start .word 2 ∷ []) ∷ []) (r2Waits start)
+  pub stop-3 : StopOfThree (plain 2 1) slotToSlot (words a a) slotEdits start 3 (start .word 0 ∷ start .word 1 ∷ a ∷ []) ((a ∷ []) ∷ (a ∷ []) ∷ (start .word 2 ∷ []) ∷ []) (r2Waits start)
   pub stop-4 : StopOfThree (plain 2 1) slotToSlot (words a a) slotEdits start 4 (start .word 0 ∷ start .word 1 ∷ start .word 2 ∷ []) ((a ∷ []) ∷ (a ∷ []) ∷ (start .word 2 ∷ []) ∷ []) []
   pub ends : Ends three (plain 2 1) slotToSlot (words a a) slotEdits start
 
@@ -116,10 +116,6 @@ wordEdits =
     EmergencySpill 3 1 ∷ Move (reg 1) (reg 3) 1 ∷ Move (slot 2) (reg 1) 1 ∷ Move (reg 1) (reg 2) 0 ∷ Move (reg 3) (reg 1) 0 ∷ Move (reg 1) (slot 2) 1
     ∷ Move (reg 2) (reg 1) 1 ∷ EmergencyReload 1 3 ∷ []
 
--- r1 waits in slot 3
-abbrev pub r1Waits : List Waiting
-r1Waits = record { reg = 1; slot = 3 } ∷ []
-
 module _ (start : Memory) (a b c d : ℕ) where
   -- r0 and r1 hold what r0 held and these words
   abbrev pub r1Holds : ℕ → ℕ → List ℕ
@@ -128,6 +124,10 @@ module _ (start : Memory) (a b c d : ℕ) where
   -- r1's own words
   abbrev pub saved : List ℕ
   saved = start .word 2 ∷ start .word 3 ∷ []
+
+  -- r1 waits in slot 3
+  abbrev pub r1Waits : List Waiting
+  r1Waits = record { reg = 1; slot = 3; words = saved } ∷ []
 
   abbrev pub WordStop : ℕ → List ℕ → List (List ℕ) → List Waiting → Type 0
   WordStop = StopOfArguments wordSwap (pairs a b c d) wordEdits start
@@ -153,13 +153,6 @@ SwapOfWords = (start : Memory) (a b c d : ℕ) → start .lists 4 ≡ a ∷ b �
 abbrev pub bothEdits : List Edit
 bothEdits = EmergencySpill 5 1 ∷ EmergencySpill 4 0 ∷ r1Edits 5 (r0Edits 4)
 
--- r1 waits in slot 5, r0 in slot 4
-abbrev pub r1WaitsIn5 : List Waiting
-r1WaitsIn5 = record { reg = 1; slot = 5 } ∷ []
-
-abbrev pub r0WaitsIn4 : List Waiting → List Waiting
-r0WaitsIn4 l = record { reg = 0; slot = 4 } ∷ l
-
 module _ (start : Memory) (a b : ℕ) where
   -- at the words of r0 and r1, and the lists of slots 1, 3, 4 and 5: slots 0 and 2 hold a and b
   abbrev pub StopOfTwo : ℕ → List ℕ → List ℕ → List ℕ → List ℕ → List ℕ → List Waiting → Type 0
@@ -172,6 +165,13 @@ module _ (start : Memory) (a b : ℕ) where
 
   abbrev pub w1 : ℕ
   w1 = start .word 1
+
+  -- r1 waits in slot 5, r0 in slot 4
+  abbrev pub r1WaitsIn5 : List Waiting
+  r1WaitsIn5 = record { reg = 1; slot = 5; words = w1 ∷ [] } ∷ []
+
+  abbrev pub r0WaitsIn4 : List Waiting → List Waiting
+  r0WaitsIn4 l = record { reg = 0; slot = 4; words = w0 ∷ [] } ∷ l
 
   -- a goes from slot 0 to slot 1 through r0 and b from slot 2 to slot 3 through r1, which both wait meanwhile
   pub record BothWait : Type 0 where

@@ -27,10 +27,11 @@ put [] ws f u = f u
 put (x ∷ us) [] f u = f u
 put (x ∷ us) (w ∷ ws) f u = pick (eqb u x) w (put us ws f u)
 
--- a register that waits and the slot that it was saved into
+-- a register that waits, the slot that it was saved into, and the words that were saved
 pub record Waiting : Type 0 where
   pub reg : ℕ
   pub slot : ℕ
+  pub words : List ℕ
 
 -- what an edit wrote, and where
 pub record Written : Type 0 where
@@ -85,7 +86,7 @@ module _ (t : RegInfo) (f : Function) where
   step content (Move to from v) s =
       when (and (no (and (isMemory t to) (isMemory t from))) (fits to (length (read (s .memory) from)))) (wrote to (read (s .memory) from) (s .waiting) s)
   step content (Rematerialize to v) s = when (and (canRematerialize f v) (inClass t (rematClass f v) to)) (wrote to (content v) (s .waiting) s)
-  step content (EmergencySpill x r) s = some (wrote (slot x) (read (s .memory) (reg r)) (record { reg = r; slot = x } ∷ without r (s .waiting)) s)
+  step content (EmergencySpill x r) s = some (wrote (slot x) (read (s .memory) (reg r)) (record { reg = r; slot = x; words = read (s .memory) (reg r) } ∷ without r (s .waiting)) s)
   step content (EmergencyReload r x) s = when (fits (reg r) (length (inSlot (s .memory) x))) (wrote (reg r) (inSlot (s .memory) x) (without r (s .waiting)) s)
 
   unfoldable pub steps : (ℕ → List ℕ) → List Edit → Machine → Option Machine
@@ -95,7 +96,7 @@ module _ (t : RegInfo) (f : Function) where
   -- "A register is waiting between the two; its units then count as holding what was saved."; 02 i: "All saved words count"
   unfoldable pub counted : List Waiting → Memory → Memory
   counted [] m = m
-  counted (w ∷ l) m = write (reg (w .reg)) (inSlot m (w .slot)) (counted l m)
+  counted (w ∷ l) m = write (reg (w .reg)) (w .words) (counted l m)
 
   abbrev pub seen : Machine → Memory
   seen s = counted (s .waiting) (s .memory)

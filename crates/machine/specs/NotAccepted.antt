@@ -1,6 +1,8 @@
 -- Demand 3 from its other side: lists of edits that it does not accept, each wrong for one reason alone.
 use Prim.Native.Nat.{ℕ, zero, suc, _≤_}
+use mathlib.Core.Path.{_≡_}
 use mathlib.Core.List.{List, [], _∷_}
+use mathlib.Core.Option.{some}
 use lib.ListN.{length, getD, replicate}
 use Rattle.entity.specs.Place.{reg, slot}
 use Rattle.reginfo.specs.RegInfo.{RegInfo}
@@ -11,7 +13,7 @@ use Rattle.rules.specs.Edit.{Edit, Move, Rematerialize, EmergencySpill, Emergen
 use Rattle.rules.specs.Scratch.{emptyCache}
 use Rattle.rules.specs.Patch.{move, Patch, sorted, bound, resolve}
 use Rattle.rules.specs.Trials.{single, fixed, over, patch, Gives}
-use Rattle.machine.specs.Machine.{Memory}
+use Rattle.machine.specs.Machine.{Memory, Machine, begin, read, steps, seen}
 use Rattle.machine.specs.Claim.{Contents, Holding, RightFrom, Accepted}
 
 -- six registers of one unit in bank 0, of which the stack class has the first three, and one of two units in bank 1, beside r7, an argument word
@@ -69,6 +71,9 @@ pub record Wrong (p : Patch) (content : ℕ → List ℕ) (start : Memory) (es :
 abbrev pub plainly : Patch → List Edit → Type 0
 plainly p es = Wrong p (words 70 71 72) start es
 
+abbrev pub among : List Edit → Type 0
+among es = Wrong three (words 70 71 72) start es
+
 abbrev pub right : Edit
 right = Move (reg 1) (reg 0) 0
 
@@ -89,10 +94,12 @@ pub record NotAccepted : Type 0 where
   pub source-overwritten : plainly one (right ∷ Move (reg 0) (reg 2) 0 ∷ [])
   -- leaves a register waiting
   pub left-waiting : plainly one (EmergencySpill 2 2 ∷ right ∷ [])
-  -- writes the slot of a waiting register and mends it before the end
-  pub waiting-lost : plainly one (EmergencySpill 2 2 ∷ Move (slot 2) (reg 0) 0 ∷ Move (slot 2) (reg 2) 0 ∷ EmergencyReload 2 2 ∷ right ∷ [])
+  -- what was saved is lost in the slot, so that the reload brings other words; mended before the end
+  pub saved-lost : plainly one (EmergencySpill 2 2 ∷ Move (slot 2) (reg 0) 0 ∷ EmergencyReload 2 2 ∷ Move (reg 2) (slot 0) 1 ∷ right ∷ [])
+  -- value 0 is for one stop nowhere but in r1, which waits and so counts as holding what was saved
+  pub waiting-lost : among (EmergencySpill 2 1 ∷ right ∷ Move (reg 0) (reg 2) 1 ∷ Move (slot 3) (reg 1) 0 ∷ EmergencyReload 1 2 ∷ Move (reg 1) (slot 3) 0 ∷ Move (reg 4) (reg 3) 2 ∷ [])
   -- the same of a register that was saved before another, while both wait (02 i: "All saved words count when the machine is stopped.")
-  pub earlier-lost : plainly one (EmergencySpill 2 2 ∷ EmergencySpill 3 3 ∷ Move (slot 2) (reg 0) 0 ∷ Move (slot 2) (reg 2) 0 ∷ EmergencyReload 3 3 ∷ EmergencyReload 2 2 ∷ right ∷ [])
+  pub earlier-lost : among (EmergencySpill 2 1 ∷ EmergencySpill 3 3 ∷ right ∷ Move (reg 0) (reg 2) 1 ∷ Move (slot 4) (reg 1) 0 ∷ EmergencyReload 3 3 ∷ EmergencyReload 1 2 ∷ Move (reg 1) (slot 4) 0 ∷ Move (reg 4) (reg 3) 2 ∷ [])
   -- the empty list
   pub empty : plainly one []
   -- loses value 0 at the first edit and rebuilds it at the second, while its words stand in slot 1 by chance
@@ -109,5 +116,9 @@ pub record NotAccepted : Type 0 where
   pub outside-its-class : plainly one (right ∷ Rematerialize (reg 5) 0 ∷ [])
   -- a rebuild of a value that can't be rebuilt
   pub not-rebuildable : plainly one (right ∷ Rematerialize (reg 5) 1 ∷ [])
+  -- "its units then count as holding what was saved", not what the slot holds
+  pub counts-as-saved : (s : Machine) × (steps seven values (words 70 71 72) (EmergencySpill 2 2 ∷ Move (slot 2) (reg 0) 0 ∷ []) (begin start) ≡ some s) × (read seven values (seen seven values s) (reg 2) ≡ 71 ∷ [])
+  -- writes the slot of a waiting register and mends it before the reload: no stop is wrong, but meanwhile the slot does not hold what was saved
+  pub not-kept : Accepted seven values one (EmergencySpill 2 2 ∷ Move (slot 2) (reg 0) 0 ∷ Move (slot 2) (reg 2) 0 ∷ EmergencyReload 2 2 ∷ right ∷ []) → ⊥
   -- one edit over the bound
   pub over-the-bound : Accepted seven values one (replicate 9 right) → ⊥
