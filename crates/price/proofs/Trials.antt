@@ -1,4 +1,7 @@
-use mathlib.Core.Path.{refl}
+-- What edits cost, computed.
+use Prim.Native.Nat.{ℕ}
+use mathlib.Core.Path.{_≡_, refl}
+use native.Mathlib.Omega.{arith}
 use Rattle.reginfo.specs.RegInfo.{bankForReg}
 use Rattle.function.specs.Function.{valueBank}
 use Rattle.price.specs.Price.{inRange, priceIn, totalOf}
@@ -23,4 +26,10 @@ trials = record {
   most = refl;
   bank-0 = refl;
   bank-1 = refl;
+  other-bank-0 = refl;
+  other-bank-1 = refl;
+  by-kind = refl;
+  by-word = refl;
+  not-all-banks = λ e. let z : _≡_ {A = ℕ} 1111 110 = e in omega arith;
+  in-no-bank = λ e. let z : _≡_ {A = ℕ} 1111 0 = e in omega arith;
 }

@@ -10,7 +10,7 @@ use Rattle.function.specs.Function.{Function}
 use Rattle.rules.specs.Edit.{Edit, Move, Rematerialize, EmergencySpill, EmergencyReload}
 use Rattle.edit.specs.Word.{wordOf}
 use Rattle.price.specs.declared.Prices.{Prices}
-use Rattle.price.specs.Price.{inRange, priceOf, totalOf}
+use Rattle.price.specs.Price.{inRange, priceOf, priceIn, totalOf}
 use Rattle.price.specs.Totals.{bankOf, fromFirst, inBank, byBank}
 
 abbrev pub prices : ℕ → ℕ → ℕ → ℕ → Prices
@@ -37,8 +37,16 @@ twoValues =
 abbrev pub oneEach : List Edit
 oneEach = Move (slot 0) (reg 0) 1 ∷ EmergencySpill 1 0 ∷ Rematerialize (reg 1) 0 ∷ EmergencyReload 1 1 ∷ []
 
-abbrev pub ofBank : ℕ → ℕ
-ofBank b = fromFirst (priceOf (prices 1 10 100 1000)) (inBank (bankOf twoBanks twoValues) b oneEach)
+-- M of a value of bank 0 out of a register of bank 1, S of a register of bank 1, R of a value of bank 1 into a register of bank 0, L of a register of bank 0
+abbrev pub otherEach : List Edit
+otherEach = Move (slot 0) (reg 1) 0 ∷ EmergencySpill 1 1 ∷ Rematerialize (reg 0) 1 ∷ EmergencyReload 0 1 ∷ []
+
+-- by these each edit's price tells its kind
+abbrev pub apart : Edit → ℕ
+apart = priceOf (prices 1 10 100 1000)
+
+abbrev pub ofBank : ℕ → List Edit → ℕ
+ofBank b es = fromFirst apart (inBank (bankOf twoBanks twoValues) b es)
 
 pub record Trials : Type 0 where
   pub swap-full : cost (Move (slot 0) (reg 1) 1 ∷ Move (reg 1) (reg 0) 0 ∷ Move (reg 0) (slot 0) 1 ∷ []) ≡ 12
@@ -59,6 +67,14 @@ pub record Trials : Type 0 where
   -- the dearest patch, most often run
   pub dearest : totalOf (prices 65535 0 0 0) (replicate 1024 1) ≡ 67107840
   pub most : 67108863 * 67107840 ≡ 4503530840785920
-  -- by bank: R and S; M and L
-  pub bank-0 : ofBank 0 ≡ 110
-  pub bank-1 : ofBank 1 ≡ 1001
+  -- "M and R by the value's bank, S and L by the register's", each kind in either bank: R and S; M and L
+  pub bank-0 : ofBank 0 oneEach ≡ 110
+  pub bank-1 : ofBank 1 oneEach ≡ 1001
+  pub other-bank-0 : ofBank 0 otherEach ≡ 1001
+  pub other-bank-1 : ofBank 1 otherEach ≡ 110
+  -- each kind at its own price, of an edit and of its word
+  pub by-kind : map apart oneEach ≡ 1 ∷ 100 ∷ 10 ∷ 1000 ∷ []
+  pub by-word : map (priceIn (prices 1 10 100 1000)) (map wordOf oneEach) ≡ 1 ∷ 100 ∷ 10 ∷ 1000 ∷ []
+  -- what `Totals` shuts out: the banks but the last, and an edit that counts in no bank there is
+  pub not-all-banks : fromFirst apart oneEach ≡ byBank apart (bankOf twoBanks twoValues) 1 oneEach → ⊥
+  pub in-no-bank : fromFirst apart oneEach ≡ byBank apart (λ e. 2) 2 oneEach → ⊥
