@@ -1,4 +1,4 @@
--- No more registers are held than the function keeps; where it keeps one, to make room is to bring back the evicted one.
+-- No more registers are held than the function keeps.
 use Prim.Native.Nat.{ℕ, zero, suc, pred, _<_, _≤_}
 use mathlib.Core.Path.{_≡_, refl, ap, subst}
 use mathlib.Core.Bool.{Bool, true, false}
@@ -15,7 +15,7 @@ use Rattle.function.proofs.Laws.{kept-some}
 use Rattle.rules.specs.Edit.{Rematerialize, each, find, filter}
 use Rattle.rules.specs.Scratch.{ScratchAllocator, Evicted, Found, push, withEvicted, releasePlace, unevict, unevictAll, unevictBut, overlapsEvicted, unevictForReg, makeRoom, usable, meeting, searchedTo, slotScratch, evictLast, reuse, orScratch, getScratchReg, nothingBarred, moveEdits, doMove}
 use Rattle.rules.specs.Order.{KeptMove, Remat, ParallelMoves, rematWithScratch, source, value, writers, cycleMoveSources, emit, noted, divert, carried, lead, lost, undivert, undivertAll, close, visit, moves, withState, Pending, Done, isNew, isPending}
-use Rattle.rules.specs.Evictions.{AtOne, Few, FewHeld}
+use Rattle.rules.specs.Evictions.{Few, FewHeld}
 use Rattle.rules.proofs.Steps.{All, all-then, all-after, branch, Every, all-each}
 use Rattle.rules.proofs.Parts.{filter-parts, parts-length}
 
@@ -29,20 +29,7 @@ module _ (t : RegInfo) (f : Function) where
   unevict-evicted [] k = refl
   unevict-evicted (e ∷ l) k = unevict-evicted l k
 
-  pub at-one : AtOne t f
-  unfolding makeRoom unevictBut unevictForReg filter unevict
-  at-one one r k h = rw one (go (k .evicted) h)
-    where
-      go : (es : List Evicted) → length es ≤ 1 → unevictBut t f 0 (unevictForReg t f (reg r) (withEvicted es k)) ≡ unevictAll t f (withEvicted es k)
-      go [] l = refl
-      go (e ∷ []) l = by (overlapsEvicted t f (reg r) e)
-        where
-          by : (b : Bool) → unevictBut t f 0 (unevict t f (pick b (e ∷ []) []) (withEvicted (pick (no b) (e ∷ []) []) k)) ≡ unevict t f (e ∷ []) (withEvicted [] k)
-          by true = refl
-          by false = refl
-      go (e ∷ e′ ∷ es) l = absurd (omega arith)
-
-  for-few : (p : Place) (k : ScratchAllocator) → Few t f k → Few t f (unevictForReg t f p k)
+  pub for-few : (p : Place) (k : ScratchAllocator) → Few t f k → Few t f (unevictForReg t f p k)
   unfolding unevictForReg
   for-few p k h =
       let es = filter (overlapsEvicted t f p) (k .evicted) in
@@ -59,7 +46,7 @@ module _ (t : RegInfo) (f : Function) where
   room-few r k = let k′ = unevictForReg t f (reg r) k in omega (arith, ap length (but-evicted (pred (f .kept)) k′), length-take (pred (f .kept)) (k′ .evicted))
 
   module _ (some-kept : 0 < f .kept) where
-    abbrev FewFound : Found → Type 0
+    abbrev pub FewFound : Found → Type 0
     FewFound x = Few t f (x .scratch)
 
     slot-few : (n b : ℕ) (k : ScratchAllocator) → Few t f k → All FewFound (slotScratch t f n b k)
@@ -76,7 +63,7 @@ module _ (t : RegInfo) (f : Function) where
     or-few (some r) n b c k h = h
     or-few none n b c k h = branch (All FewFound) (includesSpillslots t c) _ _ (λ _. slot-few n b k h) (λ _. reuse-few (k .evicted) n b c k h)
 
-    search-few : (b c : ℕ) (barred : ℕ → Bool) (k : ScratchAllocator) → Few t f k → All FewFound (getScratchReg t f b c barred k)
+    pub search-few : (b c : ℕ) (barred : ℕ → Bool) (k : ScratchAllocator) → Few t f k → All FewFound (getScratchReg t f b c barred k)
     unfolding getScratchReg
     search-few b c barred k h = or-few (find (usable t f barred k) (allocationOrder t c)) (searchedTo t f c barred k) b c (meeting (searchedTo t f c barred k) k) h
 

@@ -1,5 +1,7 @@
 -- The trials of 02 g, by computation.
-use mathlib.Core.Path.{refl}
+use Prim.Native.Nat.{ℕ}
+use mathlib.Core.Path.{_≡_, refl, ap}
+use native.Mathlib.Omega.{arith}
 use Rattle.entity.specs.Logic.{any, all, has, meets, lastOr, indices}
 use Rattle.reginfo.specs.RegInfo.{spillslotSize, topLevelClass, stackToStackClass, regMemory, bankForReg, regUnits, bankForClass, classSlots, classMembers, allocationOrder}
 use Rattle.reginfo.specs.Refused.{firstOf}
@@ -10,7 +12,7 @@ use Rattle.rules.specs.Order.{carryOne, carry, remats, rematWithScratch,
 use Rattle.rules.specs.Patch.{destinations, add, entryConditions, patchConditions, run, resolveSorted, resolveFrom, resolve}
 use Rattle.rules.specs.Trials.{three}
 use Rattle.rules.specs.Take.{takeAnswer, standing, answered, askedAfter, afterAll}
-use Rattle.rules.specs.TakeTrials.{TakeTrials}
+use Rattle.rules.specs.TakeTrials.{Told, nothing, number, toldBy, bySlot, TakeTrials}
 
 pub take-trials : TakeTrials
 unfolding any all has meets lastOr indices spillslotSize topLevelClass stackToStackClass regMemory bankForReg regUnits bankForClass classSlots classMembers allocationOrder firstOf valueBank rematCost rematClass updated andThen each find firstAt filter acquireFrom unevict unevictBut unevictForReg makeRoom slotScratch evictLast reuse orScratch getScratchReg moveEdits doMove carryOne carry remats rematWithScratch writerFrom writersOf writers cycleMoveSources divert lead undivert undivertAll close visit visitUnlessMemory start moves destinations add entryConditions patchConditions run resolveSorted resolveFrom resolve three standing answered askedAfter afterAll takeAnswer
@@ -26,4 +28,6 @@ take-trials =
       nothing-led = (refl, refl, refl);
       again-told = refl;
       again-led = (refl, refl, refl);
+      not-between = λ h. let e : _≡_ {A = Told} (number 20) (bySlot 0) = ap toldBy (h .0) in let z : _≡_ {A = ℕ} 0 1 = cc in omega arith;
+      not-nothing = λ h. let e : _≡_ {A = Told} (bySlot 0) nothing = ap toldBy h in let z : _≡_ {A = ℕ} 0 1 = cc in omega arith;
     }

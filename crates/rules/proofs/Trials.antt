@@ -9,11 +9,11 @@ use Rattle.rules.specs.Edit.{updated, andThen, each, find, firstAt, filt
 use Rattle.rules.specs.Scratch.{acquireFrom, unevict, unevictBut, unevictForReg, makeRoom, slotScratch, evictLast, reuse, orScratch, getScratchReg, moveEdits, doMove}
 use Rattle.rules.specs.Order.{carryOne, carry, remats, rematWithScratch, writerFrom, writersOf, writers, cycleMoveSources, divert, lead, undivert, undivertAll, close, visit, visitUnlessMemory, start, moves}
 use Rattle.rules.specs.Patch.{destinations, add, entryConditions, patchConditions, run, resolveSorted, resolveFrom, resolve}
-use Rattle.rules.specs.Trials.{three, chained, five, six, halves, between, sizes, slotsAlone, memory, eight, Trials, ToldApart}
+use Rattle.rules.specs.Trials.{three, chained, five, six, halves, between, sizes, slotsAlone, memory, shortOrder, eight, Trials, ToldApart}
 use Rattle.rules.specs.ChangeTrials.{doubled, ordered, twoBanks, threeBanks, onNewer, onBoth, onEach, members, Overlaps, Sources, ArgumentWords, Positions, TwoKept, BroughtBack}
 
 all-trials : Trials × ToldApart × Overlaps × Sources × ArgumentWords × Positions
-unfolding any all has meets lastOr indices spillslotSize topLevelClass stackToStackClass regMemory bankForReg regUnits bankForClass classSlots classMembers allocationOrder firstOf valueBank rematCost rematClass updated andThen each find firstAt filter acquireFrom unevict unevictBut unevictForReg makeRoom slotScratch evictLast reuse orScratch getScratchReg moveEdits doMove carryOne carry remats rematWithScratch writerFrom writersOf writers cycleMoveSources divert lead undivert undivertAll close visit visitUnlessMemory start moves destinations add entryConditions patchConditions run resolveSorted resolveFrom resolve three chained five six halves between sizes slotsAlone memory eight ordered orderTotal countsFit bankFits regFits classFits outsideLimits listedTwice unequalWidths foreignMember sharedMemory unfitClass targetRefusal twice doubled
+unfolding any all has meets lastOr indices spillslotSize topLevelClass stackToStackClass regMemory bankForReg regUnits bankForClass classSlots classMembers allocationOrder firstOf valueBank rematCost rematClass updated andThen each find firstAt filter acquireFrom unevict unevictBut unevictForReg makeRoom slotScratch evictLast reuse orScratch getScratchReg moveEdits doMove carryOne carry remats rematWithScratch writerFrom writersOf writers cycleMoveSources divert lead undivert undivertAll close visit visitUnlessMemory start moves destinations add entryConditions patchConditions run resolveSorted resolveFrom resolve three chained five six halves between sizes slotsAlone memory shortOrder eight ordered orderTotal countsFit bankFits regFits classFits outsideLimits listedTwice unequalWidths foreignMember sharedMemory unfitClass targetRefusal twice doubled
 all-trials = (
   record {
     swap-full = refl;
@@ -28,7 +28,7 @@ all-trials = (
     no-slot-cache = (refl, refl);
   },
   record {
-    targets = (refl, refl, refl, refl, refl, refl, refl, refl, refl, refl);
+    targets = (refl, refl, refl, refl, refl, refl, refl, refl, refl, refl, refl);
     closed-first = refl;
     sources-spared = refl;
     scratch-on-evicted = refl;
@@ -53,6 +53,7 @@ all-trials = (
     fan-out-repeated = refl;
     sources-differ = refl;
     values-differ = refl;
+    member-taken-again = refl;
   },
   record {
     targets = (refl, refl, refl);

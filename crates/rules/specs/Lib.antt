@@ -4,8 +4,9 @@ pub mod Order
 pub mod Counts
 pub mod Depth
 pub mod Position
-pub mod Evictions
+pub mod OneKept
 pub mod Patch
+pub mod Evictions
 pub mod Sorted
 pub mod Trials
 pub mod ChangeTrials

@@ -7,9 +7,10 @@ use Rattle.entity.specs.Logic.{indices}
 use Rattle.entity.specs.Place.{reg, slot}
 use Rattle.function.specs.Function.{Function}
 use Rattle.rules.specs.Edit.{Edit, Move, updated}
-use Rattle.rules.specs.Patch.{Entry, move, Answer, refused, resolved}
+use Rattle.rules.specs.Scratch.{emptyCache}
+use Rattle.rules.specs.Patch.{Entry, move, Answer, refused, resolved, resolve}
 use Rattle.rules.specs.Trials.{three, plain, patch, swap}
-use Rattle.rules.specs.Take.{Request, resolving, asking, taking, Served, fresh, answered, after, reached}
+use Rattle.rules.specs.Take.{Request, resolving, asking, taking, Served, fresh, answered, after, reached, TwentyAfter, AsResolved}
 
 -- nothing to take, a number, or edits, slots made and position
 pub data Told : Type 0 where
@@ -83,3 +84,8 @@ pub record TakeTrials : Type 0 where
   -- after a take comes the next asking, by the same slot
   pub again-told : told (plain 0 1) asked-again ≡ bySlot 0 ∷ bySlot 0 ∷ bySlot 0 ∷ bySlot 0 ∷ number 20 ∷ bySlot 0 ∷ bySlot 0 ∷ []
   pub again-led : Leads (plain 0 1) asked-again 1 (0 ∷ []) 3
+  -- what is shut out: asking and taking that equals resolving though a patch was resolved between
+  pub not-between :
+      AsResolved three (plain 0 1) fresh (patch [] swap) 16 (put [] ∷ []) (resolve three (plain 0 1) (patch [] swap) 16 emptyCache) → ⊥
+  -- nor does an asking that is answered leave nothing to take
+  pub not-nothing : TwentyAfter three (plain 0 1) fresh (patch [] swap) 16 [] (refused 17) → ⊥

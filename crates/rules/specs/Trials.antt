@@ -176,6 +176,20 @@ memory =
           ∷ [];
     }
 
+-- the stack class has r0 and r1, but only r1 in its order; r0 is a class of its own
+unfoldable pub shortOrder : RegInfo
+shortOrder =
+    record {
+      units = 2;
+      banks = record { size = 3; top = 0; stack = 1 } ∷ [];
+      regs = single 0 ∷ single 1 ∷ [];
+      classes =
+          record { bank = 0; slots = 1; members = []; order = [] }
+          ∷ record { bank = 0; slots = 0; members = 0 ∷ 1 ∷ []; order = 1 ∷ [] }
+          ∷ record { bank = 0; slots = 0; members = 0 ∷ []; order = 0 ∷ [] }
+          ∷ [];
+    }
+
 abbrev pub triple : ℕ → ℕ → ℕ → Reg
 triple u x y = record { memory = 0; bank = 0; units = u ∷ x ∷ y ∷ [] }
 
@@ -199,7 +213,7 @@ over vs n l = record { values = vs; slots = n; limit = l; kept = 1 }
 -- One patch for each of 01's temptations, and for other rules that are easily taken for these. The edits are those of the original.
 pub record ToldApart : Type 0 where
   -- no target of a trial is refused
-  pub targets : target.Accepted three × target.Accepted chained × target.Accepted five × target.Accepted six × target.Accepted halves × target.Accepted between × target.Accepted sizes × target.Accepted slotsAlone × target.Accepted memory × target.Accepted eight
+  pub targets : target.Accepted three × target.Accepted chained × target.Accepted five × target.Accepted six × target.Accepted halves × target.Accepted between × target.Accepted sizes × target.Accepted slotsAlone × target.Accepted memory × target.Accepted eight × target.Accepted shortOrder
   -- "testing for a cycle before closing the move itself, so that a source overlapping its own destination is diverted"
   pub closed-first : Gives (resolve chained (over (fixed 0 ∷ []) 0 1) (patch [] (move (reg 0) (reg 1) 0 ∷ [])) 8 emptyCache) (Move (reg 1) (reg 0) 0 ∷ []) 0 []
   -- "a diversion into a register that some kept move reads": unit 2 is free, and r2 is moved
@@ -281,3 +295,7 @@ pub record ToldApart : Type 0 where
   pub sources-differ : resolve three (plain 0 1) (patch [] (move (reg 0) (reg 2) 0 ∷ move (reg 1) (reg 2) 0 ∷ [])) 16 emptyCache ≡ refused 12
   -- or in its value
   pub values-differ : resolve three (plain 0 1) (patch [] (move (reg 0) (reg 2) 0 ∷ move (reg 0) (reg 2) 1 ∷ [])) 16 emptyCache ≡ refused 12
+  -- an evicted register taken again only where the order has it: "the evicted register if a member", here r0
+  pub member-taken-again :
+      Gives (resolve shortOrder (over (rematValue 2 ∷ rematValue 1 ∷ []) 2 1) (patch [] (remat (slot 0) 0 ∷ remat (slot 1) 1 ∷ [])) 10 emptyCache)
+      (EmergencySpill 2 0 ∷ Rematerialize (reg 0) 1 ∷ Move (slot 1) (reg 0) 1 ∷ Rematerialize (reg 0) 0 ∷ Move (slot 0) (reg 0) 0 ∷ EmergencyReload 0 2 ∷ []) 1 (2 ∷ [])
