@@ -114,11 +114,11 @@ stored-holds = rw stored-kept at
     at (suc i) h = absurd (omega arith)
 
 -- 70, 71 and c in r0, r2 and r3
-three-holds : (c : ℕ) (x y : List ℕ) → Holding seven values lists.three (words 70 71 c) (holding (70 ∷ 1 ∷ 71 ∷ c ∷ 4 ∷ 5 ∷ 6 ∷ 7 ∷ []) x y)
+three-holds : (c d : ℕ) (x y : List ℕ) → Holding seven values lists.three (words 70 71 c) (holding (70 ∷ 1 ∷ 71 ∷ c ∷ 4 ∷ d ∷ 6 ∷ 7 ∷ []) x y)
 unfolding seven regUnits regMemory read
-three-holds c x y = rw three-kept at
+three-holds c d x y = rw three-kept at
   where
-    at : (i : ℕ) → i < 3 → read seven values (holding (70 ∷ 1 ∷ 71 ∷ c ∷ 4 ∷ 5 ∷ 6 ∷ 7 ∷ []) x y) (getD all-kept i noMove .source) ≡ words 70 71 c (getD all-kept i noMove .value)
+    at : (i : ℕ) → i < 3 → read seven values (holding (70 ∷ 1 ∷ 71 ∷ c ∷ 4 ∷ d ∷ 6 ∷ 7 ∷ []) x y) (getD all-kept i noMove .source) ≡ words 70 71 c (getD all-kept i noMove .value)
     at zero h = refl
     at (suc zero) h = refl
     at (suc (suc zero)) h = refl
@@ -128,9 +128,13 @@ three-holds c x y = rw three-kept at
 differ : {x y : ℕ} {l m : List ℕ} → (x ≡ y → ⊥) → x ∷ l ≡ y ∷ m → ⊥
 differ n e = n (ap (λ (l : List ℕ). getD l 0 0) e)
 
--- where r0 holds 71, r1 counts as holding 1 and no edit wrote 70 elsewhere, value 0 is lost
+-- no scratch place that is r1 holds 70 where r1 counts as holding 1
+not-in-r1 : (s : Machine) → read seven values (seen seven values s) (reg 1) ≡ 1 ∷ [] → (q : Place) → q ≡ reg 1 → read seven values (seen seven values s) q ≡ 70 ∷ [] → ⊥
+not-in-r1 s r1 q p e = differ (λ (z : 1 ≡ 70). omega arith) (sym r1 ∙ ap (read seven values (seen seven values s)) (sym p) ∙ e)
+
+-- where r0 holds 71, r1 counts as holding 1 and no scratch place holds 70, value 0 is lost
 module _ (c : ℕ) (s : Machine) (r0 : read seven values (seen seven values s) (reg 0) ≡ 71 ∷ []) (r1 : read seven values (seen seven values s) (reg 1) ≡ 1 ∷ [])
-    (alone : (q : Place) → IsScratch seven values lists.three (words 70 71 c) s q 0 → q ≡ reg 1)
+    (alone : (q : Place) → IsScratch seven values lists.three (words 70 71 c) s q 0 → read seven values (seen seven values s) q ≡ 70 ∷ [] → ⊥)
   where
     nowhere : (q : Place) → read seven values (seen seven values s) q ≡ 70 ∷ [] → OfValue seven values lists.three (words 70 71 c) q 0 ⊎ IsScratch seven values lists.three (words 70 71 c) s q 0 → ⊥
     unfolding seven any has regMemory classMembers rematCost rematClass sortedFrom add
@@ -139,7 +143,7 @@ module _ (c : ℕ) (s : Machine) (r0 : read seven values (seen seven values s) (
     nowhere q e (inl (suc zero, h, v, p)) = omega arith
     nowhere q e (inl (suc (suc zero), h, v, p)) = omega arith
     nowhere q e (inl (suc (suc (suc i)), h, v, p)) = omega arith
-    nowhere q e (inr m) = differ (λ (z : 1 ≡ 70). omega arith) (sym r1 ∙ ap (read seven values (seen seven values s)) (sym (alone q m)) ∙ e)
+    nowhere q e (inr m) = alone q m e
 
     lost : (m : Memory) → Stopped seven values lists.three (words 70 71 c) m s → ⊥
     unfolding seven any has regMemory classMembers rematCost rematClass sortedFrom add
@@ -160,7 +164,7 @@ module _ (c : ℕ) (x y : List ℕ) (es : List Edit) where
 
   lost-at-once : RightFrom seven values lists.three (words 70 71 c) begun (losing ∷ es) → ⊥
   unfolding seven regUnits regMemory updated andThen put read write fits step steps counted the after
-  lost-at-once r = lost c (after _ _ _ _ r 1) refl refl alone begun (stopped _ _ _ _ r 1)
+  lost-at-once r = lost c (after _ _ _ _ r 1) refl refl (λ q m. not-in-r1 (after _ _ _ _ r 1) refl q (alone q m)) begun (stopped _ _ _ _ r 1)
     where
       alone : (q : Place) → IsScratch seven values lists.three (words 70 71 c) (after _ _ _ _ r 1) q 0 → q ≡ reg 1
       alone q (List·Memᴰ·head w) = other (λ (z : 71 ≡ 70). omega arith) w
@@ -173,7 +177,7 @@ module _ (es : List Edit) where
 
   lost-waiting : RightFrom seven values lists.three (words 70 71 72) lists.start after-3 → ⊥
   unfolding seven regUnits regMemory updated andThen filter put read write fits step steps counted the after
-  lost-waiting r = lost 72 (after _ _ _ _ r 3) refl refl alone lists.start (stopped _ _ _ _ r 3)
+  lost-waiting r = lost 72 (after _ _ _ _ r 3) refl refl (λ q m. not-in-r1 (after _ _ _ _ r 3) refl q (alone q m)) lists.start (stopped _ _ _ _ r 3)
     where
       alone : (q : Place) → IsScratch seven values lists.three (words 70 71 72) (after _ _ _ _ r 3) q 0 → q ≡ reg 1
       alone q (List·Memᴰ·head w) = other (λ (z : 71 ≡ 70). omega arith) w
@@ -186,7 +190,7 @@ module _ (es : List Edit) where
 
   lost-earlier : RightFrom seven values lists.three (words 70 71 72) lists.start after-4 → ⊥
   unfolding seven regUnits regMemory updated andThen filter put read write fits step steps counted the after
-  lost-earlier r = lost 72 (after _ _ _ _ r 4) refl refl alone lists.start (stopped _ _ _ _ r 4)
+  lost-earlier r = lost 72 (after _ _ _ _ r 4) refl refl (λ q m. not-in-r1 (after _ _ _ _ r 4) refl q (alone q m)) lists.start (stopped _ _ _ _ r 4)
     where
       alone : (q : Place) → IsScratch seven values lists.three (words 70 71 72) (after _ _ _ _ r 4) q 0 → q ≡ reg 1
       alone q (List·Memᴰ·head w) = other (λ (z : 71 ≡ 70). omega arith) w
@@ -194,6 +198,25 @@ module _ (es : List Edit) where
       alone q (List·Memᴰ·tail (List·Memᴰ·tail (List·Memᴰ·head w))) = other (λ (z : 72 ≡ 70). omega arith) w
       alone q (List·Memᴰ·tail (List·Memᴰ·tail (List·Memᴰ·tail (List·Memᴰ·head w)))) = other (λ (z : 1 ≡ 70). omega arith) w
       alone q (List·Memᴰ·tail (List·Memᴰ·tail (List·Memᴰ·tail (List·Memᴰ·tail m)))) = absurd (List·Memᴰ·not-nil m)
+
+  -- while r5 waits, which was written with other words
+  abbrev after-5 : List Edit
+  after-5 = EmergencySpill 2 5 ∷ Move (slot 2) (reg 2) 1 ∷ Move (reg 5) (reg 2) 1 ∷ losing ∷ es
+
+  abbrev begun-5 : Memory
+  begun-5 = holding (70 ∷ 1 ∷ 71 ∷ 72 ∷ 4 ∷ 70 ∷ 6 ∷ 7 ∷ []) (71 ∷ []) (9 ∷ [])
+
+  lost-written : RightFrom seven values lists.three (words 70 71 72) begun-5 after-5 → ⊥
+  unfolding seven regUnits regMemory updated andThen filter put read write fits step steps counted the after
+  lost-written r = lost 72 (after _ _ _ _ r 4) refl refl alone begun-5 (stopped _ _ _ _ r 4)
+    where
+      alone : (q : Place) → IsScratch seven values lists.three (words 70 71 72) (after _ _ _ _ r 4) q 0 → read seven values (seen seven values (after _ _ _ _ r 4)) q ≡ 70 ∷ [] → ⊥
+      alone q (List·Memᴰ·head w) e = other (λ (z : 71 ≡ 70). omega arith) w
+      alone q (List·Memᴰ·tail (List·Memᴰ·head w)) e = other (λ (z : 71 ≡ 70). omega arith) w
+      alone q (List·Memᴰ·tail (List·Memᴰ·tail (List·Memᴰ·head w))) e = other (λ (z : 71 ≡ 70). omega arith) w
+      alone q (List·Memᴰ·tail (List·Memᴰ·tail (List·Memᴰ·tail (List·Memᴰ·head w)))) e =
+          differ (λ (z : 71 ≡ 70). omega arith) (ap (read seven values (seen seven values (after _ _ _ _ r 4))) (sym (ap (λ (w : Written). w .place) w)) ∙ e)
+      alone q (List·Memᴰ·tail (List·Memᴰ·tail (List·Memᴰ·tail (List·Memᴰ·tail m)))) e = absurd (List·Memᴰ·not-nil m)
 
 pub not-accepted : NotAccepted
 unfolding any all has meets lastOr indices spillslotSize topLevelClass stackToStackClass regMemory bankForReg regUnits bankForClass classSlots classMembers allocationOrder firstOf valueBank rematCost rematClass updated andThen each find filter acquireFrom unevict unevictBut unevictForReg makeRoom slotScratch evictLast reuse orScratch getScratchReg moveEdits doMove carryOne carry remats rematWithScratch writerFrom writersOf writers cycleMoveSources divert lead undivert undivertAll close visit visitUnlessMemory start moves destinations add sortedFrom entryConditions patchConditions run resolveSorted resolveFrom resolve seven orderTotal countsFit bankFits regFits classFits outsideLimits listedTwice unequalWidths foreignMember sharedMemory unfitClass targetRefusal twice isSetting function.countsFit function.valueFits function.foreignClass function.valuesRefusal function.functionRefusal put read write fits step steps counted the can after
@@ -208,14 +231,19 @@ not-accepted =
       foreign-word = plainly-wrong _ (omega arith) (λ r. differ (λ (z : 70 ≡ 80). omega arith) (stopped _ _ _ _ r 2 .units 8 (omega arith) refl refl .1));
       foreign-slot = plainly-wrong _ (omega arith) (λ r. differ (λ (z : 70 ≡ 9). omega arith) (stopped _ _ _ _ r 2 .slots 1 (omega arith) refl));
       source-overwritten = plainly-wrong _ (omega arith) (λ r. let e : 71 ≡ 70 = stopped _ _ _ _ r 2 .units 0 (omega arith) refl refl .0 in omega arith);
+      source-slot-overwritten =
+          record { whole = whole 70 71 72; holds = stored-holds; within = omega arith; not-right = λ r. differ (λ (z : 70 ≡ 71). omega arith) (stopped _ _ _ _ r 5 .slots 0 (omega arith) refl) };
       left-waiting = plainly-wrong _ (omega arith) (λ r. let e : 1 ≡ 0 = ap length (finished _ _ _ _ r .none-waits) in omega arith);
       saved-lost = plainly-wrong _ (omega arith) (λ r. let e : 70 ≡ 71 = stopped _ _ _ _ r 3 .units 2 (omega arith) refl refl .0 in omega arith);
-      waiting-lost = record { whole = whole 70 71 72; holds = three-holds 72 _ _; within = omega arith; not-right = lost-waiting _ };
-      earlier-lost = record { whole = whole 70 71 72; holds = three-holds 72 _ _; within = omega arith; not-right = lost-earlier _ };
+      waiting-lost = record { whole = whole 70 71 72; holds = three-holds 72 5 _ _; within = omega arith; not-right = lost-waiting _ };
+      earlier-lost = record { whole = whole 70 71 72; holds = three-holds 72 5 _ _; within = omega arith; not-right = lost-earlier _ };
       empty = plainly-wrong _ (omega arith) (λ r. differ (λ (z : 1 ≡ 70). omega arith) (finished _ _ _ _ r .entries (move (reg 0) (reg 1) 0) (List·Memᴰ·head refl)));
-      lost-to-chance = record { whole = whole 70 71 72; holds = three-holds 72 _ _; within = omega arith; not-right = lost-at-once 72 _ _ _ };
-      lost-to-another = record { whole = whole 70 71 70; holds = three-holds 70 _ _; within = omega arith; not-right = lost-at-once 70 _ _ _ };
+      lost-to-chance = record { whole = whole 70 71 72; holds = three-holds 72 5 _ _; within = omega arith; not-right = lost-at-once 72 _ _ _ };
+      lost-to-another = record { whole = whole 70 71 70; holds = three-holds 70 5 _ _; within = omega arith; not-right = lost-at-once 70 _ _ _ };
+      written-otherwise = record { whole = whole 70 71 72; holds = three-holds 72 70 _ _; within = omega arith; not-right = lost-written _ };
       memory-to-memory = record { whole = whole 70 71 72; holds = stored-holds; within = omega arith; not-right = λ r. false≢true (can-do _ _ _ _ r) };
+      word-to-slot = plainly-wrong _ (omega arith) (λ r. false≢true (can-do _ _ _ _ r));
+      slot-to-word = record { whole = whole 70 71 72; holds = one-holds; within = omega arith; not-right = λ r. false≢true (can-do _ _ _ _ r) };
       another-length = plainly-wrong _ (omega arith) (λ r. false≢true (can-do _ _ _ _ r));
       reload-of-another-length = plainly-wrong _ (omega arith) (λ r. false≢true (can-do _ _ _ _ r));
       outside-its-class = plainly-wrong _ (omega arith) (λ r. false≢true (can-do _ _ _ _ r));

@@ -1,9 +1,11 @@
 pub mod Machine
 pub mod Claim
 pub mod ArgumentWords
+pub mod Before
 pub mod Paid
 pub mod Slots
 pub mod Enough
 pub mod SlotTrials
+pub mod NotInStacks
 pub mod Instance
 pub mod NotAccepted

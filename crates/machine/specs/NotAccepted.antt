@@ -39,7 +39,11 @@ values = over (record { bank = 0; cost = 2; class = 1 } ∷ fixed 0 ∷ fixed 0 
 abbrev pub one : Patch
 one = patch (5 ∷ 6 ∷ 7 ∷ []) (move (reg 0) (reg 1) 0 ∷ [])
 
--- the same beside r2 to r0 and r3 to r4
+-- the same with r7 free too
+abbrev pub spare : Patch
+spare = patch (5 ∷ 6 ∷ 7 ∷ 8 ∷ []) (move (reg 0) (reg 1) 0 ∷ [])
+
+-- the first beside r2 to r0 and r3 to r4
 abbrev pub three : Patch
 three = patch (5 ∷ 6 ∷ 7 ∷ []) (move (reg 0) (reg 1) 0 ∷ move (reg 2) (reg 0) 1 ∷ move (reg 3) (reg 4) 2 ∷ [])
 
@@ -92,6 +96,8 @@ pub record NotAccepted : Type 0 where
   pub foreign-slot : plainly one (right ∷ Move (slot 1) (reg 0) 0 ∷ [])
   -- overwrites a kept source that is no destination, once its value stands elsewhere
   pub source-overwritten : plainly one (right ∷ Move (reg 0) (reg 2) 0 ∷ [])
+  -- the same of a slot
+  pub source-slot-overwritten : plainly stored (EmergencySpill 2 2 ∷ Move (reg 2) (slot 0) 1 ∷ Move (slot 1) (reg 2) 1 ∷ EmergencyReload 2 2 ∷ Move (slot 0) (reg 0) 0 ∷ [])
   -- leaves a register waiting
   pub left-waiting : plainly one (EmergencySpill 2 2 ∷ right ∷ [])
   -- what was saved is lost in the slot, so that the reload brings other words; mended before the end
@@ -106,8 +112,14 @@ pub record NotAccepted : Type 0 where
   pub lost-to-chance : Wrong three (words 70 71 72) (holding (70 ∷ 1 ∷ 71 ∷ 72 ∷ 4 ∷ 5 ∷ 6 ∷ 7 ∷ []) (71 ∷ []) (70 ∷ [])) (Move (reg 0) (reg 2) 1 ∷ Rematerialize (reg 1) 0 ∷ Move (reg 4) (reg 3) 2 ∷ [])
   -- the same while they stand in r3, a source of another value
   pub lost-to-another : Wrong three (words 70 71 70) (holding (70 ∷ 1 ∷ 71 ∷ 70 ∷ 4 ∷ 5 ∷ 6 ∷ 7 ∷ []) (71 ∷ []) (9 ∷ [])) (Move (reg 0) (reg 2) 1 ∷ Rematerialize (reg 1) 0 ∷ Move (reg 4) (reg 3) 2 ∷ [])
-  -- memory to memory
+  -- the same while r5, which waits, counts as holding them: r5 was written, but with others, and slot 2, which was written with them, has others now
+  pub written-otherwise :
+      Wrong three (words 70 71 72) (holding (70 ∷ 1 ∷ 71 ∷ 72 ∷ 4 ∷ 70 ∷ 6 ∷ 7 ∷ []) (71 ∷ []) (9 ∷ []))
+      (EmergencySpill 2 5 ∷ Move (slot 2) (reg 2) 1 ∷ Move (reg 5) (reg 2) 1 ∷ Move (reg 0) (reg 2) 1 ∷ Rematerialize (reg 1) 0 ∷ Move (reg 4) (reg 3) 2 ∷ EmergencyReload 5 2 ∷ [])
+  -- memory to memory: slot to slot, an argument word to a slot, a slot to an argument word
   pub memory-to-memory : plainly stored (Move (slot 1) (slot 0) 1 ∷ [])
+  pub word-to-slot : plainly one (right ∷ Move (slot 2) (reg 7) 0 ∷ [])
+  pub slot-to-word : plainly spare (right ∷ Move (reg 7) (slot 0) 1 ∷ [])
   -- a move into a register of another length
   pub another-length : plainly one (right ∷ Move (reg 6) (reg 0) 0 ∷ [])
   -- a reload of another length
