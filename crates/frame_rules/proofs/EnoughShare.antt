@@ -39,16 +39,16 @@ grows t f p room c c′ es n h e =
     subst (λ (y : Cache). c .made ≤ y .made) (sym (r .cache)) (made-within t f p (sorted t f p) c (r .allocator) h (r .ran) .0)
 
 module _ (limit : ℕ) (l : List Inlined) (ok : openRefusal limit l ≡ none) (i : ℕ) (il : i < length l) where
-  abbrev t : RegInfo
+  abbrev pub t : RegInfo
   t = getD l i noFormula .target
 
-  abbrev f : Function
+  abbrev pub f : Function
   f = getD l i noFormula .function
 
-  at : target.Accepted t
+  pub at : target.Accepted t
   at = is-target limit l ok (opened limit l) (known-opened limit l ok) i il
 
-  af : function.Accepted t f
+  pub af : function.Accepted t f
   af = is-function limit l ok (opened limit l) (known-opened limit l ok) i il
 
   -- a cache that the formula might have alone
@@ -61,7 +61,7 @@ module _ (limit : ℕ) (l : List Inlined) (ok : openRefusal limit l ≡ none) (i
     fair : Fair t f (stacked cache) []
 
   -- the same whatever the L
-  to-steady : (k : ℕ) (ab : Banked t (withLimit t f k)) (c : Cache) → InStacks f c → Fair t f (stacked c) [] → Steady t (withLimit t f k) at ab c
+  pub to-steady : (k : ℕ) (ab : Banked t (withLimit t f k)) (c : Cache) → InStacks f c → Fair t f (stacked c) [] → Steady t (withLimit t f k) at ab c
   unfolding valueBank
   to-steady k ab c ins fair =
       record {
@@ -69,7 +69,7 @@ module _ (limit : ℕ) (l : List Inlined) (ok : openRefusal limit l ≡ none) (i
         fair = record { few = fair .few; sized = fair .sized; lies = tt };
       }
 
-  from-steady : (k : ℕ) (ab : Banked t (withLimit t f k)) (c : Cache) → Steady t (withLimit t f k) at ab c → InStacks f c × Fair t f (stacked c) []
+  pub from-steady : (k : ℕ) (ab : Banked t (withLimit t f k)) (c : Cache) → Steady t (withLimit t f k) at ab c → InStacks f c × Fair t f (stacked c) []
   unfolding valueBank
   from-steady k ab c g = (
     record { listed = g .ins .listed; stacked = record { once = g .ins .stacked .once; sole = g .ins .stacked .sole; low = g .ins .stacked .low; below = g .ins .stacked .below } },

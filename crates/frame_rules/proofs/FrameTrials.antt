@@ -1,5 +1,7 @@
 -- The trials of 02 l, by computation.
-use mathlib.Core.Path.{refl}
+use Prim.Native.Nat.{ℕ, _<_}
+use mathlib.Core.Path.{_≡_, refl}
+use native.Mathlib.Omega.{arith}
 use Rattle.entity.specs.Logic.{any, all, has, meets, twice, lastOr, indices}
 use Rattle.reginfo.specs.RegInfo.{spillslotSize, topLevelClass, stackToStackClass, regMemory, bankForReg, regUnits, bankForClass, classSlots, classMembers, allocationOrder}
 use Rattle.reginfo.specs.Refused.{orderTotal, countsFit, bankFits, regFits, classFits, outsideLimits, listedTwice, unequalWidths, foreignMember, sharedMemory, unfitClass, firstOf, targetRefusal}
@@ -30,12 +32,22 @@ frame-trials =
       none-between = refl;
       renamed-since = refl;
       alone = refl;
+      not-one-to-one = λ h. let e : 0 < 0 = h .rises 0 1 (omega arith) in omega arith;
+      not-ordinary = λ h. let e : _≡_ {A = ℕ} 1 0 = h .stays 0 (omega arith) in omega arith;
+      told-another = refl;
+      not-afresh = λ h. let l : 0 < 1 = omega arith in let e : _≡_ {A = ℕ} 1 0 = h .agrees 0 l in omega arith;
       nothing-left = refl;
       shares-above = refl;
       setting = refl;
       another-n = refl;
       n-before-values = (refl, refl);
+      setting-before-target = (refl, refl);
+      setting-before-n = refl;
+      target-before-n = refl;
+      first-before-second = refl;
+      values-before-second = refl;
       no-formula = refl;
+      too-many = (refl, refl);
       limit-over = refl;
       enough = (refl, refl);
       opens = refl;

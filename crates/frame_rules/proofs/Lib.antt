@@ -1,4 +1,5 @@
 pub mod FrameTrials
+pub mod Opening
 pub mod Calls
 pub mod Promise
 pub mod Takes
@@ -10,3 +11,4 @@ pub mod Lifted
 pub mod Beside
 pub mod EnoughShare
 pub mod Independent
+pub mod OneRenaming

@@ -20,7 +20,7 @@ use Rattle.rules.proofs.Enough.{only-by-slots}
 use Rattle.rules.proofs.Tested.{tested}
 use Rattle.rules.proofs.Sum.{sum-change, sum-zero}
 use Rattle.frame_rules.specs.Frame.{Inlined, total, frameConditions, orGiven, openRefusal, formulasRefusal, firstSlots, Asked, Formula, Frame, noFormula, opened, lacks, othersLack, greater, reach, cacheIn, nowIn, functionIn, resolveIn, standingIn, askedIn, madeTo, withCache, FrameCall, afterCall, afterCalls, Named}
-use Rattle.frame_rules.specs.Promise.{MayMake, MakesSlot, Kept, PromisedTo, Promised}
+use Rattle.frame_rules.specs.Promise.{MayMake, MakesSlot, Kept, PromisedTo, Promised, WithinShare}
 use Rattle.frame_rules.proofs.Calls.{along, sum-cong, most, least, either, reach-far, lack-split, resolved-within, Moved, PreviewsIn, moved, at-own, at-other, previews-after, previews-opened}
 
 pub may-make : MayMake
@@ -160,3 +160,13 @@ pub promised : Promised
 promised limit l e calls k =
     let g = sound limit l e calls k in
     (g .kept, λ i h. promised-to (afterCalls calls (opened limit l)) i (omega (arith, g .number, h)) (g .kept))
+
+-- a run that ends in two allocators with slots enough ends in one
+pub within-share : WithinShare
+within-share limit l e calls k i h p room w out =
+    let y = promised limit l e calls k .1 i h .above p room out in
+    let a = w .1 .1 (w .1 .0 + y .1 .0) (omega arith) in
+    let b = y .1 .1 (w .1 .0 + y .1 .0) (omega arith) in
+    let same : w .0 ≡ y .0 = cc in
+    let m : w .0 .cache .made ≡ y .0 .cache .made = ap (λ (x : ScratchAllocator). x .cache .made) same in
+    omega (arith, w .2, y .2, m)

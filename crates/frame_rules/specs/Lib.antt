@@ -1,4 +1,5 @@
 pub mod Frame
+pub mod Opening
 pub mod FrameTrials
 pub mod Promise
 pub mod Takes

@@ -45,11 +45,23 @@ pub record PromisedTo (s : Frame) (i : ℕ) : Type 0 where
       → (k : ScratchAllocator) × EndsWithSlots (s .formulas i .target) (functionIn s i) p (sorted (s .formulas i .target) (functionIn s i) p) (cacheIn s i) k
       × (s .formulas i .share < madeTo s i (k .cache .made))
 
+-- with slots enough the patch would make no more than the share
+abbrev pub ShareEnough : Frame → ℕ → Patch → Type 0
+ShareEnough s i p =
+    (k : ScratchAllocator) × EndsWithSlots (s .formulas i .target) (functionIn s i) p (sorted (s .formulas i .target) (functionIn s i) p) (cacheIn s i) k
+    × (madeTo s i (k .cache .made) ≤ s .formulas i .share)
+
 -- "No order of the others' patches takes a promised slot away": in every frame that calls lead to, refused ones and askings included
 abbrev pub Promised : Type 0
 Promised =
     (limit : ℕ) (l : List Inlined) → openRefusal limit l ≡ none → (calls : List FrameCall) → Named (length l) calls
     → Kept (afterCalls calls (opened limit l)) × ((i : ℕ) → i < length l → PromisedTo (afterCalls calls (opened limit l)) i)
+
+-- so what a patch needs within the share it gets, whatever the others called: no 17
+abbrev pub WithinShare : Type 0
+WithinShare =
+    (limit : ℕ) (l : List Inlined) → openRefusal limit l ≡ none → (calls : List FrameCall) → Named (length l) calls → (i : ℕ) → i < length l
+    → (p : Patch) (room : ℕ) → ShareEnough (afterCalls calls (opened limit l)) i p → resolveIn (afterCalls calls (opened limit l)) i p room ≡ refused 17 → ⊥
 
 -- with 02 j: a share of "129 times the number of different slot sizes among its banks" ("With two, 130") meets no 17, whatever the others call
 abbrev pub EnoughShare : Type 0

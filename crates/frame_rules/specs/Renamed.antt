@@ -68,3 +68,22 @@ abbrev pub Independent : Type 0
 Independent =
     (limit : ℕ) (l : List Inlined) → openRefusal limit l ≡ none → (calls : List FrameCall) → Named (length l) calls → (i : ℕ) → i < length l
     → Alike (firstSlots l) i calls (opened limit l) (opened limit l) (λ y. y)
+
+-- a patch that is only asked for
+abbrev pub isAsking : Request → Bool
+isAsking (resolving p room) = false
+isAsking (asking p room) = true
+isAsking (taking n) = false
+
+-- what the slots that a formula has made keep their numbers for: one renaming serves for all its calls that resolve or take, until the promise
+-- ends; what is only asked for may be told other numbers for slots to come (trial `renamed-since`)
+abbrev pub AllTold : ℕ → List FrameCall → Frame → Frame → (ℕ → ℕ) → Type 0
+AllTold i [] s q ρ = Unit {0}
+AllTold i (x ∷ l) s q ρ =
+    ((x .formula ≡ i → ⊥) → AllTold i l (afterCall s x) q ρ)
+    × (x .formula ≡ i → Ends s x ⊎ ((isAsking (x .request) ≡ false → told s x ≡ renTold ρ (told q x)) × AllTold i l (afterCall s x) (afterCall q x) ρ))
+
+abbrev pub OneRenaming : Type 0
+OneRenaming =
+    (limit : ℕ) (l : List Inlined) → openRefusal limit l ≡ none → (calls : List FrameCall) → Named (length l) calls → (i : ℕ) → i < length l
+    → (ρ : ℕ → ℕ) × Renaming (firstSlots l) ρ × AllTold i calls (opened limit l) (opened limit l) ρ
