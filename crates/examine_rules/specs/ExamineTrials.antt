@@ -72,6 +72,18 @@ pub record ExamineTrials : Type 0 where
   pub ordinary : says three (plain 1 1) (one []) (Move (reg 1) (reg 0) 0 ∷ EmergencySpill 0 2 ∷ []) ≡ No
   pub emergency : says three (plain 1 1) (one []) (Move (reg 1) (reg 0) 0 ∷ EmergencySpill 1 2 ∷ []) ≡ Yes
   pub beyond : says three (plain 1 1) (one []) (Move (reg 1) (reg 0) 0 ∷ EmergencySpill 2 2 ∷ []) ≡ Refused 24
+  -- "a slot from N + L on" in each other edit; the one before it is named
+  pub last-slot : says three (plain 1 1) (one []) (Move (slot 1) (reg 0) 0 ∷ Move (reg 1) (slot 1) 0 ∷ []) ≡ Yes
+  pub beyond-to : says three (plain 1 1) (one []) (Move (reg 1) (reg 0) 0 ∷ Move (slot 2) (reg 0) 0 ∷ []) ≡ Refused 24
+  pub beyond-from : says three (plain 1 1) (one []) (Move (reg 1) (slot 2) 0 ∷ []) ≡ Refused 24
+  pub beyond-rebuilt : says three (rematerializable 1 1) (one []) (Rematerialize (slot 2) 0 ∷ []) ≡ Refused 24
+  pub beyond-reloaded : says three (plain 1 1) (one []) (Move (reg 1) (reg 0) 0 ∷ EmergencyReload 2 2 ∷ []) ≡ Refused 24
+  -- "another place or a value outside the target or function" in each
+  pub no-register-to : says three (plain 1 1) (one []) (Move (reg 3) (reg 0) 0 ∷ []) ≡ Refused 24
+  pub no-register-rebuilt : says three (rematerializable 1 1) (one []) (Rematerialize (reg 3) 0 ∷ []) ≡ Refused 24
+  pub no-value-rebuilt : says three (rematerializable 1 1) (one []) (Rematerialize (reg 1) 2 ∷ []) ≡ Refused 24
+  pub no-register-saved : says three (plain 1 1) (one []) (EmergencySpill 1 3 ∷ []) ≡ Refused 24
+  pub no-register-reloaded : says three (plain 1 1) (one []) (EmergencyReload 3 1 ∷ []) ≡ Refused 24
   -- in a shared frame N plus its limit counts
   pub in-a-frame : examinePatch three (plain 1 1) (one []) 2 (map wordOf (Move (reg 1) (reg 0) 0 ∷ EmergencySpill 2 2 ∷ [])) ≡ Yes
   pub cannot-rebuild : says three (plain 0 1) (one []) (Rematerialize (reg 1) 0 ∷ []) ≡ No
