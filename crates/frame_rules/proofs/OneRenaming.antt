@@ -20,13 +20,13 @@ use Rattle.rules.specs.Patch.{Patch, Answer, refused, resolved, resolve}
 use Rattle.rules.specs.Refusals.{withLimit}
 use Rattle.rules.specs.Take.{Counted, Request, resolving, asking, taking, Standing, stampedBy, answerIn}
 use Rattle.rules.proofs.Steps.{same?}
-use Rattle.machine.specs.Enough.{namesSlot}
+use Rattle.machine.specs.Enough.{namesSlot, OfItsSize}
 use Rattle.machine.specs.Slots.{InStacks}
 use Rattle.machine.proofs.Banked.{banked}
 use Rattle.machine.proofs.SlotCounts.{stacked, less?}
 use Rattle.machine.proofs.Slots.{slots-empty}
 use Rattle.machine.proofs.OwnSize.{Fair}
-use Rattle.machine.proofs.EnoughSlots.{quiet-after, quiet-fresh, accepted-within}
+use Rattle.machine.proofs.EnoughSlots.{Steady, quiet-after, quiet-fresh, accepted-within}
 use Rattle.frame_rules.specs.Frame.{Inlined, firstSlots, openRefusal, Asked, Formula, Frame, noFormula, opened, reach, cacheIn, nowIn, resolveIn, standingIn, answeredIn, askedIn, madeTo, withCache, afterIn, FrameCall, afterCall, Named, Told, edits, toldOf, told}
 use Rattle.frame_rules.specs.Renamed.{renPlace, renEdit, renTold, Renaming, Same, Alike, isAsking, AllTold, OneRenaming}
 use Rattle.frame_rules.proofs.Calls.{resolved-within, Moved, moved, goes-on, at-own}
@@ -50,86 +50,85 @@ module _ (t : RegInfo) (f : Function) (ρ σ : ℕ → ℕ) where
   edit-same (EmergencySpill s r) h = ap (λ (x : ℕ). EmergencySpill x r) (h s (eq-eqb s s refl))
   edit-same (EmergencyReload r s) h = ap (EmergencyReload r) (h s (eq-eqb s s refl))
 
-  edits-same : (es : List Edit) → ((e : Edit) → List·Memᴰ e es → (s : ℕ) → namesSlot t f s e ≡ true → ρ s ≡ σ s) → map (renEdit ρ) es ≡ map (renEdit σ) es
+  pub edits-same : (es : List Edit) → ((e : Edit) → List·Memᴰ e es → (s : ℕ) → namesSlot t f s e ≡ true → ρ s ≡ σ s) → map (renEdit ρ) es ≡ map (renEdit σ) es
   edits-same [] h = refl
   edits-same (e ∷ es) h = ap₂ _∷_ (edit-same e (h e (List·Memᴰ·head refl))) (edits-same es (λ x m. h x (List·Memᴰ·tail m)))
 
 module _ (limit : ℕ) (l : List Inlined) (ok : openRefusal limit l ≡ none) (i : ℕ) (il : i < length l) where
-  abbrev T : RegInfo
+  abbrev pub T : RegInfo
   T = t limit l ok i il
 
-  abbrev F : Function
+  abbrev pub F : Function
   F = f limit l ok i il
 
-  abbrev N : ℕ
+  abbrev pub N : ℕ
   N = firstSlots l
 
-  slots-is : F .slots ≡ N
+  pub slots-is : F .slots ≡ N
   slots-is = is-slots limit l ok (opened limit l) (known-opened limit l ok) i il
 
   -- a frame where only formula i has called
-  record Alone (q : Frame) : Type 0 where
-    known : Known limit l q
-    sole : q .counter ≡ q .formulas i .made
-    ins : InStacks F (cacheIn q i)
-    fair : Fair T F (stacked (cacheIn q i)) []
+  pub record Alone (q : Frame) : Type 0 where
+    pub known : Known limit l q
+    pub sole : q .counter ≡ q .formulas i .made
+    pub ins : InStacks F (cacheIn q i)
+    pub fair : Fair T F (stacked (cacheIn q i)) []
 
   -- what a call leaves: a cache in order, and no edit names a slot that is not made
-  record Leaves (es : List Edit) (c : Cache) : Type 0 where
-    ins : InStacks F c
-    fair : Fair T F (stacked c) []
-    below : (e : Edit) → List·Memᴰ e es → (s : ℕ) → namesSlot T F s e ≡ true → s < N + c .made
+  pub record Leaves (es : List Edit) (c : Cache) : Type 0 where
+    pub ins : InStacks F c
+    pub fair : Fair T F (stacked c) []
+    pub below : (e : Edit) → List·Memᴰ e es → (s : ℕ) → namesSlot T F s e ≡ true → s < N + c .made
 
   module _ (q : Frame) (g : Alone q) where
-    abbrev k : ℕ
+    abbrev pub k : ℕ
     k = reach q i
 
-    within : function.Accepted T (withLimit T F k)
+    pub within : function.Accepted T (withLimit T F k)
     within = accepted-within T F k (af limit l ok i il) (low-reach limit l ok q (g .known) i il)
 
     resolve-is : (p : Patch) (room : ℕ) → resolveIn q i p room ≡ resolve T (withLimit T F k) p room (cacheIn q i)
     unfolding resolveIn
     resolve-is p room = rw (g .known .given .target-is i, g .known .given .function-is i) refl
 
+    -- from what is known of the call's function with its reach for L
+    pub leaves-by : (es : List Edit) (c : Cache) → Steady T (withLimit T F k) (at limit l ok i il) (banked T (withLimit T F k) within) c → OfItsSize T (withLimit T F k) (cacheIn q i) es c → Leaves es c
+    leaves-by es c y o =
+        let z = from-steady limit l ok i il k (banked T (withLimit T F k) within) c y in
+        record { ins = z .0; fair = z .1; below = λ x m s h. ⊎-elim (λ a. omega (arith, slots-is)) (λ a. omega (arith, slots-is, z .0 .stacked .below s _ (o .lies x m s a h))) (less? s (F .slots)) }
+
+    pub steady : Steady T (withLimit T F k) (at limit l ok i il) (banked T (withLimit T F k) within) (cacheIn q i)
+    steady = to-steady limit l ok i il k (banked T (withLimit T F k) within) (cacheIn q i) (g .ins) (g .fair)
+
     leaves : (p : Patch) (room : ℕ) (es : List Edit) (c : Cache) (n : ℕ) → resolveIn q i p room ≡ resolved es c n → Leaves es c
     leaves p room es c n e =
-        let b = banked T (withLimit T F k) within in
-        let y = quiet-after T (withLimit T F k) (at limit l ok i il) within p room (cacheIn q i) (to-steady limit l ok i il k b (cacheIn q i) (g .ins) (g .fair)) (resolved es c n) (sym (resolve-is p room) ∙ e) in
-        let z = from-steady limit l ok i il k b c (y .0) in
-        record {
-          ins = z .0;
-          fair = z .1;
-          below = λ x m s h.
-              ⊎-elim (λ a. omega (arith, slots-is)) (λ a. omega (arith, slots-is, z .0 .stacked .below s _ (y .1 .lies x m s a h))) (less? s (F .slots));
-        }
+        let y = quiet-after T (withLimit T F k) (at limit l ok i il) within p room (cacheIn q i) steady (resolved es c n) (sym (resolve-is p room) ∙ e) in
+        leaves-by es c (y .0) (y .1)
 
     -- where a call of its own leads
-    alone-on : (x : Request) → (v : Counted) (a : List (Option Asked)) → Moved q i v → Known limit l (withCache q i v a) → Alone (withCache q i v a)
-    alone-on x v a (inl h) n =
+    pub alone-with : (v : Counted) (a : List (Option Asked)) → q .counter ≤ v .cache .made → InStacks F (v .cache) → Fair T F (stacked (v .cache)) [] → Known limit l (withCache q i v a) → Alone (withCache q i v a)
+    alone-with v a up ins fair n =
         let o = at-own q i v a in
-        let e : cacheIn (withCache q i v a) i ≡ cacheIn q i = ap₂ (λ (st : ℕ → List ℕ) (m : ℕ). record { stacks = st; made = m }) (ap (λ (y : Formula). y .stacks) o ∙ ap (λ (y : Cache). y .stacks) (h .0)) (ap (λ (y : Cache). y .made) (h .0)) in
-        record {
-          known = n;
-          sole = omega (arith, ap (λ (y : Formula). y .made) o, g .sole, goes-on q i v (inl h));
-          ins = subst (InStacks F) (sym e) (g .ins);
-          fair = subst (λ (c : Cache). Fair T F (stacked c) []) (sym e) (g .fair);
-        }
-    alone-on x v a (inr h) n =
-        let o = at-own q i v a in
-        let w = leaves (h .patch) (h .room) (h .edits) (v .cache) (h .position) (h .is) in
         let e : cacheIn (withCache q i v a) i ≡ v .cache = ap (λ (st : ℕ → List ℕ). record { stacks = st; made = v .cache .made }) (ap (λ (y : Formula). y .stacks) o) in
         record {
           known = n;
-          sole = omega (arith, ap (λ (y : Formula). y .made) o, g .sole, goes-on q i v (inr h));
-          ins = subst (InStacks F) (sym e) (w .ins);
-          fair = subst (λ (c : Cache). Fair T F (stacked c) []) (sym e) (w .fair);
+          sole = omega (arith, ap (λ (y : Formula). y .made) o, g .sole, up);
+          ins = subst (InStacks F) (sym e) ins;
+          fair = subst (λ (c : Cache). Fair T F (stacked c) []) (sym e) fair;
         }
+
+    pub alone-on : (v : Counted) (a : List (Option Asked)) → Moved q i v → Known limit l (withCache q i v a) → Alone (withCache q i v a)
+    alone-on v a (inl h) n =
+        alone-with v a (goes-on q i v (inl h)) (subst (InStacks F) (sym (h .0)) (g .ins)) (subst (λ (c : Cache). Fair T F (stacked c) []) (sym (h .0)) (g .fair)) n
+    alone-on v a (inr h) n =
+        let w = leaves (h .patch) (h .room) (h .edits) (v .cache) (h .position) (h .is) in
+        alone-with v a (goes-on q i v (inr h)) (w .ins) (w .fair) n
 
     alone-after : (x : Request) → Alone (afterIn q i x)
     alone-after x =
-        alone-on x (stampedBy (nowIn q i) (standingIn q i x)) (askedIn q i x) (moved q i x (g .known .sound .previews i)) (known-after limit l q (record { formula = i; request = x }) il (g .known))
+        alone-on (stampedBy (nowIn q i) (standingIn q i x)) (askedIn q i x) (moved q i x (g .known .sound .previews i)) (known-after limit l q (record { formula = i; request = x }) il (g .known))
 
-    made-on : (x : Request) → afterIn q i x .formulas i .made ≡ q .formulas i .made + (stampedBy (nowIn q i) (standingIn q i x) .cache .made - q .counter)
+    pub made-on : (x : Request) → afterIn q i x .formulas i .made ≡ q .formulas i .made + (stampedBy (nowIn q i) (standingIn q i x) .cache .made - q .counter)
     made-on x = ap (λ (y : Formula). y .made) (at-own q i (stampedBy (nowIn q i) (standingIn q i x)) (askedIn q i x))
 
     answers : (x : Request) → isAsking x ≡ false → answeredIn q i x ≡ answerIn (standingIn q i x)
@@ -139,7 +138,7 @@ module _ (limit : ℕ) (l : List Inlined) (ok : openRefusal limit l ≡ none) (i
     answers (taking n) e = refl
 
     -- what is told names slots that are made then
-    told-same : (x : Request) → isAsking x ≡ false → (ρ σ : ℕ → ℕ) → ((y : ℕ) → y < N + afterIn q i x .formulas i .made → ρ y ≡ σ y)
+    pub told-same : (x : Request) → isAsking x ≡ false → (ρ σ : ℕ → ℕ) → ((y : ℕ) → y < N + afterIn q i x .formulas i .made → ρ y ≡ σ y)
         → renTold ρ (told q (record { formula = i; request = x })) ≡ renTold σ (told q (record { formula = i; request = x }))
     told-same x no-asking ρ σ agree = rw (answers x no-asking) (go (standingIn q i x) refl)
       where
@@ -191,7 +190,7 @@ module _ (limit : ℕ) (l : List Inlined) (ok : openRefusal limit l ≡ none) (i
       (λ h. own-serves x xs s q ρ r g e (h .0) (h .1) (serves xs (k .1) (afterCall s x) (afterCall q x) (h .0) (h .1 .renaming) (there x xs s q ρ r g e) (h .2))) (a .1 e))
       (λ d. let w = serves xs (k .1) (afterCall s x) q ρ r g (a .0 d) in (w .0, w .1, w .2, ((λ _. w .3), λ e. absurd (d e)))) (same? (x .formula) i)
 
-  alone-opened : Alone (opened limit l)
+  pub alone-opened : Alone (opened limit l)
   alone-opened =
       record {
         known = known-opened limit l ok;

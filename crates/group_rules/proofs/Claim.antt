@@ -86,11 +86,11 @@ module _ (t : RegInfo) (f : Function) (ta : target.Accepted t) (fa : function.Ac
   lies (x ∷ l) s k ins = let y = lie x s k ins in (ins, y .1, lies l (after t f x s) (previews-after t f x s k) (y .0))
 
   -- ---- 02 j
-  abbrev Still : Cache → Type 0
+  abbrev pub Still : Cache → Type 0
   Still c = Quiet t f ta fa c
 
   -- each emergency slot that the edits name lies in the stack of its size, and they name all that were made
-  abbrev Sizes : Cache → List Edit → Cache → Type 0
+  abbrev pub Sizes : Cache → List Edit → Cache → Type 0
   Sizes c es c′ = Still c → Still c′ × OfItsSize t f c es c′ × Stays c c′
 
   sizes-none : (c : Cache) → Sizes c [] c
@@ -111,7 +111,7 @@ module _ (t : RegInfo) (f : Function) (ta : target.Accepted t) (fa : function.Ac
       let y = quiet-after t f ta fa q room c g (resolved es d n) e in
       (y .0, y .1, lie-call q room c (resolved es d n) e (g .ins) .1)
 
-  sizes-groups : (p : Patch) (room : ℕ) (c c′ : Cache) (es : List Edit) (n : ℕ) → resolveByGroups t f p room c ≡ resolved es c′ n → Sizes c es c′
+  pub sizes-groups : (p : Patch) (room : ℕ) (c c′ : Cache) (es : List Edit) (n : ℕ) → resolveByGroups t f p room c ≡ resolved es c′ n → Sizes c es c′
   sizes-groups p room c c′ es n e =
       parts-each t f room Sizes sizes-none
       (λ q c d c′ es fs n e r g. let y = sizes-call q room c d es n e g in let z = r (y .0) in (z .0, joined-sizes c d c′ es fs (y .1) (z .1) (z .2), λ s x h. z .2 s x (y .2 s x h)))

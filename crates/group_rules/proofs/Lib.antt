@@ -14,3 +14,5 @@ pub mod FrameTakes
 pub mod Lifted
 pub mod Independent
 pub mod RequestTrials
+pub mod OneRenaming
+pub mod WithinShare

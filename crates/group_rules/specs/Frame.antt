@@ -94,6 +94,20 @@ Promised =
     (limit : ℕ) (l : List Inlined) → openRefusal limit l ≡ none → (calls : List FrameCall) → Named (length l) calls
     → Kept (afterCalls calls (opened limit l)) × ((i : ℕ) → i < length l → PromisedToGroups (afterCalls calls (opened limit l)) i)
 
+-- with slots enough every group, after those before it, would make no more than the share
+abbrev pub ShareEnough : Frame → ℕ → List Patch → Cache → Type 0
+ShareEnough s i [] c = Unit {0}
+ShareEnough s i (q ∷ l) c =
+    (k : ScratchAllocator) × EndsWithSlots (s .formulas i .target) (functionIn s i) q (sorted (s .formulas i .target) (functionIn s i) q) c k
+    × (madeTo s i (k .cache .made) ≤ s .formulas i .share) × ShareEnough s i l (k .cache)
+
+-- then there is no 17
+abbrev pub WithinShare : Type 0
+WithinShare =
+    (limit : ℕ) (l : List Inlined) → openRefusal limit l ≡ none → (calls : List FrameCall) → Named (length l) calls → (i : ℕ) → i < length l → (p : Patch) (room : ℕ)
+    → ShareEnough (afterCalls calls (opened limit l)) i (parts (afterCalls calls (opened limit l) .formulas i .target) p) (cacheIn (afterCalls calls (opened limit l)) i)
+    → groupsIn (afterCalls calls (opened limit l)) i p room ≡ refused 17 → ⊥
+
 -- with 02 j: a share that meets no 17, whatever the others call
 abbrev pub EnoughShare : Type 0
 EnoughShare =

@@ -37,3 +37,19 @@ abbrev pub Independent : Type 0
 Independent =
     (limit : ℕ) (l : List Inlined) → openRefusal limit l ≡ none → (calls : List FrameCall) → Named (length l) calls → (i : ℕ) → i < length l
     → Alike (firstSlots l) i calls (opened limit l) (opened limit l) (λ y. y)
+
+abbrev pub isAsking : Request → Bool
+isAsking (single x) = frame.isAsking x
+isAsking (grouping p room) = false
+
+-- one renaming serves for all its calls that resolve, by groups or not, or take, until the promise ends
+abbrev pub AllTold : ℕ → List FrameCall → Frame → Frame → (ℕ → ℕ) → Type 0
+AllTold i [] s q ρ = Unit {0}
+AllTold i (x ∷ l) s q ρ =
+    ((x .formula ≡ i → ⊥) → AllTold i l (afterCall s x) q ρ)
+    × (x .formula ≡ i → Ends s x ⊎ ((isAsking (x .request) ≡ false → told s x ≡ renTold ρ (told q x)) × AllTold i l (afterCall s x) (afterCall q x) ρ))
+
+abbrev pub OneRenaming : Type 0
+OneRenaming =
+    (limit : ℕ) (l : List Inlined) → openRefusal limit l ≡ none → (calls : List FrameCall) → Named (length l) calls → (i : ℕ) → i < length l
+    → (ρ : ℕ → ℕ) × Renaming (firstSlots l) ρ × AllTold i calls (opened limit l) (opened limit l) ρ
