@@ -1,5 +1,6 @@
 pub mod Counting
 pub mod Once
+pub mod Saved
 pub mod Differ
 pub mod Drawing
 pub mod Tally

@@ -32,4 +32,9 @@ trials = record {
   one-kept = refl;
   two-kept = refl;
   no-values = refl;
+  registers-first = refl;
+  modulo = refl;
+  drawn-over = refl;
+  left-out = refl;
+  then-the-next = refl;
 }

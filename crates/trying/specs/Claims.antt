@@ -10,13 +10,18 @@ use Rattle.function.specs.Function.{Function}
 use Rattle.rules.specs.Counts.{sum}
 use Rattle.draws.specs.Draws.{next}
 use Rattle.trying.specs.Tried.{Tries, tried}
-use Rattle.trying.specs.Report.{acceptedIn, refusalsIn}
+use Rattle.trying.specs.Report.{acceptedIn, refusalsIn, editsIn, ofKind}
 
 -- each patch drawn is counted once: as accepted, or under its number
 abbrev pub EachOnce : Type 0
 EachOnce =
     (t : RegInfo) (f : Function) (kept count seed : ℕ)
     → acceptedIn (tried t f kept count seed .answers) + sum (λ j. refusalsIn j (tried t f kept count seed .answers)) 256 ≡ length (tried t f kept count seed .answers)
+
+-- evictions are counted by their reloads, and each register that is evicted is saved once: as many S as L
+abbrev pub AsManySaves : Type 0
+AsManySaves =
+    (t : RegInfo) (f : Function) (kept count seed : ℕ) → ofKind 3 (editsIn (tried t f kept count seed .answers)) ≡ ofKind 4 (editsIn (tried t f kept count seed .answers))
 
 -- the first n draws from a seed
 unfoldable pub firstDraws : ℕ → ℕ → List ℕ

@@ -1,21 +1,21 @@
 -- Two functions tried, by computation. What is counted is what the same drawing and counting in plain Rust came to.
 use Prim.Native.Nat.{ℕ}
 use mathlib.Core.Path.{_≡_}
-use mathlib.Core.List.{List, [], _∷_, map}
-use lib.ListN.{length, take}
-use Rattle.entity.specs.Place.{reg}
+use mathlib.Core.List.{List, [], _∷_, _++_, map}
+use lib.ListN.{length, take, replicate}
+use Rattle.entity.specs.Place.{reg, slot}
 use Rattle.reginfo.specs.RegInfo.{Reg, Class, RegInfo}
 use Rattle.reginfo.specs.Refused as target
 use Rattle.function.specs.Function.{ValueData, Function}
 use Rattle.function.specs.Refused as function
 use Rattle.rules.specs.Edit.{Edit, Move}
 use Rattle.rules.specs.Patch.{move, Answer, refused, resolved}
-use Rattle.rules.specs.Trials.{three, plain}
+use Rattle.rules.specs.Trials.{single, three, plain, paired, fixed, over}
 use Rattle.price.specs.declared.Prices.{Prices}
 use Rattle.price.specs.Price.{priceOf}
 use Rattle.price.specs.Totals.{fromFirst}
 use Rattle.draws.specs.Draws.{after}
-use Rattle.trying.specs.Drawing.{Drawn, drawPatch}
+use Rattle.trying.specs.Drawing.{Drawn, placeNumbered, drawnEntry, drawPatch}
 use Rattle.trying.specs.Tried.{Tries, tried}
 use Rattle.trying.specs.Report.{acceptedIn, refusalsIn, editsIn, ofKind}
 
@@ -70,6 +70,13 @@ fiveValues =
       kept = 1;
     }
 
+-- one register and no slot, so that every move that is drawn is a self-move (10)
+abbrev pub lone : RegInfo
+lone = paired 1 (single 0 ∷ [])
+
+abbrev pub ofLone : Function
+ofLone = over (fixed 0 ∷ []) 0 0
+
 abbrev pub prices : Prices
 prices = record { moves = 4; remats = 6; spills = 16; reloads = 12 }
 
@@ -101,3 +108,12 @@ pub record Trials : Type 0 where
   pub two-kept : row (tried threeBanks fiveValues 2 12 7) ≡ 8 ∷ 57 ∷ 6 ∷ 11 ∷ 11 ∷ 572 ∷ 55 ∷ 0 ∷ 0 ∷ 0 ∷ 7 ∷ 0 ∷ []
   -- "Without values all counts are 0."
   pub no-values : tried threeBanks (record { values = []; slots = 29; limit = 2; kept = 1 }) 1 5 7 .answers ≡ []
+  -- "modulo the count of places (registers first, then the N slots)": nine registers and 29 slots
+  pub registers-first : map (placeNumbered threeBanks) (0 ∷ 8 ∷ 9 ∷ 37 ∷ []) ≡ reg 0 ∷ reg 8 ∷ slot 0 ∷ slot 28 ∷ []
+  -- "the source, destination and value, modulo the count of places [..] or of values": three registers, two slots, two values
+  pub modulo : drawnEntry three (plain 2 1) 3 9 5 ≡ move (slot 0) (slot 1) 1
+  -- "from the seed it left": the second patch is drawn from where the first, refused one ended
+  pub drawn-over : swapFull 1 .draws ≡ first .draws ++ drawPatch three (plain 0 1) (first .seed) .draws
+  -- "at most 8 times, then left out": nine drawings of each of two patches, and none is accepted
+  pub left-out : tried lone ofLone 1 2 7 .answers ≡ replicate 18 (refused 10)
+  pub then-the-next : tried lone ofLone 1 2 7 .seed ≡ tried lone ofLone 1 1 (tried lone ofLone 1 1 7 .seed) .seed
