@@ -29,6 +29,8 @@ trials = record {
   no-head = (refl, refl);
   too-far = (refl, refl);
   too-many = (refl, refl);
+  not-the-last = λ h. let e : _≡_ {A = Option (List ℕ)} (some (33 ∷ [])) none = h in let z : _≡_ {A = ℕ} 0 1 = cc in omega arith;
+  one-in-front = λ h. let z : _≡_ {A = ℕ} 2 0 = ap length (some-is h) in omega arith;
   is-found = λ h. let e = nothing-found two (some (33 ∷ [])) h in let z : _≡_ {A = ℕ} 0 1 = cc in omega arith;
   another = λ h. let z : _≡_ {A = ℕ} 1 2 = ap length (some-is (only 1 2 h)) in omega arith;
   with-head = λ h. let z : _≡_ {A = ℕ} 1 2 = ap length (some-is (only 3 2 h)) in omega arith;

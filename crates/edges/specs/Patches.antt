@@ -60,6 +60,10 @@ nth n [] = none
 nth zero (x ∷ l) = some x
 nth (suc n) (x ∷ l) = nth n l
 
+-- the patch of a number is that one of these
+abbrev pub NumberedIn : ℕ → List ℕ → List (List ℕ) → Type 0
+NumberedIn n l ps = patchNumbered (suc n) l ≡ nth n ps
+
 -- the patch of a number is that one of all patches
 abbrev pub Numbered : Type 0
-Numbered = (n : ℕ) (l : List ℕ) → patchNumbered (suc n) l ≡ nth n (patchesOf l)
+Numbered = (n : ℕ) (l : List ℕ) → NumberedIn n l (patchesOf l)

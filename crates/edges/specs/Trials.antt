@@ -6,7 +6,7 @@ use mathlib.Core.Option.{none, some}
 use lib.ListN.{replicate}
 use Rattle.answer_text.specs.Heads.{headWord}
 use Rattle.edges.specs.declared.Found.the-variants as F
-use Rattle.edges.specs.Patches.{headed, patchNumbered, FoundIn, patchesOf}
+use Rattle.edges.specs.Patches.{headed, patchNumbered, FoundIn, patchesOf, NumberedIn}
 
 -- a patch of two edits, and one of a single edit: so many slots were made and such positions met
 abbrev pub two : List ℕ
@@ -27,6 +27,9 @@ pub record Trials : Type 0 where
   pub too-far : (headed (headWord 2 0 0 ∷ 9 ∷ 17 ∷ []) ≡ some 2) × (headed (headWord 3 0 0 ∷ 9 ∷ 17 ∷ []) ≡ none)
   -- or more than 1,024
   pub too-many : (headed (headWord 1024 0 0 ∷ replicate 1025 9) ≡ some 1024) × (headed (headWord 1025 0 0 ∷ replicate 1025 9) ≡ none)
+  -- what `Numbered` shuts out: the patches but the last, and with one more in front
+  pub not-the-last : NumberedIn 1 two ((9 ∷ 17 ∷ []) ∷ []) → ⊥
+  pub one-in-front : NumberedIn 0 two ([] ∷ patchesOf two) → ⊥
   -- what `FoundIn` shuts out: nothing found, the words of the first patch, the head beside the edits, and words behind the last
   pub is-found : FoundIn two (patchNumbered 2 two) F.Nothing → ⊥
   pub another : FoundIn two (patchNumbered 2 two) (F.At 1 2) → ⊥

@@ -14,7 +14,7 @@ use Rattle.rules.specs.ChangeTrials.{argument, keeping}
 use Rattle.rules.specs.TakeTrials.{exchanged, ask, put}
 use Rattle.machine.specs.Enough.{numSizes}
 use Rattle.frame_rules.specs.Frame.{Inlined, openRefusal, Frame, opened, FrameCall, afterCall, afterCalls, Told, nothing, number, edits, told}
-use Rattle.frame_rules.specs.Renamed.{renTold, Renaming, Same}
+use Rattle.frame_rules.specs.Renamed.{renTold, Renaming, Same, AllTold}
 
 abbrev pub sharing : ℕ → ℕ → Inlined
 sharing n share = record { target = three; function = plain n 0; share = share }
@@ -95,6 +95,8 @@ pub record FrameTrials : Type 0 where
   pub told-another : told (afterCalls (puts 1 swap ∷ puts 0 swap ∷ []) (two 0 2 0 0)) (puts 0 swap) ≡ renTold suc (told (afterCalls (puts 0 swap ∷ []) (two 0 2 0 0)) (puts 0 swap))
   pub not-afresh :
       Same 0 0 (afterCalls (puts 1 swap ∷ puts 0 swap ∷ []) (two 0 2 0 0)) (afterCalls (puts 0 swap ∷ []) (two 0 2 0 0)) (puts 0 swap) (λ y. y) suc → ⊥
+  -- and one renaming is not any: the second slot of the frame is not told as the first
+  pub not-any : AllTold 0 (puts 0 swap ∷ []) (afterCalls (puts 1 swap ∷ []) (two 0 2 0 0)) (two 0 2 0 0) (λ y. y) → ⊥
   -- a refused asking leaves nothing to take
   pub nothing-left : toldFrom (asks 1 swap ∷ takes 1 0 ∷ []) (two 0 1 1 0) ≡ number 17 ∷ nothing ∷ []
   -- what is refused of a frame: shares above the limit before the first setting; the setting; another N; no formula; 2,049 slots before 23

@@ -19,6 +19,7 @@ use Rattle.rules.specs.Order.{KeptMove, noMove, carryOne, carry, remats, rematW
 use Rattle.rules.specs.Patch.{move, Patch, destinations, add, sortedFrom, sorted, entryConditions, patchConditions, run, resolveSorted, resolveFrom, resolve}
 use Rattle.machine.specs.Machine.{Memory, Machine, Written, begin, put, read, write, fits, step, steps, counted, seen}
 use Rattle.machine.specs.Claim.{Contents, Holding, OfValue, IsScratch, RightFrom, Stopped, Finished, Accepted}
+use Rattle.machine.specs.Before as old
 use Rattle.machine.specs.NotAccepted as lists
 use Rattle.machine.specs.NotAccepted.{seven, values, words, holding, Wrong, right, NotAccepted}
 
@@ -219,7 +220,7 @@ module _ (es : List Edit) where
       alone q (List·Memᴰ·tail (List·Memᴰ·tail (List·Memᴰ·tail (List·Memᴰ·tail m)))) e = absurd (List·Memᴰ·not-nil m)
 
 pub not-accepted : NotAccepted
-unfolding any all has meets lastOr indices spillslotSize topLevelClass stackToStackClass regMemory bankForReg regUnits bankForClass classSlots classMembers allocationOrder firstOf valueBank rematCost rematClass updated andThen each find filter acquireFrom unevict unevictBut unevictForReg makeRoom slotScratch evictLast reuse orScratch getScratchReg moveEdits doMove carryOne carry remats rematWithScratch writerFrom writersOf writers cycleMoveSources divert lead undivert undivertAll close visit visitUnlessMemory start moves destinations add sortedFrom entryConditions patchConditions run resolveSorted resolveFrom resolve seven orderTotal countsFit bankFits regFits classFits outsideLimits listedTwice unequalWidths foreignMember sharedMemory unfitClass targetRefusal twice isSetting function.countsFit function.valueFits function.foreignClass function.valuesRefusal function.functionRefusal put read write fits step steps counted the can after
+unfolding any all has meets lastOr indices spillslotSize topLevelClass stackToStackClass regMemory bankForReg regUnits bankForClass classSlots classMembers allocationOrder firstOf valueBank rematCost rematClass updated andThen each find filter acquireFrom unevict unevictBut unevictForReg makeRoom slotScratch evictLast reuse orScratch getScratchReg moveEdits doMove carryOne carry remats rematWithScratch writerFrom writersOf writers cycleMoveSources divert lead undivert undivertAll close visit visitUnlessMemory start moves destinations add sortedFrom entryConditions patchConditions run resolveSorted resolveFrom resolve seven orderTotal countsFit bankFits regFits classFits outsideLimits listedTwice unequalWidths foreignMember sharedMemory unfitClass targetRefusal twice isSetting function.countsFit function.valueFits function.foreignClass function.valuesRefusal function.functionRefusal put read write fits step steps counted old.read old.write old.fits old.step old.steps old.counted the can after
 not-accepted =
     record {
       target-taken = refl;
@@ -250,6 +251,10 @@ not-accepted =
       not-rebuildable = plainly-wrong _ (omega arith) (λ r. false≢true (can-do _ _ _ _ r));
       counts-as-saved = (_, refl, refl);
       not-kept = λ a. differ (λ (z : 70 ≡ 71). omega arith) (a .saved (words 70 71 72) (whole 70 71 72) lists.start one-holds 2 _ refl _ (List·Memᴰ·head refl));
+      not-as-held = λ e. differ (λ (z : 80 ≡ 0). omega arith) e;
+      not-as-done = λ e. let z : _≡_ {A = ℕ} 0 1 = cc in omega arith;
+      not-all-as-done = λ e. let z : _≡_ {A = ℕ} 0 1 = cc in omega arith;
+      not-as-seen = λ e. let z : _≡_ {A = ℕ} 0 9 = ap (λ (m : old.Memory). m .word 8) e in omega arith;
       over-the-bound = λ a. let h : 9 ≤ 8 = a .few in omega arith;
     }
   where

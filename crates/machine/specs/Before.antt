@@ -79,12 +79,26 @@ abbrev pub beforeAll : Option now.Machine → Option Machine
 beforeAll none = none
 beforeAll (some s) = some (before s)
 
--- every place holds the same, every edit and every list of edits does the same and can be done alike, and at a stop the same is seen
-pub record AsBefore (t : RegInfo) (f : Function) (content : ℕ → List ℕ) : Type 0 where
-  pub holds : (m : now.Memory) (p : Place) → now.read t f m p ≡ read t f (plain m) p
-  pub does : (e : Edit) (s : now.Machine) → beforeAll (now.step t f content e s) ≡ step t f content e (before s)
-  pub does-all : (es : List Edit) (s : now.Machine) → beforeAll (now.steps t f content es s) ≡ steps t f content es (before s)
-  pub sees : (s : now.Machine) → plain (now.seen t f s) ≡ counted t f (s .waiting) (plain (s .memory))
+-- a place holds the same, an edit and a list of edits does the same, or can as little be done, and at a stop the same is seen
+module _ (t : RegInfo) (f : Function) (content : ℕ → List ℕ) where
+  abbrev pub HoldsAs : now.Memory → Place → Type 0
+  HoldsAs m p = now.read t f m p ≡ read t f (plain m) p
+
+  abbrev pub DoesAs : Edit → now.Machine → Type 0
+  DoesAs e s = beforeAll (now.step t f content e s) ≡ step t f content e (before s)
+
+  abbrev pub AllAs : List Edit → now.Machine → Type 0
+  AllAs es s = beforeAll (now.steps t f content es s) ≡ steps t f content es (before s)
+
+  abbrev pub SeenAs : now.Machine → Type 0
+  SeenAs s = plain (now.seen t f s) ≡ counted t f (s .waiting) (plain (s .memory))
+
+  -- of every memory and machine, every place, edit and list of edits
+  pub record AsBefore : Type 0 where
+    pub holds : (m : now.Memory) (p : Place) → HoldsAs m p
+    pub does : (e : Edit) (s : now.Machine) → DoesAs e s
+    pub does-all : (es : List Edit) (s : now.Machine) → AllAs es s
+    pub sees : (s : now.Machine) → SeenAs s
 
 abbrev pub NothingElseMoves : Type 0
 NothingElseMoves = (t : RegInfo) (f : Function) → ((r : ℕ) → r < numRegs t → isMemoryReg t r ≡ false) → (content : ℕ → List ℕ) → AsBefore t f content

@@ -15,6 +15,7 @@ use Rattle.rules.specs.Patch.{move, Patch, sorted, bound, resolve}
 use Rattle.rules.specs.Trials.{single, fixed, over, patch, Gives}
 use Rattle.machine.specs.Machine.{Memory, Machine, begin, read, steps, seen}
 use Rattle.machine.specs.Claim.{Contents, Holding, RightFrom, Accepted}
+use Rattle.machine.specs.Before.{HoldsAs, DoesAs, AllAs, SeenAs}
 
 -- six registers of one unit in bank 0, of which the stack class has the first three, and one of two units in bank 1, beside r7, an argument word
 unfoldable pub seven : RegInfo
@@ -132,5 +133,10 @@ pub record NotAccepted : Type 0 where
   pub counts-as-saved : (s : Machine) × (steps seven values (words 70 71 72) (EmergencySpill 2 2 ∷ Move (slot 2) (reg 0) 0 ∷ []) (begin start) ≡ some s) × (read seven values (seen seven values s) (reg 2) ≡ 71 ∷ [])
   -- writes the slot of a waiting register and mends it before the reload: no stop is wrong, but meanwhile the slot does not hold what was saved
   pub not-kept : Accepted seven values one (EmergencySpill 2 2 ∷ Move (slot 2) (reg 0) 0 ∷ Move (slot 2) (reg 2) 0 ∷ EmergencyReload 2 2 ∷ right ∷ []) → ⊥
+  -- with an argument word the machine is not as before 02 b: what r7 holds, what moves into it, what is seen of it while it waits
+  pub not-as-held : HoldsAs seven values (words 70 71 72) start (reg 7) → ⊥
+  pub not-as-done : DoesAs seven values (words 70 71 72) (Move (slot 1) (reg 7) 0) (begin start) → ⊥
+  pub not-all-as-done : AllAs seven values (words 70 71 72) (right ∷ Move (slot 1) (reg 7) 0 ∷ []) (begin start) → ⊥
+  pub not-as-seen : SeenAs seven values (words 70 71 72) (record { memory = start; waiting = record { reg = 7; slot = 2; words = 9 ∷ 9 ∷ [] } ∷ []; written = [] }) → ⊥
   -- one edit over the bound
   pub over-the-bound : Accepted seven values one (replicate 9 right) → ⊥

@@ -30,6 +30,7 @@ trials = record {
   other-bank-1 = refl;
   by-kind = refl;
   by-word = refl;
-  not-all-banks = λ e. let z : _≡_ {A = ℕ} 1111 110 = e in omega arith;
-  in-no-bank = λ e. let z : _≡_ {A = ℕ} 1111 0 = e in omega arith;
+  not-all-banks = λ h. let z : _≡_ {A = ℕ} 1111 110 = h .1 in omega arith;
+  in-no-bank = λ h. let z : _≡_ {A = ℕ} 1111 0 = h .1 in omega arith;
+  other-words = λ h. let z : _≡_ {A = ℕ} 100 1000 = h in omega arith;
 }

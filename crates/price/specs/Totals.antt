@@ -44,12 +44,20 @@ unfoldable pub byBank : {A : Type 0} → (price bank : A → ℕ) → ℕ → Li
 byBank price bank zero l = 0
 byBank price bank (suc b) l = byBank price bank b l + fromFirst price (inBank bank b l)
 
+-- the three sums are one, with so many banks
+abbrev pub SameTotals : {A : Type 0} → (price bank : A → ℕ) → ℕ → List A → Type 0
+SameTotals price bank n l = (fromFirst price l ≡ fromLast price l) × (fromFirst price l ≡ byBank price bank n l)
+
 -- of every list of edits: one with a value or register that there is not counts in bank 0, and a target has a bank
 abbrev pub Totals : Type 0
 Totals =
     (t : RegInfo) (f : Function) → target.Accepted t → function.Accepted t f → (p : Prices) (es : List Edit)
-    → (fromFirst (priceOf p) es ≡ fromLast (priceOf p) es) × (fromFirst (priceOf p) es ≡ byBank (priceOf p) (bankOf t f) (numBanks t) es)
+    → SameTotals (priceOf p) (bankOf t f) (numBanks t) es
+
+-- words cost what edits cost
+abbrev pub CostAs : Prices → List ℕ → List Edit → Type 0
+CostAs p ws es = totalOf p ws ≡ fromFirst (priceOf p) es
 
 -- what the words of edits cost is what the edits cost
 abbrev pub WordsCost : Type 0
-WordsCost = (p : Prices) (es : List Edit) → totalOf p (map wordOf es) ≡ fromFirst (priceOf p) es
+WordsCost = (p : Prices) (es : List Edit) → CostAs p (map wordOf es) es

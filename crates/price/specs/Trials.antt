@@ -11,7 +11,7 @@ use Rattle.rules.specs.Edit.{Edit, Move, Rematerialize, EmergencySpill, Emergen
 use Rattle.edit.specs.Word.{wordOf}
 use Rattle.price.specs.declared.Prices.{Prices}
 use Rattle.price.specs.Price.{inRange, priceOf, priceIn, totalOf}
-use Rattle.price.specs.Totals.{bankOf, fromFirst, inBank, byBank}
+use Rattle.price.specs.Totals.{bankOf, fromFirst, inBank, SameTotals, CostAs}
 
 abbrev pub prices : ℕ → ℕ → ℕ → ℕ → Prices
 prices m r s l = record { moves = m; remats = r; spills = s; reloads = l }
@@ -76,5 +76,7 @@ pub record Trials : Type 0 where
   pub by-kind : map apart oneEach ≡ 1 ∷ 100 ∷ 10 ∷ 1000 ∷ []
   pub by-word : map (priceIn (prices 1 10 100 1000)) (map wordOf oneEach) ≡ 1 ∷ 100 ∷ 10 ∷ 1000 ∷ []
   -- what `Totals` shuts out: the banks but the last, and an edit that counts in no bank there is
-  pub not-all-banks : fromFirst apart oneEach ≡ byBank apart (bankOf twoBanks twoValues) 1 oneEach → ⊥
-  pub in-no-bank : fromFirst apart oneEach ≡ byBank apart (λ e. 2) 2 oneEach → ⊥
+  pub not-all-banks : SameTotals apart (bankOf twoBanks twoValues) 1 oneEach → ⊥
+  pub in-no-bank : SameTotals apart (λ e. 2) 2 oneEach → ⊥
+  -- and `WordsCost`: another list's words
+  pub other-words : CostAs (prices 1 10 100 1000) (map wordOf (EmergencySpill 1 0 ∷ [])) (EmergencyReload 0 1 ∷ []) → ⊥

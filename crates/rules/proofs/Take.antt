@@ -15,7 +15,7 @@ use Rattle.function.specs.Function.{Function}
 use Rattle.rules.specs.Edit.{Edit}
 use Rattle.rules.specs.Scratch.{Cache}
 use Rattle.rules.specs.Patch.{Patch, Answer, refused, resolved, resolve, cacheAfter}
-use Rattle.rules.specs.Take.{Counted, Preview, Request, resolving, asking, taking, Served, fresh, takeAnswer, counts, stamped, previewOf, Standing, takenOf, answerIn, stampedBy, countsIn, standing, answered, askedAfter, after, afterAll, AskingLeaves, settled, reached, CountIs, TakesAreCalls, behind, itsTake, TwentyAfter, AsResolved, Twenty, AskingThenTaking}
+use Rattle.rules.specs.Take.{Counted, Preview, Request, resolving, asking, taking, Served, fresh, takeAnswer, counts, stamped, previewOf, Standing, takenOf, answerIn, stampedBy, countsIn, standing, answered, askedAfter, after, afterAll, AskingLeaves, settled, reached, CountIs, TakesAreCalls, behind, itsTake, TwentyAfter, AsResolved, Twenty, AskingThenTaking, NextAsResolved}
 
 -- ---- a take by itself
 -- refused with 20 where the counts differ
@@ -229,3 +229,9 @@ module _ (t : RegInfo) (f : Function) where
 
   pub asking-then-taking : AskingThenTaking t f
   asking-then-taking l k p room h = as-resolved t f (reached t f l) p room k h _ refl
+
+  pub next-as-resolved : NextAsResolved t f
+  unfolding answered standing
+  next-as-resolved l k p room es c n e h q room′ =
+      let w : AsResolved t f (reached t f l) p room k (resolved es c n) = subst (AsResolved t f (reached t f l) p room k) e (asking-then-taking l k p room h) in
+      ap (λ (x : Counted). some (resolve t f q room′ (x .cache))) (w .1)

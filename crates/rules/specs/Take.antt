@@ -111,9 +111,13 @@ module _ (t : RegInfo) (f : Function) where
   afterAll [] s = s
   afterAll (x ∷ l) s = afterAll l (after x s)
 
+  -- a request leaves the cache and its count as they were
+  abbrev pub LeavesNow : Request → Served → Type 0
+  LeavesNow x s = after x s .now ≡ s .now
+
   -- asking "changes no cache", nor its count
   abbrev pub AskingLeaves : Type 0
-  AskingLeaves = (p : Patch) (room : ℕ) (s : Served) → after (asking p room) s .now ≡ s .now
+  AskingLeaves = (p : Patch) (room : ℕ) (s : Served) → LeavesNow (asking p room) s
 
   -- how many patches these requests took or resolved
   unfoldable pub settled : List Request → Served → ℕ
@@ -124,15 +128,23 @@ module _ (t : RegInfo) (f : Function) where
   abbrev pub reached : List Request → Served
   reached l = afterAll l fresh
 
+  -- this counts the patches taken or resolved from a fresh cache on
+  abbrev pub Counts : (List Request → ℕ) → Type 0
+  Counts count = (l : List Request) → count l ≡ settled l fresh
+
   -- the count is their number; what is said of takes is owed while it is below 2^64
   abbrev pub CountIs : Type 0
-  CountIs = (l : List Request) → reached l .now .count ≡ settled l fresh
+  CountIs = Counts (λ l. reached l .now .count)
+
+  -- what was asked for would be answered so, here and now
+  abbrev pub AnsweredNow : Preview → Served → Answer → Type 0
+  AnsweredNow a s r = resolve t f (a .patch) (a .room) (s .now .cache) ≡ r
 
   -- "taking makes the cache what resolving would have made it": a take that is not refused is answered as `resolve` is, here and now
   abbrev pub TakesAreCalls : Type 0
   TakesAreCalls =
       (l : List Request) (n : ℕ) (a : Preview) (es : List Edit) (c : Cache) (m : ℕ) → getD (reached l .asked) n none ≡ some a → takeAnswer a (reached l .now) ≡ resolved es c m
-      → resolve t f (a .patch) (a .room) (reached l .now .cache) ≡ resolved es c m
+      → AnsweredNow a (reached l) (resolved es c m)
 
   -- at s a patch is asked for, then come other requests, k
   module _ (s : Served) (p : Patch) (room : ℕ) where
@@ -161,3 +173,9 @@ module _ (t : RegInfo) (f : Function) where
   abbrev pub AskingThenTaking : Type 0
   AskingThenTaking =
       (l k : List Request) (p : Patch) (room : ℕ) → settled k (behind (reached l) p room) ≡ 0 → AsResolved (reached l) p room k (resolve t f p room (reached l .now .cache))
+
+  -- so the patch behind it is answered the same, whether the one before was taken or resolved
+  abbrev pub NextAsResolved : Type 0
+  NextAsResolved =
+      (l k : List Request) (p : Patch) (room : ℕ) (es : List Edit) (c : Cache) (n : ℕ) → resolve t f p room (reached l .now .cache) ≡ resolved es c n → settled k (behind (reached l) p room) ≡ 0
+      → (q : Patch) (room′ : ℕ) → answered (resolving q room′) (after (itsTake (reached l) p room) (afterAll k (behind (reached l) p room))) ≡ answered (resolving q room′) (after (resolving p room) (reached l))

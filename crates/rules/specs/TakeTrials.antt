@@ -3,6 +3,7 @@ use Prim.Native.Nat.{ℕ}
 use mathlib.Core.Path.{_≡_}
 use mathlib.Core.List.{List, [], _∷_, map}
 use mathlib.Core.Option.{Option, none, some}
+use lib.ListN.{length}
 use Rattle.entity.specs.Logic.{indices}
 use Rattle.entity.specs.Place.{reg, slot}
 use Rattle.function.specs.Function.{Function}
@@ -10,7 +11,7 @@ use Rattle.rules.specs.Edit.{Edit, Move, updated}
 use Rattle.rules.specs.Scratch.{emptyCache}
 use Rattle.rules.specs.Patch.{Entry, move, Answer, refused, resolved, resolve}
 use Rattle.rules.specs.Trials.{three, plain, patch, swap}
-use Rattle.rules.specs.Take.{Request, resolving, asking, taking, Served, fresh, answered, after, reached, TwentyAfter, AsResolved}
+use Rattle.rules.specs.Take.{Request, resolving, asking, taking, Preview, Served, fresh, answered, after, LeavesNow, reached, Counts, AnsweredNow, TwentyAfter, AsResolved}
 
 -- nothing to take, a number, or edits, slots made and position
 pub data Told : Type 0 where
@@ -68,6 +69,10 @@ nothing-left = ask swap ∷ ask exchanged ∷ put exchanged ∷ taking 0 ∷ tak
 abbrev pub asked-again : List Request
 asked-again = ask swap ∷ taking 0 ∷ ask swap ∷ put swap ∷ taking 1 ∷ ask swap ∷ taking 2 ∷ []
 
+-- an answer to the swap without edits
+abbrev pub nothing-done : Preview
+nothing-done = record { patch = patch [] swap; room = 16; edits = []; after = emptyCache; position = 0; count = 0 }
+
 pub record TakeTrials : Type 0 where
   -- each answer is taken once, and then the other is not
   pub twice-told : told (plain 0 1) asked-twice ≡ bySlot 0 ∷ bySlot 0 ∷ bySlot 0 ∷ number 20 ∷ number 20 ∷ []
@@ -87,5 +92,9 @@ pub record TakeTrials : Type 0 where
   -- what is shut out: asking and taking that equals resolving though a patch was resolved between
   pub not-between :
       AsResolved three (plain 0 1) fresh (patch [] swap) 16 (put [] ∷ []) (resolve three (plain 0 1) (patch [] swap) 16 emptyCache) → ⊥
+  -- resolving does not leave the cache; askings are not counted; what was asked for is not answered by other edits
+  pub not-left : LeavesNow three (plain 0 1) (put swap) fresh → ⊥
+  pub not-askings : Counts three (plain 0 1) length → ⊥
+  pub not-others : AnsweredNow three (plain 0 1) nothing-done fresh (resolved [] emptyCache 0) → ⊥
   -- nor does an asking that is answered leave nothing to take
   pub not-nothing : TwentyAfter three (plain 0 1) fresh (patch [] swap) 16 [] (refused 17) → ⊥
