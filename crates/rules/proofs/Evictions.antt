@@ -73,7 +73,7 @@ module _ (t : RegInfo) (f : Function) where
         branch (All (Few t f)) (and (isMemory t to) (isMemory t from)) _ _
         (λ _. all-then FewFound (Few t f) (getScratchReg t f b (stackToStackClass t b) (nothingBarred t f) k) _ (search-few b (stackToStackClass t b) (nothingBarred t f) k h) (λ x q. q)) (λ _. h)
 
-    move-few : (b : ℕ) (to from : Place) (v : ℕ) (k : ScratchAllocator) → Few t f k → All (Few t f) (doMove t f b to from v k)
+    pub move-few : (b : ℕ) (to from : Place) (v : ℕ) (k : ScratchAllocator) → Few t f k → All (Few t f) (doMove t f b to from v k)
     unfolding doMove
     move-few b to from v k h =
         all-then (Few t f) (Few t f) (moveEdits t f b to from v (unevictForReg t f to (unevictForReg t f from k))) _
@@ -83,7 +83,7 @@ module _ (t : RegInfo) (f : Function) where
     released z (reg r) k h = h
     released z (slot s) k h = h
 
-    remat-few : (r : Remat) (k : ScratchAllocator) → Few t f k → All (Few t f) (rematWithScratch t f r k)
+    pub remat-few : (r : Remat) (k : ScratchAllocator) → Few t f k → All (Few t f) (rematWithScratch t f r k)
     unfolding rematWithScratch
     remat-few r k h =
         let b = bankForClass t (rematClass f (r .value)) in
@@ -93,13 +93,13 @@ module _ (t : RegInfo) (f : Function) where
         (λ k′ q′. released (spillslotSize t b) (x .place) (push (Rematerialize (x .place) (r .value)) k′) q′))
 
     module _ (ms : List KeptMove) where
-      abbrev FewWalk : ParallelMoves → Type 0
+      abbrev pub FewWalk : ParallelMoves → Type 0
       FewWalk w = Few t f (w .allocator)
 
-      emit-few : (i : ℕ) (from : Place) (w : ParallelMoves) → FewWalk w → All FewWalk (emit t f ms i from w)
+      pub emit-few : (i : ℕ) (from : Place) (w : ParallelMoves) → FewWalk w → All FewWalk (emit t f ms i from w)
       emit-few i from w h = all-then (Few t f) FewWalk _ _ (move-few _ _ from _ (w .allocator) h) (λ k q. q)
 
-      lead-few : (i : ℕ) (w : ParallelMoves) → FewWalk w → All FewWalk (lead t f ms i w)
+      pub lead-few : (i : ℕ) (w : ParallelMoves) → FewWalk w → All FewWalk (lead t f ms i w)
       unfolding lead divert
       lead-few i w h =
           branch (All FewWalk) (any (λ m. isPending (w .state m)) (writers t f ms i)) _ _
@@ -108,23 +108,23 @@ module _ (t : RegInfo) (f : Function) where
           (λ _. emit-few i (w .scratch (value t f ms i)) (carried t f ms i w) h))
           (λ _. emit-few i (source t f ms i) w h)
 
-      undivert-few : (i v : ℕ) (rest : List ℕ) (w : ParallelMoves) → FewWalk w → All FewWalk (undivert t f ms i v rest w)
+      pub undivert-few : (i v : ℕ) (rest : List ℕ) (w : ParallelMoves) → FewWalk w → All FewWalk (undivert t f ms i v rest w)
       unfolding undivert
       undivert-few i v rest w h =
           branch (All FewWalk) (eqb (lost t f ms i v rest (w .diverted) .refCount v) 0) _ _
           (λ _. all-then (Few t f) FewWalk _ _ (move-few _ (w .scratch v) (w .alloc v) v (w .allocator) h) (λ k q. released _ (w .scratch v) k q)) (λ _. h)
 
-      undivertAll-few : (i : ℕ) (l : List ℕ) (w : ParallelMoves) → FewWalk w → All FewWalk (undivertAll t f ms i l w)
+      pub undivertAll-few : (i : ℕ) (l : List ℕ) (w : ParallelMoves) → FewWalk w → All FewWalk (undivertAll t f ms i l w)
       unfolding undivertAll
       undivertAll-few i [] w h = h
       undivertAll-few i (v ∷ l) w h = all-then FewWalk FewWalk (undivert t f ms i v l w) _ (undivert-few i v l w h) (undivertAll-few i l)
 
-      close-few : (i : ℕ) (w : ParallelMoves) → FewWalk w → All FewWalk (close t f ms i w)
+      pub close-few : (i : ℕ) (w : ParallelMoves) → FewWalk w → All FewWalk (close t f ms i w)
       unfolding close
       close-few i w h =
           all-then FewWalk FewWalk (lead t f ms i (withState i Done w)) _ (lead-few i (withState i Done w) h) (λ w′ q. undivertAll-few i (w′ .diverted .values i) w′ q)
 
-      visit-few : (d i : ℕ) (w : ParallelMoves) → FewWalk w → All FewWalk (visit t f ms d i w)
+      pub visit-few : (d i : ℕ) (w : ParallelMoves) → FewWalk w → All FewWalk (visit t f ms d i w)
       unfolding visit
       visit-few zero i w h = branch (All FewWalk) (isNew (w .state i)) _ _ (λ _. tt) (λ _. h)
       visit-few (suc d) i w h =

@@ -4,8 +4,8 @@ pub mod Order
 pub mod Counts
 pub mod Depth
 pub mod Position
-pub mod OneKept
 pub mod Patch
+pub mod OneKept
 pub mod Evictions
 pub mod Sorted
 pub mod Trials

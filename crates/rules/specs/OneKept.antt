@@ -1,18 +1,20 @@
 -- 02 i, "the Rust is the reference for 1": with one kept eviction every step of the scratch keeper is 01's, told here in 01's words, of one
 -- evicted register or none.
-use Prim.Native.Nat.{ℕ, _≤_}
+use Prim.Native.Nat.{ℕ, zero, suc, _≤_}
 use mathlib.Core.Path.{_≡_}
 use mathlib.Core.Bool.{Bool}
-use mathlib.Core.List.{List, [], _∷_}
+use mathlib.Core.List.{List, [], _∷_, reverse}
 use mathlib.Core.Option.{Option, none, some}
+use lib.Dec.{eqb}
 use lib.ListN.{length}
-use Rattle.entity.specs.Logic.{pick, and, has}
+use Rattle.entity.specs.Logic.{pick, and, or, any, has, indices}
 use Rattle.entity.specs.Place.{Place, reg}
-use Rattle.reginfo.specs.RegInfo.{RegInfo, bankForClass, spillslotSize, allocationOrder, classMembers, includesSpillslots, stackToStackClass, overlap, isMemory}
+use Rattle.reginfo.specs.RegInfo.{RegInfo, bankForClass, spillslotSize, topLevelClass, allocationOrder, classMembers, includesSpillslots, stackToStackClass, overlap, isMemory}
 use Rattle.function.specs.Function.{Function, rematClass}
-use Rattle.rules.specs.Edit.{Move, Rematerialize, EmergencySpill, andThen, find}
-use Rattle.rules.specs.Scratch.{Evicted, ScratchAllocator, Found, push, withEvicted, withCache, meeting, release, releasePlace, makeAvailable, makeUnavailable, unevictAll, unevictForReg, makeRoom, usable, searchedTo, nothingBarred, slotScratch, evictLast, getScratchReg, doMove}
-use Rattle.rules.specs.Order.{Remat, rematWithScratch}
+use Rattle.rules.specs.Edit.{Move, Rematerialize, EmergencySpill, andThen, each, find}
+use Rattle.rules.specs.Scratch.{Cache, Evicted, ScratchAllocator, Found, push, withEvicted, withCache, meeting, release, releasePlace, makeAvailable, makeUnavailable, unevictAll, unevictForReg, makeRoom, usable, searchedTo, nothingBarred, slotScratch, evictLast, getScratchReg, doMove}
+use Rattle.rules.specs.Order.{KeptMove, Remat, Pending, Done, isNew, isPending, ParallelMoves, withAllocator, withState, withDiverted, remats, rematWithScratch, source, dest, value, bank, writers, cycleMoveSources, noted, carried, lost, start}
+use Rattle.rules.specs.Patch.{Patch, Sorted, run}
 
 module _ (t : RegInfo) (f : Function) where
   -- "To bring back is to emit the save and put the slot back."
@@ -80,6 +82,56 @@ module _ (t : RegInfo) (f : Function) where
     pub rematted : (r : Remat) (k : ScratchAllocator) → length (k .evicted) ≤ 1 → rematWithScratch t f r k ≡ rebuilding r k
     pub ended : (k : ScratchAllocator) → length (k .evicted) ≤ 1 → unevictAll t f k ≡ backAll (k .evicted) k
 
-  -- "1 where it sets none": with setting 1 all of the rules are 01's
+  -- ---- the kept moves in depth, as in Order, by these steps
+  module _ (ms : List KeptMove) where
+    abbrev pub putting : ℕ → Place → ParallelMoves → Option ParallelMoves
+    putting i from w = andThen (emitting (bank t f ms (value t f ms i)) (dest t f ms i) from (value t f ms i) (w .allocator)) (λ k. some (withAllocator k w))
+
+    unfoldable pub diverting : ℕ → ParallelMoves → Option ParallelMoves
+    diverting i w =
+        andThen (search (bank t f ms (value t f ms i)) (topLevelClass t (bank t f ms (value t f ms i))) (cycleMoveSources t f ms) (w .allocator)) (λ x. putting i (x .place) (noted t f ms i x w))
+
+    unfoldable pub leading : ℕ → ParallelMoves → Option ParallelMoves
+    leading i w =
+        pick (any (λ m. isPending (w .state m)) (writers t f ms i))
+        (pick (eqb (w .diverted .refCount (value t f ms i)) 0) (diverting i (carried t f ms i w)) (putting i (w .scratch (value t f ms i)) (carried t f ms i w)))
+        (putting i (source t f ms i) w)
+
+    unfoldable pub losing : ℕ → ℕ → List ℕ → ParallelMoves → Option ParallelMoves
+    losing i v rest w =
+        pick (eqb (lost t f ms i v rest (w .diverted) .refCount v) 0)
+        (andThen (emitting (bank t f ms v) (w .scratch v) (w .alloc v) v (w .allocator))
+        (λ k. some (withDiverted (lost t f ms i v rest (w .diverted)) (withAllocator (releasePlace t f (spillslotSize t (bank t f ms v)) (w .scratch v) k) w))))
+        (some (withDiverted (lost t f ms i v rest (w .diverted)) w))
+
+    unfoldable pub losingAll : ℕ → List ℕ → ParallelMoves → Option ParallelMoves
+    losingAll i [] w = some w
+    losingAll i (v ∷ l) w = andThen (losing i v l w) (losingAll i l)
+
+    unfoldable pub closing : ℕ → ParallelMoves → Option ParallelMoves
+    closing i w = andThen (leading i (withState i Done w)) (λ w′. losingAll i (w′ .diverted .values i) w′)
+
+    unfoldable pub visiting : ℕ → ℕ → ParallelMoves → Option ParallelMoves
+    visiting zero i w = pick (isNew (w .state i)) none (some w)
+    visiting (suc n) i w = pick (isNew (w .state i)) (andThen (each (visiting n) (reverse (writers t f ms i)) (withState i Pending w)) (closing i)) (some w)
+
+    unfoldable pub visitingFirst : ℕ → ParallelMoves → Option ParallelMoves
+    visitingFirst i w = pick (or (isMemory t (source t f ms i)) (isMemory t (dest t f ms i))) (some w) (visiting (length ms) i w)
+
+    unfoldable pub moving : ScratchAllocator → Option ScratchAllocator
+    moving k =
+        andThen (andThen (each visitingFirst (indices 0 (length ms)) (start t f ms k)) (each (visiting (length ms)) (indices 0 (length ms))))
+        (λ w. some (backAll (w .allocator .evicted) (w .allocator)))
+
+  unfoldable pub running : Patch → Sorted → Cache → Option ScratchAllocator
+  running p a c =
+      andThen (each rebuilding (a .rematsWithScratch) (remats t f (a .remats) (record { edits = []; available = λ u. has u (p .free); evicted = []; cache = c; met = 0 })))
+      (moving (a .moves))
+
+  -- "1 where it sets none": with setting 1 all of the rules are 01's, each step and the whole run of a patch
+  pub record ByOne : Type 0 where
+    pub steps : OfOne
+    pub runs : (p : Patch) (a : Sorted) (c : Cache) → run t f p a c ≡ running p a c
+
   abbrev pub AtOne : Type 0
-  AtOne = f .kept ≡ 1 → OfOne
+  AtOne = f .kept ≡ 1 → ByOne
