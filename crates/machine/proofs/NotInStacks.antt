@@ -33,6 +33,7 @@ not-in-stacks =
       not-made = λ h. let e : 3 < 2 + 1 = h .stacked .below 3 3 refl in omega arith;
       moved = λ h. false≢true (h 2 3 refl);
       another-size = λ h. false≢true (h .lies (Move (slot 0) (reg 1) 1) (List·Memᴰ·head refl) 0 (omega arith) refl);
+      twice-between = λ h. true≢false (h .once .stacked .once 3);
       named-by-none = λ h. false≢true (h .named 0 (omega arith) (omega arith));
       call-another-size = λ h. false≢true (h .lies (Move (slot 0) (reg 1) 1) (List·Memᴰ·head refl) 0 (omega arith) refl);
       call-names-none = λ h. false≢true (h .named 0 (omega arith) (omega arith));

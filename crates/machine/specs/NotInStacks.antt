@@ -33,6 +33,8 @@ pub record NotInStacks : Type 0 where
   pub moved : Stays (lying 1 (2 ∷ []) []) (lying 1 [] (2 ∷ [])) → ⊥
   -- slot 0, of size 3 by the edit that names it, in the stack of another size
   pub another-size : Between three (plain 0 1) (Move (slot 0) (reg 1) 1 ∷ []) (lying 1 [] (0 ∷ [])) → ⊥
+  -- twice in its own stack
+  pub twice-between : Between three (plain 0 1) (Move (slot 0) (reg 1) 1 ∷ []) (lying 1 (0 ∷ 0 ∷ []) []) → ⊥
   -- a slot made that no edit names, so that nothing says its size
   pub named-by-none : Between three (plain 0 1) [] (lying 1 (0 ∷ []) []) → ⊥
   -- the same of one call

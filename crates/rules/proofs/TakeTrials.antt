@@ -34,5 +34,6 @@ take-trials =
       not-left = λ h. let z : _≡_ {A = ℕ} 1 0 = ap (λ (x : Counted). x .count) h in omega arith;
       not-askings = λ h. let z : _≡_ {A = ℕ} 1 0 = h (ask swap ∷ []) in omega arith;
       not-others = λ h. let z : _≡_ {A = Told} (bySlot 0) (edits [] 0 0) = ap (λ (x : Answer). toldBy (some x)) h in let y : _≡_ {A = ℕ} 1 0 = cc in omega arith;
+      not-twenty = λ h. let e : _≡_ {A = Told} nothing (number 20) = ap toldBy (h .1 (omega arith)) in let z : _≡_ {A = ℕ} 0 1 = cc in omega arith;
       not-nothing = λ h. let e : _≡_ {A = Told} (bySlot 0) nothing = ap toldBy h in let z : _≡_ {A = ℕ} 0 1 = cc in omega arith;
     }

@@ -96,5 +96,7 @@ pub record TakeTrials : Type 0 where
   pub not-left : LeavesNow three (plain 0 1) (put swap) fresh → ⊥
   pub not-askings : Counts three (plain 0 1) length → ⊥
   pub not-others : AnsweredNow three (plain 0 1) nothing-done fresh (resolved [] emptyCache 0) → ⊥
+  -- a patch was resolved since the asking, and yet no 20: the asking was refused (L = 0), and is said to be answered
+  pub not-twenty : TwentyAfter three (plain 0 0) fresh (patch [] swap) 16 (put [] ∷ []) (resolved [] emptyCache 0) → ⊥
   -- nor does an asking that is answered leave nothing to take
   pub not-nothing : TwentyAfter three (plain 0 1) fresh (patch [] swap) 16 [] (refused 17) → ⊥
