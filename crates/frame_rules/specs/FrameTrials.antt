@@ -92,7 +92,8 @@ pub record FrameTrials : Type 0 where
   pub not-one-to-one : Renaming 0 (λ y. 0) → ⊥
   pub not-ordinary : Renaming 1 suc → ⊥
   -- nor afresh: the formula was told slot 0 and resolves again, and is told slot 1, as where another had made a slot before
-  pub told-another : told (afterCalls (puts 1 swap ∷ puts 0 swap ∷ []) (two 0 2 0 0)) (puts 0 swap) ≡ renTold suc (told (afterCalls (puts 0 swap ∷ []) (two 0 2 0 0)) (puts 0 swap))
+  pub told-another :
+      told (afterCalls (puts 1 swap ∷ puts 0 swap ∷ []) (two 0 2 0 0)) (puts 0 swap) ≡ renTold suc (told (afterCalls (puts 0 swap ∷ []) (two 0 2 0 0)) (puts 0 swap))
   pub not-afresh :
       Same 0 0 (afterCalls (puts 1 swap ∷ puts 0 swap ∷ []) (two 0 2 0 0)) (afterCalls (puts 0 swap ∷ []) (two 0 2 0 0)) (puts 0 swap) (λ y. y) suc → ⊥
   -- and one renaming is not any: the second slot of the frame is not told as the first
@@ -106,7 +107,8 @@ pub record FrameTrials : Type 0 where
   -- that N is read before the values, of which one has a class of another bank: alone it is 9
   pub n-before-values : (openRefusal 0 (foreign 0 ∷ foreign 1 ∷ []) ≡ some 9) × (openRefusal 0 (record { target = halves; function = over [] 0 0; share = 0 } ∷ foreign 1 ∷ []) ≡ some 2)
   -- the setting before the target
-  pub setting-before-target : (openRefusal 0 (record { target = unequal; function = plain 0 0; share = 0 } ∷ []) ≡ some 4) × (openRefusal 0 (setTo3 unequal 0 ∷ []) ≡ some 22)
+  pub setting-before-target :
+      (openRefusal 0 (record { target = unequal; function = plain 0 0; share = 0 } ∷ []) ≡ some 4) × (openRefusal 0 (setTo3 unequal 0 ∷ []) ≡ some 22)
   -- and before N
   pub setting-before-n : openRefusal 0 (sharing 0 0 ∷ setTo3 three 1 ∷ []) ≡ some 22
   -- the target before that N

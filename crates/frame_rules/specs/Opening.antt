@@ -16,7 +16,13 @@ use Rattle.frame_rules.specs.Frame.{Inlined, frameConditions, firstSlots
 -- 01: 2 and 3 as the target is read, "4 to 7 rising after the target"
 abbrev pub targetConditions : RegInfo → List Condition
 targetConditions t =
-    cond 2 (outsideLimits t) ∷ cond 3 (listedTwice t) ∷ cond 4 (unequalWidths t) ∷ cond 5 (foreignMember t) ∷ cond 6 (sharedMemory t) ∷ cond 7 (unfitClass t) ∷ []
+    cond 2 (outsideLimits t)
+    ∷ cond 3 (listedTwice t)
+    ∷ cond 4 (unequalWidths t)
+    ∷ cond 5 (foreignMember t)
+    ∷ cond 6 (sharedMemory t)
+    ∷ cond 7 (unfitClass t)
+    ∷ []
 
 -- value by value; "9 for a rebuild class when the function is read"
 unfoldable pub valuesConditions : RegInfo → Function → List ℕ → List Condition
@@ -29,7 +35,9 @@ unfoldable pub formulaConditions : ℕ → Inlined → List Condition
 formulaConditions n x =
     cond 22 (no (isSetting (x .function .kept)))
     ∷ (targetConditions (x .target)
-    ++ (cond 2 (no (eqb (x .function .slots) n)) ∷ cond 2 (no (countsFit (x .function))) ∷ valuesConditions (x .target) (x .function) (indices 0 (numValues (x .function)))))
+    ++ (cond 2 (no (eqb (x .function .slots) n))
+    ∷ cond 2 (no (countsFit (x .function)))
+    ∷ valuesConditions (x .target) (x .function) (indices 0 (numValues (x .function)))))
 
 -- one formula after the other
 unfoldable pub formulasConditions : ℕ → List Inlined → List Condition

@@ -101,12 +101,14 @@ ShareEnough s i (q ∷ l) c =
     (k : ScratchAllocator) × EndsWithSlots (s .formulas i .target) (functionIn s i) q (sorted (s .formulas i .target) (functionIn s i) q) c k
     × (madeTo s i (k .cache .made) ≤ s .formulas i .share) × ShareEnough s i l (k .cache)
 
+abbrev pub PatchEnough : Frame → ℕ → Patch → Type 0
+PatchEnough s i p = ShareEnough s i (parts (s .formulas i .target) p) (cacheIn s i)
+
 -- then there is no 17
 abbrev pub WithinShare : Type 0
 WithinShare =
-    (limit : ℕ) (l : List Inlined) → openRefusal limit l ≡ none → (calls : List FrameCall) → Named (length l) calls → (i : ℕ) → i < length l → (p : Patch) (room : ℕ)
-    → ShareEnough (afterCalls calls (opened limit l)) i (parts (afterCalls calls (opened limit l) .formulas i .target) p) (cacheIn (afterCalls calls (opened limit l)) i)
-    → groupsIn (afterCalls calls (opened limit l)) i p room ≡ refused 17 → ⊥
+    (limit : ℕ) (l : List Inlined) → openRefusal limit l ≡ none → (calls : List FrameCall) → Named (length l) calls → (i : ℕ) → i < length l
+    → (p : Patch) (room : ℕ) → PatchEnough (afterCalls calls (opened limit l)) i p → groupsIn (afterCalls calls (opened limit l)) i p room ≡ refused 17 → ⊥
 
 -- with 02 j: a share that meets no 17, whatever the others call
 abbrev pub EnoughShare : Type 0

@@ -98,7 +98,8 @@ pub record NotAccepted : Type 0 where
   -- overwrites a kept source that is no destination, once its value stands elsewhere
   pub source-overwritten : plainly one (right ∷ Move (reg 0) (reg 2) 0 ∷ [])
   -- the same of a slot
-  pub source-slot-overwritten : plainly stored (EmergencySpill 2 2 ∷ Move (reg 2) (slot 0) 1 ∷ Move (slot 1) (reg 2) 1 ∷ EmergencyReload 2 2 ∷ Move (slot 0) (reg 0) 0 ∷ [])
+  pub source-slot-overwritten :
+      plainly stored (EmergencySpill 2 2 ∷ Move (reg 2) (slot 0) 1 ∷ Move (slot 1) (reg 2) 1 ∷ EmergencyReload 2 2 ∷ Move (slot 0) (reg 0) 0 ∷ [])
   -- leaves a register waiting
   pub left-waiting : plainly one (EmergencySpill 2 2 ∷ right ∷ [])
   -- what was saved is lost in the slot, so that the reload brings other words; mended before the end
@@ -116,7 +117,8 @@ pub record NotAccepted : Type 0 where
   -- the same while r5, which waits, counts as holding them: r5 was written, but with others, and slot 2, which was written with them, has others now
   pub written-otherwise :
       Wrong three (words 70 71 72) (holding (70 ∷ 1 ∷ 71 ∷ 72 ∷ 4 ∷ 70 ∷ 6 ∷ 7 ∷ []) (71 ∷ []) (9 ∷ []))
-      (EmergencySpill 2 5 ∷ Move (slot 2) (reg 2) 1 ∷ Move (reg 5) (reg 2) 1 ∷ Move (reg 0) (reg 2) 1 ∷ Rematerialize (reg 1) 0 ∷ Move (reg 4) (reg 3) 2 ∷ EmergencyReload 5 2 ∷ [])
+      (EmergencySpill 2 5 ∷ Move (slot 2) (reg 2) 1 ∷ Move (reg 5) (reg 2) 1 ∷ Move (reg 0) (reg 2) 1
+      ∷ Rematerialize (reg 1) 0 ∷ Move (reg 4) (reg 3) 2 ∷ EmergencyReload 5 2 ∷ [])
   -- memory to memory: slot to slot, an argument word to a slot, a slot to an argument word
   pub memory-to-memory : plainly stored (Move (slot 1) (slot 0) 1 ∷ [])
   pub word-to-slot : plainly one (right ∷ Move (slot 2) (reg 7) 0 ∷ [])
@@ -137,6 +139,7 @@ pub record NotAccepted : Type 0 where
   pub not-as-held : HoldsAs seven values (words 70 71 72) start (reg 7) → ⊥
   pub not-as-done : DoesAs seven values (words 70 71 72) (Move (slot 1) (reg 7) 0) (begin start) → ⊥
   pub not-all-as-done : AllAs seven values (words 70 71 72) (right ∷ Move (slot 1) (reg 7) 0 ∷ []) (begin start) → ⊥
-  pub not-as-seen : SeenAs seven values (words 70 71 72) (record { memory = start; waiting = record { reg = 7; slot = 2; words = 9 ∷ 9 ∷ [] } ∷ []; written = [] }) → ⊥
+  pub not-as-seen :
+      SeenAs seven values (words 70 71 72) (record { memory = start; waiting = record { reg = 7; slot = 2; words = 9 ∷ 9 ∷ [] } ∷ []; written = [] }) → ⊥
   -- one edit over the bound
   pub over-the-bound : Accepted seven values one (replicate 9 right) → ⊥

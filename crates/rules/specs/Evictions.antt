@@ -57,7 +57,9 @@ module _ (t : RegInfo) (f : Function) where
         (b c : ℕ) (barred : ℕ → Bool) (k : ScratchAllocator) (x : Found) → getScratchReg t f b c barred k ≡ some x
         → (reloads (x .scratch .edits) ≡ reloads (k .edits))
         ⊎ ((n : ℕ) × (k′ : ScratchAllocator) × (reloads (k′ .edits) ≡ reloads (k .edits)) × (evictLast t f n b c k′ ≡ some x))
-    pub brought-back : (l : List Evicted) (k : ScratchAllocator) → (reloads (unevict t f l k .edits) ≡ reloads (k .edits)) × (saves (unevict t f l k .edits) ≡ length l + saves (k .edits))
+    pub brought-back :
+        (l : List Evicted) (k : ScratchAllocator)
+        → (reloads (unevict t f l k .edits) ≡ reloads (k .edits)) × (saves (unevict t f l k .edits) ≡ length l + saves (k .edits))
 
   -- so a resolved list has as many S as L: each register that is evicted is saved once
   abbrev pub AsMany : Type 0

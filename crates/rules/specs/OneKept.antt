@@ -89,12 +89,14 @@ module _ (t : RegInfo) (f : Function) where
 
     unfoldable pub diverting : ℕ → ParallelMoves → Option ParallelMoves
     diverting i w =
-        andThen (search (bank t f ms (value t f ms i)) (topLevelClass t (bank t f ms (value t f ms i))) (cycleMoveSources t f ms) (w .allocator)) (λ x. putting i (x .place) (noted t f ms i x w))
+        andThen (search (bank t f ms (value t f ms i)) (topLevelClass t (bank t f ms (value t f ms i))) (cycleMoveSources t f ms) (w .allocator))
+        (λ x. putting i (x .place) (noted t f ms i x w))
 
     unfoldable pub leading : ℕ → ParallelMoves → Option ParallelMoves
     leading i w =
         pick (any (λ m. isPending (w .state m)) (writers t f ms i))
-        (pick (eqb (w .diverted .refCount (value t f ms i)) 0) (diverting i (carried t f ms i w)) (putting i (w .scratch (value t f ms i)) (carried t f ms i w)))
+        (pick (eqb (w .diverted .refCount (value t f ms i)) 0) (diverting i (carried t f ms i w))
+        (putting i (w .scratch (value t f ms i)) (carried t f ms i w)))
         (putting i (source t f ms i) w)
 
     unfoldable pub losing : ℕ → ℕ → List ℕ → ParallelMoves → Option ParallelMoves
@@ -125,7 +127,8 @@ module _ (t : RegInfo) (f : Function) where
 
   unfoldable pub running : Patch → Sorted → Cache → Option ScratchAllocator
   running p a c =
-      andThen (each rebuilding (a .rematsWithScratch) (remats t f (a .remats) (record { edits = []; available = λ u. has u (p .free); evicted = []; cache = c; met = 0 })))
+      andThen
+      (each rebuilding (a .rematsWithScratch) (remats t f (a .remats) (record { edits = []; available = λ u. has u (p .free); evicted = []; cache = c; met = 0 })))
       (moving (a .moves))
 
   -- "1 where it sets none": with setting 1 all of the rules are 01's, each step and the whole run of a patch

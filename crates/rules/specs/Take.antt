@@ -177,5 +177,7 @@ module _ (t : RegInfo) (f : Function) where
   -- so the patch behind it is answered the same, whether the one before was taken or resolved
   abbrev pub NextAsResolved : Type 0
   NextAsResolved =
-      (l k : List Request) (p : Patch) (room : ℕ) (es : List Edit) (c : Cache) (n : ℕ) → resolve t f p room (reached l .now .cache) ≡ resolved es c n → settled k (behind (reached l) p room) ≡ 0
-      → (q : Patch) (room′ : ℕ) → answered (resolving q room′) (after (itsTake (reached l) p room) (afterAll k (behind (reached l) p room))) ≡ answered (resolving q room′) (after (resolving p room) (reached l))
+      (l k : List Request) (p : Patch) (room : ℕ) (es : List Edit) (c : Cache) (n : ℕ) → resolve t f p room (reached l .now .cache) ≡ resolved es c n
+      → settled k (behind (reached l) p room) ≡ 0 → (q : Patch) (room′ : ℕ)
+      → answered (resolving q room′) (after (itsTake (reached l) p room) (afterAll k (behind (reached l) p room)))
+      ≡ answered (resolving q room′) (after (resolving p room) (reached l))

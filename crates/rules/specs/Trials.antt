@@ -298,4 +298,5 @@ pub record ToldApart : Type 0 where
   -- an evicted register taken again only where the order has it: "the evicted register if a member", here r0
   pub member-taken-again :
       Gives (resolve shortOrder (over (rematValue 2 ∷ rematValue 1 ∷ []) 2 1) (patch [] (remat (slot 0) 0 ∷ remat (slot 1) 1 ∷ [])) 10 emptyCache)
-      (EmergencySpill 2 0 ∷ Rematerialize (reg 0) 1 ∷ Move (slot 1) (reg 0) 1 ∷ Rematerialize (reg 0) 0 ∷ Move (slot 0) (reg 0) 0 ∷ EmergencyReload 0 2 ∷ []) 1 (2 ∷ [])
+      (EmergencySpill 2 0 ∷ Rematerialize (reg 0) 1 ∷ Move (slot 1) (reg 0) 1 ∷ Rematerialize (reg 0) 0 ∷ Move (slot 0) (reg 0) 0 ∷ EmergencyReload 0 2 ∷ [])
+      1 (2 ∷ [])
