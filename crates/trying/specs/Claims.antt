@@ -21,7 +21,8 @@ EachOnce =
 -- evictions are counted by their reloads, and each register that is evicted is saved once: as many S as L
 abbrev pub AsManySaves : Type 0
 AsManySaves =
-    (t : RegInfo) (f : Function) (kept count seed : ℕ) → ofKind 3 (editsIn (tried t f kept count seed .answers)) ≡ ofKind 4 (editsIn (tried t f kept count seed .answers))
+    (t : RegInfo) (f : Function) (kept count seed : ℕ)
+    → ofKind 3 (editsIn (tried t f kept count seed .answers)) ≡ ofKind 4 (editsIn (tried t f kept count seed .answers))
 
 -- the first n draws from a seed
 unfoldable pub firstDraws : ℕ → ℕ → List ℕ
