@@ -9,45 +9,32 @@ use Rattle.number.specs.Read.{Read, got, refused, then}
 use Rattle.reading.specs.declared.Next.the-variants as X
 use Rattle.parallel_moves.proofs.Resolving.{fresh}
 use Rattle.job_rules.specs.Job as job
-use Rattle.job_rules.specs.Job.{beginning}
 use Rattle.job.specs.Steps.{BegunAt}
 use Rattle.calls.specs.declared.Opened.the-variants.{Yes, Refused}
-use Rattle.calls.specs.Opening.{ended, opened, TablesAs, OpenedAs}
+use Rattle.calls.specs.Opening.{ended, TablesAs, OpenedAs}
 
-module _ (kept : ℕ) (s t f : List ℕ) where
-  pub not-opened : (k : ℕ) → BegunAt s (beginning kept s) (X.Refused k) t f → TablesAs (opened kept s) (Refused k) t f
-  unfolding opened
-  not-opened k h = go (beginning kept s) h
-    where
-      go : (x : Read job.Opened) → BegunAt s x (X.Refused k) t f → TablesAs (then x (λ x q. ended x q)) (Refused k) t f
-      go (refused j) h = let z : k ≡ j = cc in (ap Refused z, tt, tt)
-      go (got x rest) h = absurd (let z : _≡_ {A = ℕ} 0 1 = cc in omega arith)
+module _ (s t f : List ℕ) where
+  pub not-opened : (x : Read job.Opened) (k : ℕ) → BegunAt s x (X.Refused k) t f → TablesAs (then x (λ x q. ended x q)) (Refused k) t f
+  not-opened (refused j) k h = let z : k ≡ j = cc in (ap Refused z, tt, tt)
+  not-opened (got x rest) k h = absurd (let z : _≡_ {A = ℕ} 0 1 = cc in omega arith)
 
-  pub left-over : (next : ℕ) → next < length s → BegunAt s (beginning kept s) (X.At next) t f → TablesAs (opened kept s) (Refused 8) t f
-  unfolding opened
-  left-over next l h = go (beginning kept s) h
-    where
-      some-left : (x : job.Opened) (rest : List ℕ) → 0 < length rest → TablesAs (ended x rest) (Refused 8) t f
-      some-left x [] z = absurd (omega arith)
-      some-left x (b ∷ rest) z = (refl, tt, tt)
+  some-left : (x : job.Opened) (rest : List ℕ) → 0 < length rest → TablesAs (ended x rest) (Refused 8) t f
+  some-left x [] z = absurd (omega arith)
+  some-left x (b ∷ rest) z = (refl, tt, tt)
 
-      go : (x : Read job.Opened) → BegunAt s x (X.At next) t f → TablesAs (then x (λ x q. ended x q)) (Refused 8) t f
-      go (refused j) h = absurd (let z : _≡_ {A = ℕ} 0 1 = cc in omega arith)
-      go (got x rest) h =
-          let same : next ≡ h .0 = cc in
-          let is : rest ≡ drop next s = h .2 ∙ rw same in
-          some-left x rest (rw is (omega (arith, length-drop next s)))
+  pub left-over : (x : Read job.Opened) (next : ℕ) → next < length s → BegunAt s x (X.At next) t f → TablesAs (then x (λ x q. ended x q)) (Refused 8) t f
+  left-over (refused j) next l h = absurd (let z : _≡_ {A = ℕ} 0 1 = cc in omega arith)
+  left-over (got x rest) next l h =
+      let same : next ≡ h .0 = cc in
+      let is : rest ≡ drop next s = h .2 ∙ rw same in
+      some-left x rest (rw is (omega (arith, length-drop next s)))
 
-  pub all-read : (next : ℕ) → length s ≤ next → BegunAt s (beginning kept s) (X.At next) t f → TablesAs (opened kept s) Yes t f
-  unfolding opened
-  all-read next l h = go (beginning kept s) h
-    where
-      go : (x : Read job.Opened) → BegunAt s x (X.At next) t f → TablesAs (then x (λ x q. ended x q)) Yes t f
-      go (refused j) h = absurd (let z : _≡_ {A = ℕ} 0 1 = cc in omega arith)
-      go (got x rest) h =
-          let same : next ≡ h .0 = cc in
-          let is : rest ≡ [] = h .2 ∙ rw (← same) (drop-of-length-le s {i = next} l) in
-          rw is (refl, h .4, h .5, h .6)
+  pub all-read : (x : Read job.Opened) (next : ℕ) → length s ≤ next → BegunAt s x (X.At next) t f → TablesAs (then x (λ x q. ended x q)) Yes t f
+  all-read (refused j) next l h = absurd (let z : _≡_ {A = ℕ} 0 1 = cc in omega arith)
+  all-read (got x rest) next l h =
+      let same : next ≡ h .0 = cc in
+      let is : rest ≡ [] = h .2 ∙ rw (← same) (drop-of-length-le s {i = next} l) in
+      rw is (refl, h .4, h .5, h .6)
 
 -- the cache beside the tables
 module _ (t f cache : List ℕ) where

@@ -8,9 +8,11 @@ use Rattle.function.specs.Known.{Checked}
 use Rattle.function.specs.Table.{functionOf}
 use Rattle.slots.specs.Steps.{Cleared}
 use Rattle.number.specs.Read.{Read, got, refused, then}
+use Rattle.price.specs.declared.Prices.{Prices}
 use Rattle.parallel_moves.specs.Given.{CacheOk}
 use Rattle.job_rules.specs.Job as job
 use Rattle.job_rules.specs.Job.{beginning}
+use Rattle.job_rules.specs.Priced.{beginningPriced}
 use Rattle.calls.specs.declared.Opened.{Opened}
 use Rattle.calls.specs.declared.Opened.the-variants.{Yes, Refused}
 
@@ -22,6 +24,10 @@ ended x (b ∷ l) = refused 8
 -- a target and a function of `kept` kept evictions as a job begins with them, and nothing behind them
 unfoldable pub opened : (kept : ℕ) → List ℕ → Read job.Opened
 opened kept l = then (beginning kept l) (λ x q. ended x q)
+
+-- 02 e: the same of a target that gives these prices, "tested after 7"
+unfoldable pub openedPriced : Prices → (kept : ℕ) → List ℕ → Read job.Opened
+openedPriced p kept l = then (beginningPriced p kept l) (λ x q. ended x q)
 
 -- the tables hold them; where they are refused, the tables hold anything
 abbrev pub TablesAs : Read job.Opened → Opened → (t f : List ℕ) → Type 0

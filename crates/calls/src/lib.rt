@@ -9,6 +9,7 @@ use function::Function;
 use parallel_moves::Asked;
 use parallel_moves::Grant;
 use parallel_moves::Resolved;
+use price::Prices;
 use reading::Next;
 use reginfo::RegInfo;
 use scratch::Diversions;
@@ -18,6 +19,8 @@ use small_set::RegUnitSet;
 use sparse::SparseMap;
 use visits::States;
 ghost use mathlib.Core.Path.{_≡_};
+ghost use mathlib.Core.List.{List};
+ghost use Prim.Native.Nat.{ℕ};
 ghost use lib.Dec.{ltb};
 ghost use lib.ListN.{length};
 ghost use Rattle.entity.specs.Logic.{Anything};
@@ -31,7 +34,10 @@ ghost use Rattle.entries.specs.Known.{freeIn};
 ghost use Rattle.rules.specs.Refusals.{withLimit};
 ghost use Rattle.parallel_moves.specs.Given.{withMade, GrantOk, CacheOk};
 ghost use Rattle.parallel_moves.specs.Answers.{Gives, GivesGranted, Asks};
-ghost use Rattle.calls.specs.Opening.{opened, TablesAs, OpenedAs};
+ghost use Rattle.number.specs.Read.{Read, then};
+ghost use Rattle.job_rules.specs.Job as job;
+ghost use Rattle.job.specs.Steps.{BegunAt};
+ghost use Rattle.calls.specs.Opening.{ended, opened, openedPriced, TablesAs, OpenedAs};
 ghost use Rattle.calls.specs.Call.{callOf, FreeTaken};
 
 // Whether a target and a function are open, or 01's number.
@@ -40,12 +46,11 @@ pub enum Opened {
     Refused(u8),
 }
 
-// Opens the target and the function that the bytes are, with its setting; 22 first, for a setting other than 1 or 2. What the tables held does
-// not matter.
-pub fn open_tables(kept_evictions: u32, s: &[u8], t: &mut RegInfo, f: &mut Function) -> Opened
-    ensures { λ r. ⌜ TablesAs (opened «kept_evictions» (now (s .entry))) r (now (t .exit)) (now (f .exit)) ⌝ }
+// A target and a function that were read, where nothing is left behind them; else 8.
+fn at_end(begun: Next, s: &[u8]) -> Opened
+    ensures { λ r. ⌜ ((x : Read job.Opened) (t f : List ℕ) → BegunAt (now (s .entry)) x begun t f → TablesAs (then x (λ x q. ended x q)) r t f) ⌝ }
 {
-    match job::read_beginning(kept_evictions, s, t, f) {
+    match begun {
         Next::Refused(k) => Opened::Refused(k),
         Next::At(next) => {
             if next < s.len() {
@@ -56,7 +61,28 @@ pub fn open_tables(kept_evictions: u32, s: &[u8], t: &mut RegInfo, f: &mut Funct
     }
 }
 
-// The same with a cache that has no slot made.
+// The cache of tables that were opened: one with no slot made, its stamp raised; else as it was.
+fn cleared(tables: Opened, cache: &mut EmergencySpillSlotCache) -> Opened
+    ensures { λ r. ⌜ ((x : Read job.Opened) (t f : List ℕ) → TablesAs x tables t f → OpenedAs x r t f (now (cache .entry)) (now (cache .exit))) ⌝ }
+{
+    match tables {
+        Opened::Refused(k) => Opened::Refused(k),
+        Opened::Yes => {
+            slots::clear(cache);
+            Opened::Yes
+        }
+    }
+}
+
+// Opens the target and the function that the bytes are, with its setting; 22 first, for a setting other than 1 or 2. What the tables held does
+// not matter.
+pub fn open_tables(kept_evictions: u32, s: &[u8], t: &mut RegInfo, f: &mut Function) -> Opened
+    ensures { λ r. ⌜ TablesAs (opened «kept_evictions» (now (s .entry))) r (now (t .exit)) (now (f .exit)) ⌝ }
+{
+    at_end(job::read_beginning(kept_evictions, s, t, f), s)
+}
+
+// The same, and a cache with no slot made.
 pub fn open(
     kept_evictions: u32,
     s: &[u8],
@@ -66,13 +92,24 @@ pub fn open(
 ) -> Opened
     ensures { λ r. ⌜ OpenedAs (opened «kept_evictions» (now (s .entry))) r (now (t .exit)) (now (f .exit)) (now (cache .entry)) (now (cache .exit)) ⌝ }
 {
-    match open_tables(kept_evictions, s, t, f) {
-        Opened::Refused(k) => Opened::Refused(k),
-        Opened::Yes => {
-            slots::clear(cache);
-            Opened::Yes
-        }
-    }
+    cleared(open_tables(kept_evictions, s, t, f), cache)
+}
+
+// 02 e: the same of a target that gives these prices: 19 for one outside its range, after 7 and before the function's first number.
+pub fn open_priced(
+    kept_evictions: u32,
+    p: Prices,
+    s: &[u8],
+    t: &mut RegInfo,
+    f: &mut Function,
+    cache: &mut EmergencySpillSlotCache,
+) -> Opened
+    ensures { λ r. ⌜ OpenedAs (openedPriced p «kept_evictions» (now (s .entry))) r (now (t .exit)) (now (f .exit)) (now (cache .entry)) (now (cache .exit)) ⌝ }
+{
+    cleared(
+        at_end(job::read_priced_beginning(kept_evictions, p, s, t, f), s),
+        cache,
+    )
 }
 
 // The free units of a patch, rising, as a set. What the set held does not matter.

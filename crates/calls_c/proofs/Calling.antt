@@ -12,10 +12,12 @@ use Rattle.number.specs.Read as read
 use Rattle.number.specs.Read.{Read}
 use Rattle.parallel_moves.specs.declared.Resolved.the-variants as R
 use Rattle.parallel_moves.specs.Answers.{Gives}
-use Rattle.job_rules.specs.Job.{Opened}
+use Rattle.number.specs.declared.Number.the-variants as N
+use Rattle.job_rules.specs.Job.{Opened, Header}
+use Rattle.job.specs.Steps.{HeaderAt}
 use Rattle.calls.specs.declared.Opened.the-variants.{Yes, Refused}
 use Rattle.calls.specs.Opening.{TablesAs, OpenedAs}
-use Rattle.calls_c.specs.Called.{OpenedBy, PlannedBy, CalledAs}
+use Rattle.calls_c.specs.Called.{OpenedBy, CountedBy, PlannedBy, CalledAs}
 
 module _ (t f cache cache′ : List ℕ) where
   pub opened : (x : Read Opened) → OpenedAs x Yes t f cache cache′ → OpenedBy x 0 t f cache cache′
@@ -25,6 +27,16 @@ module _ (t f cache cache′ : List ℕ) where
   pub not-opened : (x : Read Opened) (k : ℕ) → OpenedAs x (Refused k) t f cache cache′ → OpenedBy x k t f cache cache′
   not-opened (read.refused j) k h = let z : k ≡ j = cc in (z, tt, tt, h .3)
   not-opened (read.got x rest) k h = absurd (let z : _≡_ {A = ℕ} 0 1 = cc in omega arith)
+
+-- the patch count of a job's opening
+module _ (s t f : List ℕ) where
+  pub counted : (x : Read Header) (n next : ℕ) → HeaderAt s x (N.Is n next) t f → CountedBy x n 0
+  counted (read.refused k) n next h = absurd (let z : _≡_ {A = ℕ} 0 1 = cc in omega arith)
+  counted (read.got x rest) n next h = let e : n ≡ x .patches = cc in (e, refl)
+
+  pub not-counted : (x : Read Header) (k : ℕ) → HeaderAt s x (N.Refused k) t f → CountedBy x 0 k
+  not-counted (read.refused j) k h = let z : k ≡ j = cc in (refl, z)
+  not-counted (read.got x rest) k h = absurd (let z : _≡_ {A = ℕ} 0 1 = cc in omega arith)
 
 -- the L to plan with, of the tables that were opened
 module _ (t f : List ℕ) where

@@ -15,13 +15,18 @@ use Rattle.slots.specs.Steps.{Cleared}
 use Rattle.number.specs.Read as read
 use Rattle.number.specs.Read.{Read}
 use Rattle.parallel_moves.specs.Given.{CacheOk}
-use Rattle.job_rules.specs.Job.{Opened}
+use Rattle.job_rules.specs.Job.{Opened, Header}
 
 -- opened: 0, the tables hold target and function, and the cache has no slot made, its stamp raised; refused: 01's number, the tables hold anything, and the cache
 -- is as it was
 abbrev pub OpenedBy : Read Opened → ℕ → (t f cache cache′ : List ℕ) → Type 0
 OpenedBy (read.refused k) r t f cache cache′ = (r ≡ k) × Anything t × Anything f × (cache′ ≡ cache)
 OpenedBy (read.got x rest) r t f cache cache′ = (r ≡ 0) × (regInfoOf t ≡ x .target) × (functionOf f ≡ x .function) × Checked t f × Cleared cache cache′ × CacheOk f cache′
+
+-- how many patches a job has, and 0 for the number; refused: 0, and 01's number
+abbrev pub CountedBy : Read Header → (r refusal : ℕ) → Type 0
+CountedBy (read.refused k) r refusal = (r ≡ 0) × (refusal ≡ k)
+CountedBy (read.got h rest) r refusal = (r ≡ h .patches) × (refusal ≡ 0)
 
 -- 02 j: "an L to plan with", and 0 for the number; refused: 0, and 01's number
 abbrev pub PlannedBy : Read Opened → (r refusal : ℕ) → Type 0

@@ -5,6 +5,7 @@ use carried::Carried;
 use edit::Edits;
 use entries::Entries;
 use function::Function;
+use number::Number;
 use parallel_moves::Resolved;
 use reginfo::RegInfo;
 use scratch::Diversions;
@@ -21,9 +22,11 @@ ghost use Rattle.function.specs.Known.{Checked};
 ghost use Rattle.function.specs.Table.{functionOf};
 ghost use Rattle.slots.specs.Stacks.{cacheOf};
 ghost use Rattle.parallel_moves.specs.Given.{CacheOk};
-ghost use Rattle.calls.specs.Opening.{opened};
+ghost use Rattle.price.specs.Price.{pricesIn};
+ghost use Rattle.job_rules.specs.Priced.{openingPriced};
+ghost use Rattle.calls.specs.Opening.{opened, openedPriced};
 ghost use Rattle.calls.specs.Call.{callOf};
-ghost use Rattle.calls_c.specs.Called.{OpenedBy, PlannedBy, CalledAs};
+ghost use Rattle.calls_c.specs.Called.{OpenedBy, CountedBy, PlannedBy, CalledAs};
 
 // Opens the target and the function that the bytes are, with its number of kept evictions, for `parallel_moves_resolve`: answers 0, or 01's number:
 // 22, tested before the bytes, for one other than 1 or 2.
@@ -40,6 +43,52 @@ pub extern "C" fn parallel_moves_open_5(
     match calls::open(kept_evictions, bytes, target, function, cache) {
         Opened::Yes => 0,
         Opened::Refused(k) => k,
+    }
+}
+
+// 02 e: the same of a target with these prices, of M, R, S and L: 19, after 7 and before the function's first number, for one over 65,535.
+#[no_mangle]
+pub extern "C" fn parallel_moves_open_priced_5(
+    kept_evictions: u32,
+    prices: &[u32; 4],
+    bytes: &[u8],
+    target: &mut RegInfo,
+    function: &mut Function,
+    cache: &mut EmergencySpillSlotCache,
+) -> u8
+    ensures { λ r. ⌜ OpenedBy (openedPriced (pricesIn (now (prices .entry))) «kept_evictions» (now (bytes .entry))) r (now (target .exit)) (now (function .exit)) (now (cache .entry)) (now (cache .exit)) ⌝ }
+{
+    let p = price::prices_of(prices);
+    match calls::open_priced(kept_evictions, p, bytes, target, function, cache) {
+        Opened::Yes => 0,
+        Opened::Refused(k) => k,
+    }
+}
+
+// 02 e: how many patches a job with these prices, of M, R, S and L, says that it has, and `refusal` set to 0; or 0, and the number by which its
+// opening is refused: 19, after 7 and before the function's first number, for a price over 65,535. `target` and `function` are worked in.
+#[no_mangle]
+pub extern "C" fn parallel_moves_priced_job_5(
+    kept_evictions: u32,
+    prices: &[u32; 4],
+    bytes: &[u8],
+    refusal: &mut u8,
+    target: &mut RegInfo,
+    function: &mut Function,
+) -> u32
+    ensures { λ r. ⌜ CountedBy (openingPriced (pricesIn (now (prices .entry))) «kept_evictions» (now (bytes .entry))) r (now (refusal .exit)) ⌝ }
+    ensures { λ _. ⌜ Anything (now (target .exit)) × Anything (now (function .exit)) ⌝ }
+{
+    let p = price::prices_of(prices);
+    match job::read_priced_opening(kept_evictions, p, bytes, target, function) {
+        Number::Refused(k) => {
+            *refusal = k;
+            0
+        }
+        Number::Is(count, _) => {
+            *refusal = 0;
+            count
+        }
     }
 }
 

@@ -30,7 +30,7 @@ module _ (limit : ℕ) (shares frame frame′ : List ℕ) (next : ℕ) (r : Fram
   pub refused-frame : (k : ℕ) → r ≡ F.Refused k → FrameAt (record { limit = limit; shares = shares }) frame′ next (X.Refused k)
   refused-frame k e = let a : FrameAs limit shares (F.Refused k) frame frame′ = rw e at h in inl (a .0)
 
-  pub many-formulas : 2 < length shares → FrameAt (record { limit = limit; shares = shares }) frame′ next (X.Refused 2)
+  pub many-formulas : 2 < length shares → FrameAt (record { limit = limit; shares = shares }) frame′ next (X.Refused 0)
   many-formulas l = inr (refl, l)
 
   pub few-formulas : r ≡ F.Yes → length shares ≤ 2 → FrameAt (record { limit = limit; shares = shares }) frame′ next (X.At next)

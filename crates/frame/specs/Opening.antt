@@ -31,9 +31,9 @@ sharesOf l = then (number l) (λ n r. then (listed r) (λ shares q. got (record 
 abbrev pub Fits : Shares → (frame : List ℕ) → Type 0
 Fits x frame = (firstOf (shareConditions (x .limit) (x .shares)) ≡ none) × Filled (x .limit) (x .shares) frame × (length (x .shares) ≤ 2)
 
--- 02 l's number; then 2, for more
+-- 02 l's number; or 0, which is none, for more
 abbrev pub NoFrame : Shares → ℕ → Type 0
-NoFrame x k = (firstOf (shareConditions (x .limit) (x .shares)) ≡ some k) ⊎ ((k ≡ 2) × (2 < length (x .shares)))
+NoFrame x k = (firstOf (shareConditions (x .limit) (x .shares)) ≡ some k) ⊎ ((k ≡ 0) × (2 < length (x .shares)))
 
 abbrev pub FrameAt : Shares → (frame : List ℕ) (next : ℕ) → Next → Type 0
 FrameAt x frame next (X.At m) = (m ≡ next) × Fits x frame

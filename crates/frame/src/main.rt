@@ -2,7 +2,7 @@
 // A schedule is its length, two bytes, the lower first, and as many bytes: in job numbers the limit, the shares behind their count, and for each
 // formula its setting, the length of its opening and the opening; then its calls. A call is its formula, counted from 1, and 0 and a patch to
 // resolve, 1 and one to ask for, or 2, to take what the formula's last asking left; a patch is its free units and its entries' numbers, each
-// behind their count. What is no frame, no formula or no call is refused by number, and ends its schedule.
+// behind their count. What is no frame, no formula or no call is refused by number, and ends its schedule; a frame of more formulas is told so.
 use calls::Opened;
 use frame_table::Frame;
 use frame_table::FrameOpened;
@@ -20,6 +20,8 @@ ghost use lib.Dec.{ltb};
 ghost use lib.ListN.{length, drop};
 ghost use Rattle.frame_table.specs.Table.{numberOf};
 ghost use Rattle.frame_table.specs.Held.{FrameOk};
+ghost use Rattle.schedule.specs.Lists.{called};
+ghost use Rattle.schedule.specs.Answered.{AnsweredAs};
 ghost use Rattle.schedule.specs.Standing.{Stands, FrameOn};
 ghost use Rattle.frame.specs.Opening.{FrameAt, SharesAt, partOf, formulaOf, FormulaAt, IfThere};
 ghost use Rattle.frame.specs.Running.{BothOpen, AllAt, Goes, Within};
@@ -51,7 +53,7 @@ fn long(x: u32) -> usize
     x as usize
 }
 
-// A frame of these shares: 2 for more than two formulas too, for which there are no tables here.
+// A frame of these shares: 0, which is no refusal, for more than two formulas, for which there are no tables here.
 fn open_few(frame: &mut Frame, limit: u32, shares: &[u32], next: usize) -> Next
     ensures { λ r. ⌜ FrameAt (record { limit = limit; shares = now (shares .entry) }) (now (frame .exit)) next r ⌝ }
 {
@@ -59,7 +61,7 @@ fn open_few(frame: &mut Frame, limit: u32, shares: &[u32], next: usize) -> Next
         FrameOpened::Refused(k) => Next::Refused(k),
         FrameOpened::Yes => {
             if 2 < shares.len() {
-                return Next::Refused(2);
+                return Next::Refused(0);
             }
             Next::At(next)
         }
@@ -187,7 +189,16 @@ fn say_call(k: usize, formula: usize) {
     say(b" formula ", formula);
 }
 
-// A call of formula i: its line and its answer.
+// Why nothing is opened: the number, or, for 0, what this program is made for.
+fn say_refused(k: u8) {
+    if k == 0 {
+        io::write_all(1, b"more formulas than the two that this program takes\n");
+    } else {
+        say(b"refused ", byte(k));
+    }
+}
+
+// A call of formula i: its line and its answer, whose text stands at the front of `out`.
 fn call(
     k: usize,
     frame: &mut Frame,
@@ -199,13 +210,14 @@ fn call(
     left: Left,
     s: &[u8],
     at: usize,
+    out: &mut [u8],
 ) -> Turn
-    requires { ⌜ FrameOk (now frame) × (i < numberOf (now frame)) × Stands (now frame) i (now t) (now f) (now cache) (now slots) left at × (at ≤ length (now s)) ⌝ }
+    requires { ⌜ FrameOk (now frame) × (i < numberOf (now frame)) × Stands (now frame) i (now t) (now f) (now cache) (now slots) left at × (20480 ≤ length (now out)) × (at ≤ length (now s)) ⌝ }
+    ensures { λ r. ⌜ AnsweredAs (now (frame .entry)) (now (frame .exit)) i (now (t .entry)) (now (f .entry)) (now (cache .entry)) (now (cache .exit)) (now (slots .entry)) (now (slots .exit)) left (r .left) (now (out .entry)) (now (out .exit)) (r .len) (now (s .entry)) at (r .at) (called (drop at (now (s .entry)))) ⌝ }
     ensures { λ r. ⌜ FrameOk (now (frame .exit)) × FrameOn (now (frame .entry)) (now (frame .exit)) × Stands (now (frame .exit)) i (now (t .entry)) (now (f .entry)) (now (cache .exit)) (now (slots .exit)) (r .left) (r .at) × (at ≤ r .at) × (r .at ≤ length (now (s .entry))) ⌝ }
 {
-    let mut out = [0u8; 20480];
     say_call(k, i + 1);
-    let r = schedule::answer_call(frame, i, t, f, cache, slots, left, s, at, &mut out);
+    let r = schedule::answer_call(frame, i, t, f, cache, slots, left, s, at, out);
     let n = r.len;
     io::write_all(1, &out[..n]);
     r
@@ -243,6 +255,7 @@ fn next_call(
     requires { ⌜ Goes (now frame) (now t1) (now f1) (now cache1) (now slots1) (now t2) (now f2) (now cache2) (now slots2) (now s) p × (p .at < length (now s)) ⌝ }
     ensures { λ r. ⌜ Goes (now (frame .exit)) (now (t1 .entry)) (now (f1 .entry)) (now (cache1 .exit)) (now (slots1 .exit)) (now (t2 .entry)) (now (f2 .entry)) (now (cache2 .exit)) (now (slots2 .exit)) (now (s .entry)) r × (p .at < r .at) ⌝ }
 {
+    let mut out = [0u8; 20480];
     let at = p.at;
     let calls = p.calls + 1;
     let one = p.one;
@@ -251,7 +264,19 @@ fn next_call(
         Number::Refused(k) => refuse(k, s, p),
         Number::Is(formula, next) => {
             if formula == 1 {
-                let r = call(calls, frame, 0, t1, f1, cache1, slots1, one, s, next);
+                let r = call(
+                    calls,
+                    frame,
+                    0,
+                    t1,
+                    f1,
+                    cache1,
+                    slots1,
+                    one,
+                    s,
+                    next,
+                    &mut out,
+                );
                 let left = r.left;
                 return Progress {
                     at: r.at,
@@ -260,7 +285,19 @@ fn next_call(
                     two,
                 };
             }
-            let r = call(calls, frame, 1, t2, f2, cache2, slots2, two, s, next);
+            let r = call(
+                calls,
+                frame,
+                1,
+                t2,
+                f2,
+                cache2,
+                slots2,
+                two,
+                s,
+                next,
+                &mut out,
+            );
             let left = r.left;
             Progress {
                 at: r.at,
@@ -330,7 +367,7 @@ fn answer(s: &[u8]) {
         &mut f2,
         &mut cache2,
     ) {
-        Next::Refused(k) => say(b"refused ", byte(k)),
+        Next::Refused(k) => say_refused(k),
         Next::At(at) => run(
             &mut frame,
             &t1,

@@ -33,7 +33,7 @@ ghost use Rattle.entries.specs.Known.{EntriesOk};
 ghost use Rattle.job_patch.specs.Patches.{unlessGiven, patch};
 ghost use Rattle.parallel_moves.specs.Given.{CacheOk};
 ghost use Rattle.job_rules.specs.Job.{beginning, opening};
-ghost use Rattle.job_rules.specs.Priced.{unlessOutside, openingPriced};
+ghost use Rattle.job_rules.specs.Priced.{unlessOutside, beginningPriced, openingPriced};
 ghost use Rattle.job_rules.specs.Formula.{withFunctionWithin, beginningWithin, openingWithin};
 ghost use Rattle.job.specs.Steps.{BegunAt, HeaderAt, CallAt, StepAt};
 
@@ -112,6 +112,19 @@ pub fn read_beginning(kept_evictions: u32, s: &[u8], t: &mut RegInfo, f: &mut Fu
     ensures { λ r. ⌜ BegunAt (now (s .entry)) (beginning «kept_evictions» (now (s .entry))) r (now (t .exit)) (now (f .exit)) ⌝ }
 {
     read_beginning_if(true, 0, 4096, kept_evictions, s, t, f)
+}
+
+// The same of a target that gives these prices: 19 for one outside its range, after 7 and before the function's first number.
+pub fn read_priced_beginning(
+    kept_evictions: u32,
+    p: Prices,
+    s: &[u8],
+    t: &mut RegInfo,
+    f: &mut Function,
+) -> Next
+    ensures { λ r. ⌜ BegunAt (now (s .entry)) (beginningPriced p «kept_evictions» (now (s .entry))) r (now (t .exit)) (now (f .exit)) ⌝ }
+{
+    read_beginning_if(price::in_range(p), 0, 4096, kept_evictions, s, t, f)
 }
 
 // 02 l: the same of a formula in a frame: its N from `least` to `most`, which is tested as it is read.

@@ -22,7 +22,7 @@ use Rattle.number.specs.declared.Number.{Number}
 use Rattle.number.specs.declared.Number.the-variants as N
 use Rattle.reading.specs.declared.Next.{Next}
 use Rattle.reading.specs.declared.Next.the-variants as X
-use Rattle.job_patch.specs.Patches.{patch}
+use Rattle.job_patch.specs.Patches.{patch, accepted}
 use Rattle.job_patch.specs.Steps.{Holds, PatchAt}
 use Rattle.job_rules.specs.Job.{Header, opening}
 use Rattle.job.specs.Steps.{HeaderAt}
@@ -53,29 +53,29 @@ module _ (t : RegInfo) (f : Function) where
   unfolding patchAt
   patch-first l = refl
 
-  patch-suc : (n m : ℕ) (l : List ℕ) → n ≡ suc m → patchAt t f n l ≡ then (patch t f l) (λ p r. patchAt t f m r)
+  patch-suc : (n m : ℕ) (l : List ℕ) → n ≡ suc m → patchAt t f n l ≡ then (accepted t f l) (λ p r. patchAt t f m r)
   unfolding patchAt
   patch-suc n m l h = rw h
 
-  pub patch-step : (n : ℕ) (l : List ℕ) → 0 < n → patchAt t f n l ≡ then (patch t f l) (λ p r. patchAt t f (n - 1) r)
+  pub patch-step : (n : ℕ) (l : List ℕ) → 0 < n → patchAt t f n l ≡ then (accepted t f l) (λ p r. patchAt t f (n - 1) r)
   patch-step n l h = patch-suc n (n - 1) l (omega arith)
 
-  pub skip-refused : (n k : ℕ) (l : List ℕ) → 0 < n → patch t f l ≡ refused k → patchAt t f n l ≡ refused k
+  pub skip-refused : (n k : ℕ) (l : List ℕ) → 0 < n → accepted t f l ≡ refused k → patchAt t f n l ≡ refused k
   skip-refused n k l h q = patch-step n l h ∙ ap (λ (d : Read Patch). then d (λ p r. patchAt t f (n - 1) r)) q
 
-  pub skip-got : (n : ℕ) (l rest : List ℕ) (p : Patch) → 0 < n → patch t f l ≡ got p rest → patchAt t f n l ≡ patchAt t f (n - 1) rest
+  pub skip-got : (n : ℕ) (l rest : List ℕ) (p : Patch) → 0 < n → accepted t f l ≡ got p rest → patchAt t f n l ≡ patchAt t f (n - 1) rest
   skip-got n l rest p h q = patch-step n l h ∙ ap (λ (d : Read Patch). then d (λ p r. patchAt t f (n - 1) r)) q
 
   -- the entries of a patch that was read are refused no more
   pub taken-at : (n : ℕ) (l rest : List ℕ) (p : Patch) → patchAt t f n l ≡ got p rest → firstOf (entriesConditions t f (p .entries) nothingSorted) ≡ none
   unfolding patchAt
   taken-at zero l rest p h = patch-taken t f l p rest h
-  taken-at (suc n) l rest p h = go (patch t f l) refl h (taken-at n)
+  taken-at (suc n) l rest p h = go (accepted t f l) h (taken-at n)
     where
-      go : (d : Read Patch) → patch t f l ≡ d → then d (λ p r. patchAt t f n r) ≡ got p rest → ((l rest : List ℕ) (p : Patch) → patchAt t f n l ≡ got p rest → firstOf (entriesConditions t f (p .entries) nothingSorted) ≡ none)
+      go : (d : Read Patch) → then d (λ p r. patchAt t f n r) ≡ got p rest → ((l rest : List ℕ) (p : Patch) → patchAt t f n l ≡ got p rest → firstOf (entriesConditions t f (p .entries) nothingSorted) ≡ none)
           → firstOf (entriesConditions t f (p .entries) nothingSorted) ≡ none
-      go (refused k) q h on = let z : _≡_ {A = ℕ} 0 1 = cc in absurd (omega arith)
-      go (got x r) q h on = on r rest p h
+      go (refused k) h on = let z : _≡_ {A = ℕ} 0 1 = cc in absurd (omega arith)
+      go (got x r) h on = on r rest p h
 
   pub at-none : (count n most : ℕ) (ws l : List ℕ) → count ≤ n → Refused 2 ≡ examineAt t f count n most ws l
   unfolding examineAt

@@ -1,5 +1,5 @@
--- 02 m: a patch of a job's bytes, and a list of words examined for it. Patches before it are read and not resolved, so that no list or cache is
--- wanted; 2 for a number that the job has no patch of.
+-- 02 m: a patch of a job's bytes, and a list of words examined for it. Patches before it are read and tested and not resolved, so that no list or
+-- cache is wanted; 2 for a number that the job has no patch of.
 use Prim.Native.Nat.{ℕ, zero, suc}
 use mathlib.Core.List.{List}
 use lib.Dec.{ltb}
@@ -8,16 +8,16 @@ use Rattle.reginfo.specs.RegInfo.{RegInfo}
 use Rattle.function.specs.Function.{Function}
 use Rattle.rules.specs.Patch.{Patch}
 use Rattle.number.specs.Read.{Read, got, refused, then}
-use Rattle.job_patch.specs.Patches.{patch}
+use Rattle.job_patch.specs.Patches.{patch, accepted}
 use Rattle.job_rules.specs.Job.{Header, opening}
 use Rattle.examine_rules.specs.Examine.{Verdict, Refused}
 use Rattle.examine_rules.specs.Words.{examinePatch}
 
 module _ (t : RegInfo) (f : Function) where
-  -- the patch behind n others
+  -- the patch behind n others, each of which reading accepts
   unfoldable pub patchAt : ℕ → List ℕ → Read Patch
   patchAt zero l = patch t f l
-  patchAt (suc n) l = then (patch t f l) (λ p r. patchAt n r)
+  patchAt (suc n) l = then (accepted t f l) (λ p r. patchAt n r)
 
   abbrev pub examineRead : ℕ → List ℕ → Read Patch → Verdict
   examineRead most ws (refused k) = Refused k

@@ -21,7 +21,7 @@ ghost use Rattle.job_patch.specs.Steps.{PatchAt};
 ghost use Rattle.examine.specs.Answer.{verdictOf};
 ghost use Rattle.job_examine.specs.Job.{patchAt, examineAt, examineJob, examineJobIn};
 
-// The patch behind n others, which are read too. What the tables held does not matter.
+// The patch behind n others, which are read and tested too. What the tables held does not matter.
 fn read_numbered(
     t: &RegInfo,
     f: &Function,
@@ -38,7 +38,7 @@ fn read_numbered(
     let mut q = at;
     let mut left = n;
     while 0 < left {
-        match job_patch::read_patch(t, f, s, q, free, e, w) {
+        match job_patch::read_accepted(t, f, s, q, free, e, w) {
             Next::Refused(k) => return Next::Refused(k),
             Next::At(next) => q = next,
         }

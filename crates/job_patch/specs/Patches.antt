@@ -8,7 +8,7 @@ use Rattle.entity.specs.Place.{Place, placeAt}
 use Rattle.reginfo.specs.RegInfo.{RegInfo}
 use Rattle.reginfo.specs.Refused.{firstOf}
 use Rattle.function.specs.Function.{Function, numValues}
-use Rattle.rules.specs.Patch.{Entry, move, remat, Patch, Sorted, nothingSorted, namesPlace, entryConditions, add}
+use Rattle.rules.specs.Patch.{Entry, move, remat, Patch, Sorted, nothingSorted, namesPlace, entryConditions, add, sorted, patchConditions}
 use Rattle.number.specs.Read.{Read, got, refused, then}
 use Rattle.number.specs.Number.{number}
 use Rattle.reading.specs.Reading.{below}
@@ -45,3 +45,7 @@ module _ (t : RegInfo) (f : Function) where
 
   unfoldable pub patch : List ℕ → Read Patch
   patch l = then (number l) (λ k r. then (rising k (t .units) 0 r) (λ free q. then (number q) (λ n p. then (entries n nothingSorted p) (λ es o. got (record { free = free; entries = es }) o))))
+
+  -- a patch read alone, with every test that it has before it is resolved; the lent list has room for every patch, so 16 is not given
+  unfoldable pub accepted : List ℕ → Read Patch
+  accepted l = then (patch l) (λ p r. unlessGiven (firstOf (patchConditions t f p 1024 (sorted t f p))) (got p r))

@@ -27,7 +27,7 @@ ghost use Rattle.number.specs.Read.{got, then};
 ghost use Rattle.reading.specs.Reading.{below};
 ghost use Rattle.reading.specs.Answer.{ReadAt};
 ghost use Rattle.entries.specs.Answers.{addedOf};
-ghost use Rattle.job_patch.specs.Patches.{place, entry, entries, rising, patch};
+ghost use Rattle.job_patch.specs.Patches.{place, entry, entries, rising, patch, accepted};
 ghost use Rattle.job_patch.specs.Steps.{PlaceAt, EntryAt, addedAt, Entered, Freed, PatchAt};
 
 // A place of the function.
@@ -286,5 +286,27 @@ pub fn read_patch(
     match read_free_units(t, s, at, free) {
         Next::Refused(k) => Next::Refused(k),
         Next::At(next) => read_rest(t, f, s, next, e, w),
+    }
+}
+
+// A patch read alone: with every test that it has before it is resolved. A list of 1,024 edits has room for every patch.
+pub fn read_accepted(
+    t: &RegInfo,
+    f: &Function,
+    s: &[u8],
+    at: usize,
+    free: &mut RegUnitSet,
+    e: &mut Entries,
+    w: &mut SparseMap,
+) -> Next
+    requires { ⌜ Checked (now t) (now f) ⌝ }
+    ensures { λ r. ⌜ PatchAt (now (t .entry)) (now (f .entry)) (now (s .entry)) (accepted (regInfoOf (now (t .entry))) (functionOf (now (f .entry))) (drop at (now (s .entry)))) r (now (free .exit)) (now (e .exit)) (now (w .exit)) ⌝ }
+{
+    match read_patch(t, f, s, at, free, e, w) {
+        Next::Refused(k) => Next::Refused(k),
+        Next::At(next) => match entries::refusal(t, f, e, w, free, true, 1024) {
+            Added::Refused(k) => Next::Refused(k),
+            Added::Yes => Next::At(next),
+        },
     }
 }

@@ -40,6 +40,9 @@ beginningIf ok kept l = unlessEarly kept l (then (given.target l) (λ t r. unles
 unfoldable pub openingIf : Bool → (kept : ℕ) → List ℕ → Read Header
 openingIf ok kept l = unlessEarly kept l (then (given.target l) (λ t r. unlessGiven (targetRefusal t) (unlessOutside ok (afterTarget t kept r))))
 
+abbrev pub beginningPriced : Prices → (kept : ℕ) → List ℕ → Read Opened
+beginningPriced p kept l = beginningIf (inRange p) kept l
+
 abbrev pub openingPriced : Prices → (kept : ℕ) → List ℕ → Read Header
 openingPriced p kept l = openingIf (inRange p) kept l
 

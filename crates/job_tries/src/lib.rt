@@ -1,10 +1,12 @@
-// 02 n: a job's function tried at both settings.
+// 02 n: a function tried at both settings.
 use carried::Carried;
 use edit::Edits;
+use entries::Added;
 use entries::Entries;
 use function::Function;
 use number::Number;
 use price::Prices;
+use reading::Next;
 use reginfo::RegInfo;
 use scratch::Diversions;
 use slots::EmergencySpillSlotCache;
@@ -16,12 +18,14 @@ use visits::States;
 ghost use mathlib.Core.Path.{_≡_};
 ghost use mathlib.Core.Bool.{true};
 ghost use Prim.Native.Nat.{_≤_};
+ghost use lib.ListN.{drop};
 ghost use Rattle.entity.specs.Logic.{Anything};
 ghost use Rattle.reginfo.specs.Table.{regInfoOf};
 ghost use Rattle.function.specs.Known.{Checked};
 ghost use Rattle.function.specs.Table.{functionOf};
+ghost use Rattle.entries.specs.Answers.{addedOf};
 ghost use Rattle.price.specs.Price.{inRange};
-ghost use Rattle.job_tries.specs.Tries.{asked, Both, TriedBy};
+ghost use Rattle.job_tries.specs.Tries.{restRefusal, functionAsked, asked, Both, TriedBy, FunctionAt};
 
 // Both settings, one after the other, from the same seed.
 pub fn try_both(
@@ -93,7 +97,49 @@ pub fn try_both(
     );
 }
 
-// Draws so many patches of a job's function from a seed, counts what becomes of them with one kept eviction and with two, and answers 0; or the
+// What stands behind a function: nothing, or the patches of a job, read to its end. What the working tables held does not matter.
+fn check_rest(
+    t: &RegInfo,
+    f: &Function,
+    s: &[u8],
+    at: usize,
+    free: &mut RegUnitSet,
+    e: &mut Entries,
+    w: &mut SparseMap,
+) -> Added
+    requires { ⌜ Checked (now t) (now f) ⌝ }
+    ensures { λ r. ⌜ addedOf r ≡ restRefusal (regInfoOf (now (t .entry))) (functionOf (now (f .entry))) (drop at (now (s .entry))) ⌝ }
+    ensures { λ _. ⌜ Anything (now (free .exit)) × Anything (now (e .exit)) × Anything (now (w .exit)) ⌝ }
+{
+    if s.len() <= at {
+        return Added::Yes;
+    }
+    match reading::between(s, at, 1, 1024) {
+        Number::Refused(k) => Added::Refused(k),
+        Number::Is(count, next) => job_check::check_patches(t, f, s, next, count, free, e, w),
+    }
+}
+
+// The target and the function that are tried with these prices: alone, or those of a job, which is read to its end and not resolved.
+pub fn read_function(
+    p: Prices,
+    s: &[u8],
+    t: &mut RegInfo,
+    f: &mut Function,
+    free: &mut RegUnitSet,
+    e: &mut Entries,
+    w: &mut SparseMap,
+) -> Added
+    ensures { λ r. ⌜ FunctionAt p (functionAsked p (now (s .entry))) r (now (t .exit)) (now (f .exit)) ⌝ }
+    ensures { λ _. ⌜ Anything (now (free .exit)) × Anything (now (e .exit)) × Anything (now (w .exit)) ⌝ }
+{
+    match job::read_priced_beginning(1, p, s, t, f) {
+        Next::Refused(k) => Added::Refused(k),
+        Next::At(at) => check_rest(t, f, s, at, free, e, w),
+    }
+}
+
+// Draws so many patches of a function from a seed, counts what becomes of them with one kept eviction and with two, and answers 0; or the
 // number, and both tables are left as they were. What the working tables held does not matter.
 pub fn try_job(
     p: Prices,
@@ -124,9 +170,9 @@ pub fn try_job(
     if 1024 < patches {
         return 2;
     }
-    match job::read_priced_opening(1, p, s, t, f) {
-        Number::Refused(k) => k,
-        Number::Is(_, _) => {
+    match read_function(p, s, t, f, available, e, w) {
+        Added::Refused(k) => k,
+        Added::Yes => {
             try_both(
                 t,
                 f,

@@ -5,99 +5,25 @@ use entries::Entries;
 use function::Function;
 use job_bytes::Put;
 use job_bytes::Work;
-use number::Number;
-use reading::Next;
 use reginfo::RegInfo;
 use small_set::RegUnitSet;
 use sparse::SparseMap;
 ghost use mathlib.Core.Path.{_≡_};
 ghost use mathlib.Core.List.{List, _++_};
 ghost use Prim.Native.Nat.{ℕ};
-ghost use lib.ListN.{length, drop};
+ghost use lib.ListN.{length};
 ghost use Rattle.entity.specs.Logic.{Anything};
 ghost use Rattle.reginfo.specs.Table.{regInfoOf};
 ghost use Rattle.function.specs.Known.{Checked};
 ghost use Rattle.function.specs.Table.{functionOf};
-ghost use Rattle.entries.specs.Answers.{addedOf};
-ghost use Rattle.job_numbers.specs.Numbers.{targetNumbers, functionNumbers, bytesOf, readPatches, readJob, numberOf, written};
+ghost use Rattle.job_numbers.specs.Numbers.{targetNumbers, functionNumbers, bytesOf, written};
 ghost use Rattle.job_bytes.specs.Puts.{Puts};
-ghost use Rattle.job_writer.specs.Steps.{PassedAt, handed, settled, Within, WrittenAs};
+ghost use Rattle.job_writer.specs.Steps.{handed, settled, Within, WrittenAs};
 
 // How many bytes the job has, or 01's number, or 18.
 pub enum Written {
     Bytes(usize),
     Refused(u8),
-}
-
-// The patch at an offset: read, and tested as before it is resolved. A list of 1,024 edits has room for every patch.
-fn check_patch(
-    t: &RegInfo,
-    f: &Function,
-    s: &[u8],
-    at: usize,
-    free: &mut RegUnitSet,
-    e: &mut Entries,
-    w: &mut SparseMap,
-) -> Next
-    requires { ⌜ Checked (now t) (now f) ⌝ }
-    ensures { λ r. ⌜ PassedAt (now (t .entry)) (now (f .entry)) (now (s .entry)) at r ⌝ }
-    ensures { λ _. ⌜ Anything (now (free .exit)) × Anything (now (e .exit)) × Anything (now (w .exit)) ⌝ }
-{
-    match job_patch::read_patch(t, f, s, at, free, e, w) {
-        Next::Refused(k) => Next::Refused(k),
-        Next::At(next) => match entries::refusal(t, f, e, w, free, true, 1024) {
-            Added::Refused(k) => Next::Refused(k),
-            Added::Yes => Next::At(next),
-        },
-    }
-}
-
-// The patches of a job, from an offset on, to its end.
-fn check_patches(
-    t: &RegInfo,
-    f: &Function,
-    s: &[u8],
-    from: usize,
-    count: u32,
-    free: &mut RegUnitSet,
-    e: &mut Entries,
-    w: &mut SparseMap,
-) -> Added
-    requires { ⌜ Checked (now t) (now f) ⌝ }
-    ensures { λ r. ⌜ addedOf r ≡ numberOf (readPatches (regInfoOf (now (t .entry))) (functionOf (now (f .entry))) count (drop from (now (s .entry)))) ⌝ }
-    ensures { λ _. ⌜ Anything (now (free .exit)) × Anything (now (e .exit)) × Anything (now (w .exit)) ⌝ }
-{
-    let mut at = from;
-    let mut left = count;
-    while 0 < left {
-        match check_patch(t, f, s, at, free, e, w) {
-            Next::Refused(k) => return Added::Refused(k),
-            Next::At(next) => at = next,
-        }
-        left -= 1;
-    }
-    if at < s.len() {
-        return Added::Refused(8);
-    }
-    Added::Yes
-}
-
-// A job read to its end: the number by which reading refuses it, if it does.
-pub fn check_job(
-    s: &[u8],
-    t: &mut RegInfo,
-    f: &mut Function,
-    free: &mut RegUnitSet,
-    e: &mut Entries,
-    w: &mut SparseMap,
-) -> Added
-    ensures { λ r. ⌜ addedOf r ≡ numberOf (readJob (now (s .entry))) ⌝ }
-    ensures { λ _. ⌜ Anything (now (t .exit)) × Anything (now (f .exit)) × Anything (now (free .exit)) × Anything (now (e .exit)) × Anything (now (w .exit)) ⌝ }
-{
-    match job::read_opening(1, s, t, f) {
-        Number::Refused(k) => Added::Refused(k),
-        Number::Is(count, at) => check_patches(t, f, s, at, count, free, e, w),
-    }
 }
 
 // The bytes go to the front of the lent ones, if there is room; else 18.
@@ -123,7 +49,7 @@ fn settle(
     ensures { λ r. ⌜ WrittenAs (settled (now (bytes .entry)) (length (now (out .entry)))) (now (out .entry)) (now (out .exit)) r ⌝ }
     ensures { λ _. ⌜ Anything (now (t .exit)) × Anything (now (f .exit)) × Anything (now (free .exit)) × Anything (now (e .exit)) × Anything (now (w .exit)) ⌝ }
 {
-    match check_job(bytes, t, f, free, e, w) {
+    match job_check::check_job(bytes, t, f, free, e, w) {
         Added::Refused(k) => Written::Refused(k),
         Added::Yes => hand_out(bytes, out),
     }

@@ -3,10 +3,15 @@ use Prim.Native.Nat.{ℕ, _+_}
 use mathlib.Core.Bool.{Bool, true, false}
 use mathlib.Core.List.{List, [], _∷_}
 use lib.Dec.{eqb, leb}
+use lib.ListN.{getD}
 use Rattle.entity.specs.Logic.{pick, and}
 use Rattle.rules.specs.Edit.{Edit, Move, Rematerialize, EmergencySpill, EmergencyReload}
 use Rattle.edit.specs.Word.{kindIn}
 use Rattle.price.specs.declared.Prices.{Prices}
+
+-- as numbers, of M, R, S and L in this order
+abbrev pub pricesIn : List ℕ → Prices
+pricesIn l = record { moves = getD l 0 0; remats = getD l 1 0; spills = getD l 2 0; reloads = getD l 3 0 }
 
 -- "0 to 65,535"
 unfoldable pub inRange : Prices → Bool

@@ -3,7 +3,7 @@ ghost use mathlib.Core.Path.{_≡_};
 ghost use mathlib.Core.Bool.{true};
 ghost use Prim.Native.Nat.{_*_, _^_, _<_, _≤_};
 ghost use lib.ListN.{length};
-ghost use Rattle.price.specs.Price.{priceIn, totalOf, inRange};
+ghost use Rattle.price.specs.Price.{pricesIn, priceIn, totalOf, inRange};
 ghost use Rattle.price.specs.Exact.{Priced, PriceIs};
 
 // In quarter cycles: what an M, an R, an S and an L costs.
@@ -24,6 +24,18 @@ pub struct Edge {
 pub enum EdgePrice {
     Price(Edge),
     Refused(u8),
+}
+
+// Four numbers, of M, R, S and L in this order.
+pub fn prices_of(prices: &[u32; 4]) -> Prices
+    ensures { λ r. ⌜ r ≡ pricesIn (now (prices .entry)) ⌝ }
+{
+    Prices {
+        moves: prices[0],
+        remats: prices[1],
+        spills: prices[2],
+        reloads: prices[3],
+    }
 }
 
 // "0 to 65,535, for M, R, S and L"

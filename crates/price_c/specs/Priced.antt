@@ -5,16 +5,12 @@ use mathlib.Core.Bool.{Bool, true, false}
 use mathlib.Core.List.{List}
 use mathlib.Core.Option.{Option, none, some}
 use lib.Dec.{leb, ltb}
-use lib.ListN.{length, getD}
+use lib.ListN.{length}
 use lib.Ieee.{Float}
 use Rattle.entity.specs.Logic.{pick, or, no}
 use Rattle.price.specs.declared.Prices.{Prices}
 use Rattle.price.specs.Price.{inRange, totalOf}
 use Rattle.price.specs.Exact.{Priced}
-
--- M, R, S and L
-abbrev pub pricesIn : List ℕ → Prices
-pricesIn l = record { moves = getD l 0 0; remats = getD l 1 0; spills = getD l 2 0; reloads = getD l 3 0 }
 
 -- a run count or a price outside its range
 abbrev pub outside : Prices → ℕ → Bool

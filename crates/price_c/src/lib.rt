@@ -8,23 +8,11 @@ ghost use mathlib.Core.Bool.{true, false};
 ghost use mathlib.Core.Option.{some};
 ghost use Prim.Native.Nat.{_≤_, _<_, _^_};
 ghost use lib.ListN.{length};
-ghost use Rattle.price.specs.Price.{inRange};
+ghost use Rattle.price.specs.Price.{pricesIn, inRange};
 ghost use Rattle.cheaper.specs.Cheaper.{choiceOf};
 ghost use Rattle.edges.specs.Patches.{patchNumbered};
 ghost use Rattle.price_c.specs.Chosen.{choiceNumber};
-ghost use Rattle.price_c.specs.Priced.{pricesIn, outside, fewEdits, PricedAs};
-
-// M, R, S and L.
-fn prices_of(prices: &[u32; 4]) -> Prices
-    ensures { λ r. ⌜ r ≡ pricesIn (now (prices .entry)) ⌝ }
-{
-    Prices {
-        moves: prices[0],
-        remats: prices[1],
-        spills: prices[2],
-        reloads: prices[3],
-    }
-}
+ghost use Rattle.price_c.specs.Priced.{outside, fewEdits, PricedAs};
 
 // Whether the run count or a price is outside its range.
 fn is_outside(p: Prices, runs: u64) -> bool
@@ -74,7 +62,7 @@ pub extern "C" fn parallel_moves_price_5(
 ) -> u8
     ensures { λ r. ⌜ PricedAs (pricesIn (now (prices .entry))) runs (patchNumbered patch (now (words .entry))) r (now (total .entry)) (now (total .exit)) (now (runs_as_double .entry)) (now (runs_as_double .exit)) (now (product .entry)) (now (product .exit)) ⌝ }
 {
-    let p = prices_of(prices);
+    let p = price::prices_of(prices);
     if is_outside(p, runs) {
         return 19;
     }
@@ -99,7 +87,7 @@ pub extern "C" fn parallel_moves_price_edits_5(
 ) -> u8
     ensures { λ r. ⌜ PricedAs (pricesIn (now (prices .entry))) runs (fewEdits (now (list .entry))) r (now (total .entry)) (now (total .exit)) (now (runs_as_double .entry)) (now (runs_as_double .exit)) (now (product .entry)) (now (product .exit)) ⌝ }
 {
-    let p = prices_of(prices);
+    let p = price::prices_of(prices);
     if is_outside(p, runs) {
         return 19;
     }
@@ -114,7 +102,7 @@ pub extern "C" fn parallel_moves_price_edits_5(
 pub extern "C" fn parallel_moves_cheaper_5(first: &[u64], second: &[u64], prices: &[u32; 4]) -> u8
     ensures { λ r. ⌜ r ≡ choiceNumber (choiceOf (pricesIn (now (prices .entry))) (now (first .entry)) (now (second .entry))) ⌝ }
 {
-    match cheaper::choose(prices_of(prices), first, second) {
+    match cheaper::choose(price::prices_of(prices), first, second) {
         Choice::First => 1,
         Choice::Second => 2,
         Choice::Refused => 19,

@@ -1,6 +1,7 @@
 // `price_job SETTING M R S L [runs ..]`: reads a job on standard input and prints what each of its patches costs with these prices and, where run
 // counts are given, one for each patch, the run count and the product; after a number the last line is `refused` and the number. An argument that is
-// no decimal number counts as outside its range. What could not be written is said on standard error.
+// no decimal number, or is missing, counts as outside its range, and more run counts than a job has patches are 2; what is expected is then said on
+// standard error too. So is what could not be read or written.
 use answer::Whole;
 use carried::Carried;
 use edit::Edits;
@@ -14,6 +15,7 @@ use slots::EmergencySpillSlotCache;
 use slots::Slots;
 use small_set::RegUnitSet;
 use sparse::SparseMap;
+use streams::Got;
 use visits::States;
 ghost use mathlib.Core.Path.{_≡_};
 ghost use mathlib.Core.Bool.{true};
@@ -163,6 +165,16 @@ fn read_runs(runs: &mut [u64]) -> usize
     n
 }
 
+// What the program expects, where its words, its name counted, are too few or too many.
+fn expect(words: usize) {
+    if words < 6 {
+        io::write_all(2, b"price_job expects: SETTING M R S L [runs of each patch]\n");
+    }
+    if 1030 < words {
+        io::write_all(2, b"price_job expects: SETTING M R S L [runs of each patch]\n");
+    }
+}
+
 fn main() {
     let mut job = [0u8; 65537];
     // one more than a job has patches
@@ -190,7 +202,11 @@ fn main() {
         reloads: arguments::narrow(number_at(5)),
     };
     let given = read_runs(&mut runs);
-    let n = io::read_full(0, &mut job);
+    expect(os::arg_count());
+    let Got::Bytes(n) = streams::read_all(&mut job) else {
+        os::fail(b"price_job: standard input cannot be read");
+        return;
+    };
     let m = put_job(
         kept_evictions,
         p,
@@ -212,7 +228,7 @@ fn main() {
         &mut marks,
         &mut c,
     );
-    if !io::write_all(1, &out[..m]) {
+    if !streams::write_all(&out[..m]) {
         os::fail(b"price_job: standard output cannot be written");
     }
 }

@@ -12,28 +12,14 @@ use slots::EmergencySpillSlotCache;
 use slots::Slots;
 use small_set::RegUnitSet;
 use sparse::SparseMap;
+use streams::Got;
 use visits::States;
 ghost use mathlib.Core.Path.{_≡_};
-ghost use Prim.Native.Nat.{ℕ};
 ghost use lib.ListN.{length};
 ghost use Rattle.entity.specs.Logic.{Anything};
 ghost use Rattle.job_text.specs.Standing.{Stands, Piece};
 ghost use Rattle.resolve.specs.Setting.{settingOf, settingFrom};
-ghost use Rattle.resolve.specs.Moving.{MovedIn, GotIn, WroteOn, AllWritten};
-
-// What a call of the system moved: some bytes; nothing, since the input ends; nothing, since a signal interrupted it; or it failed.
-enum Moved {
-    Bytes(usize),
-    End,
-    Interrupted,
-    Failed,
-}
-
-// How many bytes were read, or that a read failed.
-enum Got {
-    Bytes(usize),
-    Failed,
-}
+ghost use Rattle.resolve.specs.Moving.{WroteOn, AllWritten};
 
 // How a job's text stands after a write, or that it failed.
 enum Write {
@@ -77,105 +63,13 @@ fn setting_from(count: usize, arg: &[u8]) -> u32
     0
 }
 
-// Why a call moved nothing.
-fn why(got: isize) -> Moved
-    ensures { λ r. ⌜ ((n : ℕ) → MovedIn n r) ⌝ }
-{
-    if got == 0 {
-        return Moved::End;
-    }
-    if os::errno() == libc::EINTR {
-        return Moved::Interrupted;
-    }
-    Moved::Failed
-}
-
-// One read of standard input.
-fn read_some(buf: &mut [u8]) -> Moved
-    ensures { λ r. ⌜ MovedIn (length (now (buf .entry))) r ⌝ }
-{
-    let got = libc::read(0, buf);
-    let n = io::count(got, buf);
-    if 0 < n {
-        return Moved::Bytes(n);
-    }
-    why(got)
-}
-
-// One write to standard output.
-fn write_some(buf: &[u8]) -> Moved
-    ensures { λ r. ⌜ MovedIn (length (now (buf .entry))) r ⌝ }
-{
-    let got = libc::write(1, buf);
-    let n = io::count(got, buf);
-    if 0 < n {
-        return Moved::Bytes(n);
-    }
-    why(got)
-}
-
-// Standard input to its end, or as much as fits. A read that is interrupted is made again, 1,000 times in all.
-fn read_all(buf: &mut [u8]) -> Got
-    ensures { λ r. ⌜ GotIn (now (buf .exit)) r ⌝ }
-{
-    let mut done = 0;
-    let mut again: usize = 1000;
-    while done < buf.len() {
-        match read_some(&mut buf[done..]) {
-            Moved::Bytes(n) => {
-                done += n;
-            }
-            Moved::End => {
-                return Got::Bytes(done);
-            }
-            Moved::Interrupted => {
-                if again == 0 {
-                    return Got::Failed;
-                }
-                again -= 1;
-            }
-            Moved::Failed => {
-                return Got::Failed;
-            }
-        }
-    }
-    Got::Bytes(done)
-}
-
-// Writes all bytes to standard output, and answers whether it could. A write that takes a part is followed by one of the rest, and one that is
-// interrupted is made again, 1,000 times in all.
-fn write_all(buf: &[u8]) -> bool {
-    let mut done = 0;
-    let mut again: usize = 1000;
-    while done < buf.len() {
-        match write_some(&buf[done..]) {
-            Moved::Bytes(n) => {
-                done += n;
-            }
-            Moved::End => {
-                return false;
-            }
-            Moved::Interrupted => {
-                if again == 0 {
-                    return false;
-                }
-                again -= 1;
-            }
-            Moved::Failed => {
-                return false;
-            }
-        }
-    }
-    true
-}
-
 // Writes what the buffer holds, which is what follows in the text of the job s with this setting.
 fn write_piece(kept_evictions: u32, s: &[u8], out: &[u8], p: Progress) -> Write
     requires { ⌜ Piece «kept_evictions» (now s) (now out) p ⌝ }
     ensures { λ r. ⌜ WroteOn p r ⌝ }
 {
     let n = p.held;
-    if write_all(&out[..n]) {
+    if streams::write_all(&out[..n]) {
         return Write::On(job_text::emptied(p));
     }
     Write::Failed
@@ -309,7 +203,7 @@ fn main() {
     let mut out = [0u8; 86016];
     let length = os::arg(1, &mut arg);
     let kept_evictions = setting_from(os::arg_count(), &arg[..length]);
-    let Got::Bytes(n) = read_all(&mut job) else {
+    let Got::Bytes(n) = streams::read_all(&mut job) else {
         os::fail(b"resolve: standard input cannot be read");
         return;
     };

@@ -1,16 +1,24 @@
 // 02 a: "any accepted job read and written again has its old bytes". Each job of the records on standard input is written anew, from the numbers that
-// its bytes are, and held against the job, byte for byte. Where the writer refuses it, its number is held against the recorded text's.
+// its bytes are and from the tables that its opening is read into, and held against the job, byte for byte. Where the writer refuses it, its number is
+// held against the recorded text's.
+use function::Function;
 use job_writer::Written;
 use number::Number;
+use reading::Next;
 use records::Record;
+use reginfo::RegInfo;
 ghost use mathlib.Core.Path.{_≡_};
-ghost use Prim.Native.Nat.{_<_, _≤_};
+ghost use mathlib.Core.List.{List};
+ghost use Prim.Native.Nat.{ℕ, _<_, _≤_};
 ghost use lib.Dec.{eqb};
 ghost use lib.ListN.{length};
 ghost use Rattle.entity.specs.Logic.{or};
+ghost use Rattle.function.specs.Known.{Checked};
+ghost use Rattle.job_numbers.specs.Numbers as numbers;
 ghost use Rattle.job_numbers.specs.Numbers.{written};
+ghost use Rattle.job_writer.specs.declared.Written.the-variants.{Bytes};
 ghost use Rattle.job_writer.specs.Steps.{WrittenAs};
-ghost use Rattle.rewrite.specs.Rewritten.{DecodedAs, tellsOf, Compared, Rewritten};
+ghost use Rattle.rewrite.specs.Rewritten.{DecodedAs, tellsOf, recordedIn, HeldAs, tablesNumbers, FromTables, BothAre, Rewritten};
 
 // How many numbers the bytes are, or that they are not all numbers.
 enum Decoded {
@@ -70,7 +78,7 @@ fn tells(text: &[u8], k: u8) -> bool
 
 // The number of the refusal that a text ends with, or 0.
 fn recorded(text: &[u8]) -> u8
-    ensures { λ r. ⌜ r < 23 ⌝ }
+    ensures { λ r. ⌜ r ≡ recordedIn (now (text .entry)) ⌝ }
 {
     let mut k: u8 = 1;
     while k < 23 {
@@ -117,12 +125,37 @@ fn write(numbers: &[u32], out: &mut [u8]) -> Written
     )
 }
 
-// What becomes of a job that is these numbers, where a refusal was recorded, or 0.
-fn compare(job: &[u8], recorded: u8, numbers: &[u32]) -> Outcome
-    ensures { λ r. ⌜ Compared (now (job .entry)) (now (numbers .entry)) recorded r ⌝ }
+// The same from checked tables, and the job's numbers from its patch count on.
+fn write_tables(t: &RegInfo, f: &Function, numbers: &[u32], out: &mut [u8]) -> Written
+    requires { ⌜ Checked (now t) (now f) ⌝ }
+    ensures { λ r. ⌜ WrittenAs (written (tablesNumbers (now (t .entry)) (now (f .entry)) (now (numbers .entry))) (length (now (out .entry)))) (now (out .entry)) (now (out .exit)) r ⌝ }
 {
-    let mut out = [0u8; 16384];
-    match write(numbers, &mut out) {
+    let mut work = [0u8; 65536];
+    let mut target = [0u16; 107520];
+    let mut function = [0u16; 16388];
+    let mut free = [false; 512];
+    let mut e = [0u16; 1541];
+    let mut w = [0u16; 6657];
+    job_writer::write_job(
+        t,
+        f,
+        numbers,
+        out,
+        &mut work,
+        &mut target,
+        &mut function,
+        &mut free,
+        &mut e,
+        &mut w,
+    )
+}
+
+// What was written to the front of `out` held against the job, or the number held against the recorded one, which is 0 for none.
+fn held(s: &[u8], recorded: u8, written: Written, out: &[u8]) -> Outcome
+    requires { ⌜ ((n : ℕ) → written ≡ Bytes n → n ≤ length (now out)) ⌝ }
+    ensures { λ r. ⌜ ((x : numbers.Written) (out₀ : List ℕ) → WrittenAs x out₀ (now (out .entry)) written → HeldAs (now (s .entry)) x recorded r) ⌝ }
+{
+    match written {
         Written::Refused(k) => {
             if agrees(recorded, k) {
                 return Outcome::Refused;
@@ -133,7 +166,7 @@ fn compare(job: &[u8], recorded: u8, numbers: &[u32]) -> Outcome
             if !agrees(recorded, 0) {
                 return Outcome::Differs;
             }
-            if records::same(job, &out[..n]) {
+            if records::same(s, &out[..n]) {
                 return Outcome::Same;
             }
             Outcome::Differs
@@ -141,15 +174,76 @@ fn compare(job: &[u8], recorded: u8, numbers: &[u32]) -> Outcome
     }
 }
 
+// What becomes of a job that is these numbers.
+fn compare(s: &[u8], recorded: u8, numbers: &[u32]) -> Outcome
+    ensures { λ r. ⌜ HeldAs (now (s .entry)) (written (now (numbers .entry)) 16384) recorded r ⌝ }
+{
+    let mut out = [0u8; 16384];
+    let r = write(numbers, &mut out);
+    held(s, recorded, r, &out)
+}
+
+// What becomes of a job with these tables, which are written, and these numbers behind them.
+fn compare_tables(s: &[u8], recorded: u8, t: &RegInfo, f: &Function, numbers: &[u32]) -> Outcome
+    requires { ⌜ Checked (now t) (now f) ⌝ }
+    ensures { λ r. ⌜ HeldAs (now (s .entry)) (written (tablesNumbers (now (t .entry)) (now (f .entry)) (now (numbers .entry))) 16384) recorded r ⌝ }
+{
+    let mut out = [0u8; 16384];
+    let r = write_tables(t, f, numbers, &mut out);
+    held(s, recorded, r, &out)
+}
+
+// What becomes of a job whose opening is read into tables and written from them; one that does not open has the reader's number.
+fn compare_opened(s: &[u8], recorded: u8) -> Outcome
+    requires { ⌜ length (now s) ≤ 16384 ⌝ }
+    ensures { λ r. ⌜ FromTables (now (s .entry)) recorded r ⌝ }
+{
+    let mut t = [0u16; 107520];
+    let mut f = [0u16; 16388];
+    let mut numbers = [0u32; 16384];
+    match job::read_beginning(1, s, &mut t, &mut f) {
+        Next::Refused(k) => {
+            if agrees(recorded, k) {
+                return Outcome::Refused;
+            }
+            Outcome::Differs
+        }
+        Next::At(next) => match decode(&s[next..], &mut numbers) {
+            Decoded::Not => Outcome::Differs,
+            Decoded::Numbers(n) => compare_tables(s, recorded, &t, &f, &numbers[..n]),
+        },
+    }
+}
+
+// What both ways of writing a job come to.
+fn both(first: Outcome, second: Outcome) -> Outcome
+    ensures { λ r. ⌜ BothAre first second r ⌝ }
+{
+    match first {
+        Outcome::Same => match second {
+            Outcome::Same => Outcome::Same,
+            _ => Outcome::Differs,
+        },
+        Outcome::Refused => match second {
+            Outcome::Refused => Outcome::Refused,
+            _ => Outcome::Differs,
+        },
+        _ => Outcome::Differs,
+    }
+}
+
 // What becomes of a job.
-fn rewrite(job: &[u8], text: &[u8]) -> Outcome
-    requires { ⌜ length (now job) ≤ 16384 ⌝ }
-    ensures { λ r. ⌜ Rewritten (now (job .entry)) r ⌝ }
+fn rewrite(s: &[u8], text: &[u8]) -> Outcome
+    requires { ⌜ length (now s) ≤ 16384 ⌝ }
+    ensures { λ r. ⌜ Rewritten (now (s .entry)) (now (text .entry)) r ⌝ }
 {
     let mut numbers = [0u32; 16384];
-    match decode(job, &mut numbers) {
+    match decode(s, &mut numbers) {
         Decoded::Not => Outcome::NoNumbers,
-        Decoded::Numbers(n) => compare(job, recorded(text), &numbers[..n]),
+        Decoded::Numbers(n) => {
+            let k = recorded(text);
+            both(compare(s, k, &numbers[..n]), compare_opened(s, k))
+        }
     }
 }
 

@@ -104,9 +104,9 @@ can-take frame i left a slots cache e h = rw e at h
 
 module _ (frame frame′ : List ℕ) (i : ℕ) (left : Left) (slots cache cache′ out out′ : List ℕ) (len : ℕ) where
   abbrev Told : Type 0
-  Told = Put out out′ 0 (takenText (isFresh frame cache left)) len × TakenBy (isFresh frame cache left) frame frame′ i (toOf left) slots cache cache′
+  Told = Put out out′ 0 (takenText left (isFresh frame cache left)) len × TakenBy (isFresh frame cache left) frame frame′ i (toOf left) slots cache cache′
 
-  pub nothing-left : left ≡ Nothing → Put out out′ 0 (refusedLine 20) len → cache′ ≡ cache → frame′ ≡ frame → Told
+  pub nothing-left : left ≡ Nothing → Put out out′ 0 (takenText Nothing false) len → cache′ ≡ cache → frame′ ≡ frame → Told
   nothing-left e p c f = rw e (p, (c, f))
 
   module _ (a : FramePreview) (e : left ≡ Held a) (r : TakeAnswer) (h : TakesIn frame frame′ i a slots cache r cache′) where
@@ -126,7 +126,7 @@ module _ (frame frame′ : List ℕ) (i : ℕ) (left : Left) (slots cache cache�
         (λ d. late (rw (eq-eqb (a .stamp) (stampOf cache) s, ne-eqb (a .counter) (counterOf frame) d) refl) k z (inr d) p) (same? (a .counter) (counterOf frame)))
         (λ d. late (rw (ne-eqb (a .stamp) (stampOf cache) d) refl) k z (inl d) p) (same? (a .stamp) (stampOf cache))
 
-    pub in-time : r ≡ K.the-variants.Yes → Put out out′ 0 (takenText true) len → Told
+    pub in-time : r ≡ K.the-variants.Yes → Put out out′ 0 (takenText (Held a) true) len → Told
     in-time z p =
         ⊎-elim
         (λ s. ⊎-elim
@@ -167,7 +167,7 @@ module _ (frame frame′ : List ℕ) (i : ℕ) (t f cache cache′ slots slots�
       kind = rw e at h
 
       pub takes-kind : n ≡ 2 → at′ ≡ next
-          → Put out out′ 0 (takenText (isFresh frame cache left)) len × TakenBy (isFresh frame cache left) frame frame′ i (toOf left) slots cache cache′ → slots′ ≡ slots → left′ ≡ left → As at (called (drop at s))
+          → Put out out′ 0 (takenText left (isFresh frame cache left)) len × TakenBy (isFresh frame cache left) frame frame′ i (toOf left) slots cache cache′ → slots′ ≡ slots → left′ ≡ left → As at (called (drop at s))
       unfolding called
       takes-kind z q p a b = rw (← kind .reads, eq-eqb n 2 z) ((p .0, p .1, a, b), ap (λ (m : ℕ). drop m s) q, omega (arith, q, kind .onward .0), omega (arith, q, kind .onward .1))
 

@@ -202,7 +202,7 @@ module _ (frame frame′ : List ℕ) (i : ℕ) (t f cache cache′ slots slots�
       go : (c : Called) → Did frame frame′ i t f cache cache′ slots slots′ left left′ out out′ len c → Next
       go (resolves p) d = (let a = after-resolving frame frame′ i t f cache cache′ slots slots′ left left′ at at′ fine there x (h .2) (omega (arith, h .3, few)) (answerOf frame i t f (p .free) (p .numbers) 1024 cache) (d .1) (d .2) (d .3) in (a .ok, a .on, a .stands, omega (arith, h .2), h .3, fits (textIn frame i (answerOf frame i t f (p .free) (p .numbers) 1024 cache)) (d .0)))
       go (asks p) d = (let a = after-asking frame frame′ i t f cache cache′ slots slots′ left left′ at at′ fine there x (h .2) (omega (arith, h .3, few)) (answerOf frame i t f (p .free) (p .numbers) 1024 cache) (d .1) (d .2) (d .3) in (a .ok, a .on, a .stands, omega (arith, h .2), h .3, fits (textIn frame i (answerOf frame i t f (p .free) (p .numbers) 1024 cache)) (d .0)))
-      go takes d = (let a = after-taking frame frame′ i t f cache cache′ slots slots′ left left′ at at′ fine there x (h .2) (omega (arith, h .3, few)) (d .1) (d .2) (d .3) in (a .ok, a .on, a .stands, omega (arith, h .2), h .3, fits (takenText (isFresh frame cache left)) (d .0)))
+      go takes d = (let a = after-taking frame frame′ i t f cache cache′ slots slots′ left left′ at at′ fine there x (h .2) (omega (arith, h .3, few)) (d .1) (d .2) (d .3) in (a .ok, a .on, a .stands, omega (arith, h .2), h .3, fits (takenText left (isFresh frame cache left)) (d .0)))
   stands-after (read.refused k) h =
       let w = fits (refusedLine k) (h .0) in
       let e : at′ ≡ length s = h .5 in

@@ -48,10 +48,11 @@ abbrev pub toOf : Left → ℕ
 toOf Nothing = 0
 toOf (Held a) = a .to
 
--- the line `taken`, or that of 20
-abbrev pub takenText : Bool → List ℕ
-takenText true = 116 ∷ 97 ∷ 107 ∷ 101 ∷ 110 ∷ 10 ∷ []
-takenText false = refusedLine 20
+-- the line `taken`, or that of 20; where no asking left an answer there is nothing to take, and that is said
+abbrev pub takenText : Left → Bool → List ℕ
+takenText Nothing fresh = 110 ∷ 111 ∷ 116 ∷ 104 ∷ 105 ∷ 110 ∷ 103 ∷ 32 ∷ 116 ∷ 111 ∷ 32 ∷ 116 ∷ 97 ∷ 107 ∷ 101 ∷ 10 ∷ []
+takenText (Held a) true = 116 ∷ 97 ∷ 107 ∷ 101 ∷ 110 ∷ 10 ∷ []
+takenText (Held a) false = refusedLine 20
 
 abbrev pub TakenBy : Bool → (frame frame′ : List ℕ) (i to : ℕ) (slots cache cache′ : List ℕ) → Type 0
 TakenBy true frame frame′ i to slots cache cache′ = Committed slots cache cache′ to × WentOn frame i to frame′ × FrameOk frame′
@@ -66,7 +67,7 @@ module _ (frame frame′ : List ℕ) (i : ℕ) (t f cache cache′ slots slots�
   Did (resolves p) = Put out out′ 0 (textIn frame i (answerTo p)) len × MovedBy frame frame′ i f (answerTo p) cache cache′ × (slots′ ≡ slots) × (left′ ≡ left)
   Did (asks p) = Put out out′ 0 (textIn frame i (answerTo p)) len × LeftBy frame i f (answerTo p) cache slots′ left′ × (cache′ ≡ cache) × (frame′ ≡ frame)
   Did takes =
-      Put out out′ 0 (takenText (isFresh frame cache left)) len × TakenBy (isFresh frame cache left) frame frame′ i (toOf left) slots cache cache′ × (slots′ ≡ slots) × (left′ ≡ left)
+      Put out out′ 0 (takenText left (isFresh frame cache left)) len × TakenBy (isFresh frame cache left) frame frame′ i (toOf left) slots cache cache′ × (slots′ ≡ slots) × (left′ ≡ left)
 
   -- what is no call changes nothing, its line is that of its refusal, and the schedule ends with it
   abbrev pub AnsweredAs : (s : List ℕ) (at at′ : ℕ) → read.Read Called → Type 0

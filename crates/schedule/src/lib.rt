@@ -284,7 +284,7 @@ fn put_asked(
     }
 }
 
-// What formula i's last asking left, taken: 20 where nothing is left.
+// What formula i's last asking left, taken: 20 where it is too late for it. A refused asking leaves nothing to take.
 fn put_taken(
     frame: &mut Frame,
     i: usize,
@@ -294,10 +294,10 @@ fn put_taken(
     out: &mut [u8],
 ) -> usize
     requires { ⌜ FrameOk (now frame) × (i < numberOf (now frame)) × CanTakeIf (now frame) i left (now slots) (now cache) × (20480 ≤ length (now out)) ⌝ }
-    ensures { λ r. ⌜ Put (now (out .entry)) (now (out .exit)) 0 (takenText (isFresh (now (frame .entry)) (now (cache .entry)) left)) r × TakenBy (isFresh (now (frame .entry)) (now (cache .entry)) left) (now (frame .entry)) (now (frame .exit)) i (toOf left) (now (slots .entry)) (now (cache .entry)) (now (cache .exit)) ⌝ }
+    ensures { λ r. ⌜ Put (now (out .entry)) (now (out .exit)) 0 (takenText left (isFresh (now (frame .entry)) (now (cache .entry)) left)) r × TakenBy (isFresh (now (frame .entry)) (now (cache .entry)) left) (now (frame .entry)) (now (frame .exit)) i (toOf left) (now (slots .entry)) (now (cache .entry)) (now (cache .exit)) ⌝ }
 {
     match left {
-        Left::Nothing => put_refused(out, 20),
+        Left::Nothing => print::put_text(out, 0, b"nothing to take\n"),
         Left::Answer(a) => match frame_calls::take_in(frame, i, a, slots, cache) {
             TakeAnswer::Refused(k) => put_refused(out, k),
             TakeAnswer::Yes => print::put_text(out, 0, b"taken\n"),

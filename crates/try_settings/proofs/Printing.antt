@@ -1,4 +1,4 @@
--- A job tried, or refused, and what is printed of it.
+-- A function tried, or refused, and what is printed of it.
 use Prim.Native.Nat.{ℕ, _<_, _≤_}
 use native.Mathlib.Omega.{arith}
 use mathlib.Core.Path.{_≡_, refl, sym, ap, subst, _∙_}
@@ -19,11 +19,9 @@ use Rattle.print.specs.Put.{Room, Put}
 use Rattle.print.proofs.Lengths.{refused-short}
 use Rattle.print.proofs.Putting.{same-length}
 use Rattle.number.specs.Read.{Read, got, refused}
-use Rattle.number.specs.declared.Number.the-variants as N
-use Rattle.job_rules.specs.Job.{Header}
-use Rattle.job_rules.specs.Priced.{openingPriced}
-use Rattle.job.specs.Steps.{HeaderAt}
-use Rattle.job_tries.specs.Tries.{asked}
+use Rattle.entries.specs.declared.Added.the-variants as A
+use Rattle.job_rules.specs.Job.{Opened}
+use Rattle.job_tries.specs.Tries.{functionAsked, asked, FunctionAt}
 use Rattle.try_settings.specs.Printed.{argumentsFit, askedWith, PrintedBoth, Printed}
 
 pub refused-room : (out : List ℕ) (k : ℕ) → length out ≡ 16384 → k < 256 → Room out 0 (refusedLine k)
@@ -34,11 +32,11 @@ pub put-within : (out out′ text : List ℕ) (r : ℕ) → Put out out′ 0 tex
 put-within out out′ text r w = omega (arith, w .room, w .next, same-length w)
 
 module _ (p : Prices) (seed patches : ℕ) (s : List ℕ) where
-  fit : argumentsFit seed patches ≡ true → askedWith p seed patches s ≡ openingPriced p 1 s
+  fit : argumentsFit seed patches ≡ true → askedWith p seed patches s ≡ functionAsked p s
   unfolding asked
   fit e = go (ltb seed 4294967296) (and (leb 1 patches) (leb patches 1024)) e
     where
-      go : (a b : Bool) → and a b ≡ true → pick a (pick b (openingPriced p 1 s) (refused 2)) (refused 2) ≡ openingPriced p 1 s
+      go : (a b : Bool) → and a b ≡ true → pick a (pick b (functionAsked p s) (refused 2)) (refused 2) ≡ functionAsked p s
       go true true e = refl
       go true false e = absurd (let z : _≡_ {A = ℕ} 0 1 = cc in omega arith)
       go false b e = absurd (let z : _≡_ {A = ℕ} 0 1 = cc in omega arith)
@@ -47,7 +45,7 @@ module _ (p : Prices) (seed patches : ℕ) (s : List ℕ) where
   unfolding asked
   unfit e = go (ltb seed 4294967296) (and (leb 1 patches) (leb patches 1024)) e
     where
-      go : (a b : Bool) → and a b ≡ false → pick a (pick b (openingPriced p 1 s) (refused 2)) (refused 2) ≡ refused 2
+      go : (a b : Bool) → and a b ≡ false → pick a (pick b (functionAsked p s) (refused 2)) (refused 2) ≡ refused 2
       go true true e = absurd (let z : _≡_ {A = ℕ} 0 1 = cc in omega arith)
       go true false e = refl
       go false b e = refl
@@ -62,18 +60,18 @@ module _ (p : Prices) (seed patches : ℕ) (s : List ℕ) where
     pub printed-unfit : argumentsFit seed patches ≡ false → Put out out′ 0 (refusedLine 2) r → Printed (askedWith p seed patches s) p seed patches out out′ r
     printed-unfit e w = rw (unfit e) w
 
-    pub printed-refused : argumentsFit seed patches ≡ true → (k : ℕ) (t f : List ℕ) → HeaderAt s (openingPriced p 1 s) (N.Refused k) t f → Put out out′ 0 (refusedLine k) r
+    pub printed-refused : argumentsFit seed patches ≡ true → (k : ℕ) (t f : List ℕ) → FunctionAt p (functionAsked p s) (A.Refused k) t f → Put out out′ 0 (refusedLine k) r
         → Printed (askedWith p seed patches s) p seed patches out out′ r
-    printed-refused e k t f h w = rw (fit e) (go (openingPriced p 1 s) h)
+    printed-refused e k t f h w = rw (fit e) (go (functionAsked p s) h)
       where
-        go : (x : Read Header) → HeaderAt s x (N.Refused k) t f → Printed x p seed patches out out′ r
+        go : (x : Read Opened) → FunctionAt p x (A.Refused k) t f → Printed x p seed patches out out′ r
         go (refused j) h = let z : k ≡ j = cc in subst (λ (i : ℕ). Put out out′ 0 (refusedLine i) r) z w
         go (got x l) h = absurd (let z : _≡_ {A = ℕ} 0 1 = cc in omega arith)
 
-    pub printed : argumentsFit seed patches ≡ true → (m at : ℕ) (t f : List ℕ) → HeaderAt s (openingPriced p 1 s) (N.Is m at) t f → PrintedBoth (regInfoOf t) (functionOf f) p seed patches out out′ r
+    pub printed : argumentsFit seed patches ≡ true → (t f : List ℕ) → FunctionAt p (functionAsked p s) A.Yes t f → PrintedBoth (regInfoOf t) (functionOf f) p seed patches out out′ r
         → Printed (askedWith p seed patches s) p seed patches out out′ r
-    printed e m at t f h w = rw (fit e) (go (openingPriced p 1 s) h)
+    printed e t f h w = rw (fit e) (go (functionAsked p s) h)
       where
-        go : (x : Read Header) → HeaderAt s x (N.Is m at) t f → Printed x p seed patches out out′ r
+        go : (x : Read Opened) → FunctionAt p x A.Yes t f → Printed x p seed patches out out′ r
         go (refused j) h = absurd (let z : _≡_ {A = ℕ} 0 1 = cc in omega arith)
-        go (got x l) h = rw (sym (h .4), sym (h .5)) w
+        go (got x l) h = rw (sym (h .1), sym (h .2)) w

@@ -1,4 +1,4 @@
--- 02 n: all that the program prints, of its arguments and a job.
+-- 02 n: all that the program prints, of its arguments and a function.
 use Prim.Native.Nat.{ℕ}
 use mathlib.Core.Path.{_≡_}
 use mathlib.Core.Bool.{Bool}
@@ -11,7 +11,7 @@ use Rattle.price.specs.declared.Prices.{Prices}
 use Rattle.print.specs.Text.{refusedLine}
 use Rattle.print.specs.Put.{Put}
 use Rattle.number.specs.Read.{Read, got, refused}
-use Rattle.job_rules.specs.Job.{Header}
+use Rattle.job_rules.specs.Job.{Opened}
 use Rattle.job_tries.specs.Tries.{asked, Both}
 use Rattle.try_settings.specs.Text.{tableText}
 
@@ -20,7 +20,7 @@ abbrev pub argumentsFit : (seed patches : ℕ) → Bool
 argumentsFit seed patches = and (ltb seed 4294967296) (and (leb 1 patches) (leb patches 1024))
 
 -- 2 for a seed from 2^32 on, before all else
-abbrev pub askedWith : Prices → (seed patches : ℕ) → List ℕ → Read Header
+abbrev pub askedWith : Prices → (seed patches : ℕ) → List ℕ → Read Opened
 askedWith p seed patches l = pick (ltb seed 4294967296) (asked p patches l) (refused 2)
 
 -- the table's text, of tables that report what was tried
@@ -28,6 +28,6 @@ abbrev pub PrintedBoth : RegInfo → Function → Prices → (seed patches : ℕ
 PrintedBoth t f p seed patches out out′ r = (one : List ℕ) × (two : List ℕ) × Both t f p seed patches one two × Put out out′ 0 (tableText one two seed patches) r
 
 -- or `refused` and the number
-abbrev pub Printed : Read Header → Prices → (seed patches : ℕ) → (out out′ : List ℕ) → ℕ → Type 0
+abbrev pub Printed : Read Opened → Prices → (seed patches : ℕ) → (out out′ : List ℕ) → ℕ → Type 0
 Printed (refused k) p seed patches out out′ r = Put out out′ 0 (refusedLine k) r
 Printed (got h l) p seed patches out out′ r = PrintedBoth (h .target) (h .function) p seed patches out out′ r

@@ -1,11 +1,12 @@
-// `try_settings SEED PATCHES M R S L`: reads a job on standard input, draws so many patches of its function from the seed, and prints what becomes of
-// them with one kept eviction and with two, at these prices; or `refused` and the number. An argument that is no decimal number counts as outside its
-// range. What could not be written is said on standard error.
+// `try_settings SEED PATCHES M R S L`: reads a target and a function, or a job, on standard input, draws so many patches of the function from the
+// seed, and prints what becomes of them with one kept eviction and with two, at these prices; or `refused` and the number. An argument that is no
+// decimal number, or is missing, counts as outside its range, and one more is 2; what is expected is then said on standard error too. So is what could
+// not be read or written.
 use carried::Carried;
 use edit::Edits;
+use entries::Added;
 use entries::Entries;
 use function::Function;
-use number::Number;
 use price::Prices;
 use reginfo::RegInfo;
 use scratch::Diversions;
@@ -13,6 +14,7 @@ use slots::EmergencySpillSlotCache;
 use slots::Slots;
 use small_set::RegUnitSet;
 use sparse::SparseMap;
+use streams::Got;
 use trying::Tally;
 use visits::States;
 ghost use mathlib.Core.Path.{_≡_};
@@ -257,9 +259,9 @@ fn put_job(
     if !arguments_fit(seed, patches) {
         return print::put_refused(out, 0, 2);
     }
-    match job::read_priced_opening(1, p, s, t, f) {
-        Number::Refused(k) => print::put_refused(out, 0, k as usize),
-        Number::Is(_, _) => put_tried(
+    match job_tries::read_function(p, s, t, f, available, e, w) {
+        Added::Refused(k) => print::put_refused(out, 0, k as usize),
+        Added::Yes => put_tried(
             out,
             p,
             seed as u32,
@@ -289,6 +291,17 @@ fn number_at(i: usize) -> u64 {
     arguments::number_in(&arg[..n])
 }
 
+// How many patches are asked for by a program of so many words, its name counted: none, which is refused, where there are too many.
+fn patches_from(words: usize) -> u32 {
+    if words != 7 {
+        io::write_all(2, b"try_settings expects: SEED PATCHES M R S L\n");
+    }
+    if 7 < words {
+        return 0;
+    }
+    arguments::narrow(number_at(2))
+}
+
 fn main() {
     let mut job = [0u8; 65537];
     let mut out = [0u8; 16384];
@@ -307,14 +320,17 @@ fn main() {
     let mut marks = [0u8; 129];
     let mut c = [0u16; 2049];
     let seed = number_at(1);
-    let patches = arguments::narrow(number_at(2));
+    let patches = patches_from(os::arg_count());
     let p = Prices {
         moves: arguments::narrow(number_at(3)),
         remats: arguments::narrow(number_at(4)),
         spills: arguments::narrow(number_at(5)),
         reloads: arguments::narrow(number_at(6)),
     };
-    let n = io::read_full(0, &mut job);
+    let Got::Bytes(n) = streams::read_all(&mut job) else {
+        os::fail(b"try_settings: standard input cannot be read");
+        return;
+    };
     let m = put_job(
         &mut out,
         p,
@@ -336,7 +352,7 @@ fn main() {
         &mut marks,
         &mut c,
     );
-    if !io::write_all(1, &out[..m]) {
+    if !streams::write_all(&out[..m]) {
         os::fail(b"try_settings: standard output cannot be written");
     }
 }

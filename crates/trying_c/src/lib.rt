@@ -3,7 +3,6 @@ use carried::Carried;
 use edit::Edits;
 use entries::Entries;
 use function::Function;
-use price::Prices;
 use reginfo::RegInfo;
 use scratch::Diversions;
 use slots::EmergencySpillSlotCache;
@@ -14,25 +13,13 @@ use trying::Tally;
 use visits::States;
 ghost use mathlib.Core.Path.{_≡_};
 ghost use Rattle.entity.specs.Logic.{Anything};
+ghost use Rattle.price.specs.Price.{pricesIn};
 ghost use Rattle.job_tries.specs.Tries.{asked, TriedBy};
-ghost use Rattle.trying_c.specs.Given.{pricesIn};
 
-// M, R, S and L.
-fn prices_of(prices: &[u32; 4]) -> Prices
-    ensures { λ r. ⌜ r ≡ pricesIn (now (prices .entry)) ⌝ }
-{
-    Prices {
-        moves: prices[0],
-        remats: prices[1],
-        spills: prices[2],
-        reloads: prices[3],
-    }
-}
-
-// Draws so many patches of a job's function from a seed, counts what becomes of them with one kept eviction and with two, and answers 0. Each table
+// Draws so many patches of a function from a seed, counts what becomes of them with one kept eviction and with two, and answers 0. Each table
 // has the accepted patches, their M, R, S and L, the evictions, the total price, and from cell 7 on the refusals by number. Or it answers a number,
-// and both tables are left as they were: 2 for a count of patches outside 1 to 1,024, then that of the job's opening, 19 after 7 for a price over
-// 65,535. Of the job's own patches only the count is read.
+// and both tables are left as they were: 2 for a count of patches outside 1 to 1,024, then that of the function, 19 after 7 for a price over 65,535.
+// The bytes are a target and a function, as for `parallel_moves_open`, or a whole job, which is read to its end and not resolved: 1 to 15, 21 and 8 then.
 #[no_mangle]
 pub extern "C" fn parallel_moves_try_5(
     job: &[u8],
@@ -57,7 +44,7 @@ pub extern "C" fn parallel_moves_try_5(
     ensures { λ r. ⌜ TriedBy (asked (pricesIn (now (prices .entry))) patches (now (job .entry))) (pricesIn (now (prices .entry))) seed patches r (now (one .entry)) (now (two .entry)) (now (one .exit)) (now (two .exit)) ⌝ }
     ensures { λ _. ⌜ Anything (now (target .exit)) × Anything (now (function .exit)) × Anything (now (cache .exit)) × Anything (now (entries .exit)) × Anything (now (writers .exit)) × Anything (now (available .exit)) × Anything (now (sources .exit)) × Anything (now (edits .exit)) × Anything (now (slots .exit)) × Anything (now (diverted .exit)) × Anything (now (marks .exit)) × Anything (now (carried .exit)) ⌝ }
 {
-    let p = prices_of(prices);
+    let p = price::prices_of(prices);
     job_tries::try_job(
         p,
         job,

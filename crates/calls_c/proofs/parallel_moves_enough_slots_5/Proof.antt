@@ -25,4 +25,10 @@ returns-2 c = let a = c .before .before .before .before .before .before .before 
 pub parallel-moves-enough-slots-5-spec : {M : Type 1} → statement M
 parallel-moves-enough-slots-5-spec =
     tie.close
-    (tie.spec open-tables-requires enum-told enough-slots-requires enum-known-k returns returns-2)
+    (tie.spec
+    open-tables-requires
+    enum-told
+    enough-slots-requires
+    enum-known-k
+    returns
+    returns-2)

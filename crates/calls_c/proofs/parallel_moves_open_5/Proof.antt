@@ -24,4 +24,10 @@ returns-2 c = let a = c .before .before .before .before .before .before .before 
 
 pub parallel-moves-open-5-spec : {M : Type 1} → statement M
 parallel-moves-open-5-spec =
-    tie.close (tie.spec open-requires enum-told enum-known-k returns returns-2)
+    tie.close
+    (tie.spec
+    open-requires
+    enum-told
+    enum-known-k
+    returns
+    returns-2)

@@ -35,4 +35,11 @@ returns-2 c = let a = c .before .before .before .before .before .before .before 
 pub parallel-moves-resolve-5-spec : {M : Type 1} → statement M
 parallel-moves-resolve-5-spec =
     tie.close
-    (tie.spec resolve-requires enum-known-count enum-known-number same-length returns same-length-2 returns-2)
+    (tie.spec
+    resolve-requires
+    enum-known-count
+    enum-known-number
+    same-length
+    returns
+    same-length-2
+    returns-2)

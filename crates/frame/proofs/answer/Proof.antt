@@ -9,14 +9,8 @@ open-all-requires c κs = search needs
 enum-known-k : tie.Need-enum-known-k
 enum-known-k c = search needs
 
-slice-aggregate-say : tie.Need-slice-aggregate-say
-slice-aggregate-say c = search needs
-
-byte-requires : tie.Need-byte-requires
-byte-requires c κs = search needs
-
-say-requires : tie.Need-say-requires
-say-requires c κs = search needs
+say-refused-requires : tie.Need-say-refused-requires
+say-refused-requires c κs = search needs
 
 enum-known-at : tie.Need-enum-known-at
 enum-known-at c = search needs
@@ -36,9 +30,7 @@ answer-spec =
     (tie.spec
     open-all-requires
     enum-known-k
-    slice-aggregate-say
-    byte-requires
-    say-requires
+    say-refused-requires
     enum-known-at
     run-requires
     returns

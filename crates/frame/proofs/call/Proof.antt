@@ -12,25 +12,25 @@ add-say-call c = search needs
 say-call-requires : tie.Need-say-call-requires
 say-call-requires c κs = search needs
 
-slice-aggregate-answer-call : tie.Need-slice-aggregate-answer-call
-slice-aggregate-answer-call c = search needs
-
 answer-call-requires : tie.Need-answer-call-requires
 answer-call-requires c κs = search needs
 
-array-share-prefix-out : tie.Need-array-share-prefix-out
-array-share-prefix-out c = search needs
+slice-reshare-prefix-write-all : tie.Need-slice-reshare-prefix-write-all
+slice-reshare-prefix-write-all c = search needs
 
 slice-aggregate-write-all : tie.Need-slice-aggregate-write-all
 slice-aggregate-write-all c =
-    let k = c .before .before .answer-call in
+    let k = c .before .before .before .answer-call in
     sym (length-take-le (k .result .len) (k .last .1 .1 .1 .1 .1 .1 .1 .1 .1 .0) (omega (arith, k .ensures .1 .5, k .kept .1 .1 .1 .1 .1 .1 .1 .1 .1 .0)))
 
 write-all-requires : tie.Need-write-all-requires
 write-all-requires c κs = search needs
 
+same-length : tie.Need-same-length
+same-length c = search needs
+
 returns : tie.Need-returns
-returns c = search needs
+returns c = let e = c .before .before .before .before .answer-call .ensures in (e .0, (e .1 .0, e .1 .1, e .1 .2, e .1 .3, e .1 .4))
 
 pub call-spec : {M : Type 1} → statement M
 call-spec =
@@ -38,9 +38,9 @@ call-spec =
     (tie.spec
     add-say-call
     say-call-requires
-    slice-aggregate-answer-call
     answer-call-requires
-    array-share-prefix-out
+    slice-reshare-prefix-write-all
     slice-aggregate-write-all
     write-all-requires
+    same-length
     returns)

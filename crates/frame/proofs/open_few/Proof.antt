@@ -33,4 +33,11 @@ returns-3 c =
 
 pub open-few-spec : {M : Type 1} → statement M
 open-few-spec =
-    tie.close (tie.spec open-frame-requires enum-known-k enum-told returns returns-2 returns-3)
+    tie.close
+    (tie.spec
+    open-frame-requires
+    enum-known-k
+    enum-told
+    returns
+    returns-2
+    returns-3)

@@ -25,4 +25,10 @@ returns-2 c =
     there-is-none (a .frame .now) (a .frame .now) (a .i) (n .result) (n .ensures) (a .s .now) (a .at) (X.At (a .at)) (a .t .now) (a .f .now) (a .cache .now) (a .cache .now) (c .if1 .left)
 
 pub open-if-there-spec : {M : Type 1} → statement M
-open-if-there-spec = tie.close (tie.spec number-requires open-formula-requires returns returns-2)
+open-if-there-spec =
+    tie.close
+    (tie.spec
+    number-requires
+    open-formula-requires
+    returns
+    returns-2)

@@ -1,17 +1,18 @@
--- `try_job` meets its contract: 2, the opening, then both settings.
+-- `try_job` meets its contract: 2, the function, then both settings.
 use borrow.Author.Needs.{needs}
+use Rattle.job_tries.specs.Tries.{functionAsked}
 use Rattle.job_tries.proofs.Opened.{too-few, too-many, not-opened, known, opened}
 use Rattle.job_tries.proofs.try_job.Statement.{statement}
 use Rattle.job_tries.proofs.try_job.Tie as tie
 
 returns : tie.Need-returns
-returns c = let s = c .before .before in (too-few (s .args .p) (s .args .s .now) (s .args .seed) (s .args .patches) (s .args .one .now) (s .args .two .now) (c .if1 .taken), (tt, tt, tt, tt, tt, tt, tt, tt, tt, tt, tt, tt))
+returns c = let a = c .before .before .args in (too-few (a .p) (a .s .now) (a .seed) (a .patches) (a .one .now) (a .two .now) (c .if1 .taken), (tt, tt, tt, tt, tt, tt, tt, tt, tt, tt, tt, tt))
 
 returns-2 : tie.Need-returns-2
-returns-2 c = let s = c .before .before .before in (too-many (s .args .p) (s .args .s .now) (s .args .seed) (s .args .patches) (s .args .one .now) (s .args .two .now) (c .before .if1 .left) (c .if2 .taken), (tt, tt, tt, tt, tt, tt, tt, tt, tt, tt, tt, tt))
+returns-2 c = let a = c .before .before .before .args in (too-many (a .p) (a .s .now) (a .seed) (a .patches) (a .one .now) (a .two .now) (c .before .if1 .left) (c .if2 .taken), (tt, tt, tt, tt, tt, tt, tt, tt, tt, tt, tt, tt))
 
-read-priced-opening-requires : tie.Need-read-priced-opening-requires
-read-priced-opening-requires c κs = search needs
+read-function-requires : tie.Need-read-function-requires
+read-function-requires c κs = search needs
 
 enum-known-k : tie.Need-enum-known-k
 enum-known-k c = search needs
@@ -21,22 +22,23 @@ enum-told c = search needs
 
 try-both-requires : tie.Need-try-both-requires
 try-both-requires c κs =
-    let s = c .before .before .before .before .before .before .before .before .before .before .before .before .before .before .before .before .before .before .before .before .before .before in
-    let o = c .before .before .before .before .before .before .before .before .before .before .before .before .before .before .before .before .read-priced-opening in
-    let k = known (s .args .p) (s .args .s .now) (s .args .seed) (s .args .patches) (s .args .one .now) (s .args .two .now) _ _ (o .last .1 .1 .1 .0) (o .last .1 .1 .1 .1 .0) (rw (c .before .before .before .before .before .before .before .before .before .before .before .before .before .before .enum-told .given .1) at (o .ensures)) in
-    (k .0, k .1, c .before .before .before .before .before .before .before .before .before .before .before .before .before .before .before .before .before .before .before .if2 .left)
+    let a = c .before .before .before .before .before .before .before .before .before .before .before .before .before .before .before .before .before .before .before .before .before .before .before .before .before .args in
+    let o = c .before .before .before .before .before .before .before .before .before .before .before .before .before .before .before .before .read-function in
+    let k = known (a .p) (functionAsked (a .p) (a .s .now)) (o .last .1 .1 .0) (o .last .1 .1 .1 .0) (rw (c .before .before .before .before .before .before .before .before .before .before .before .before .before .before .enum-told .given .1) at (o .ensures .0)) in
+    (k .0, k .1, c .before .before .before .before .before .before .before .before .before .before .before .before .before .before .before .before .before .before .before .before .before .before .if2 .left)
 
 returns-3 : tie.Need-returns-3
 returns-3 c =
-    let s = c .before .before .before .before .before .before .before .before .before in
-    let o = c .before .before .before .read-priced-opening in
-    (not-opened (s .args .p) (s .args .s .now) (s .args .seed) (s .args .patches) (s .args .one .now) (s .args .two .now) _ (o .last .1 .1 .1 .0) (o .last .1 .1 .1 .1 .0) (c .before .before .before .before .before .before .before .if1 .left) (c .before .before .before .before .before .before .if2 .left) (rw (c .before .k .given .1) at (o .ensures)), (tt, tt, tt, tt, tt, tt, tt, tt, tt, tt, tt, tt))
+    let a = c .before .before .before .before .before .before .before .before .before .before .before .before .args in
+    let o = c .before .before .before .read-function in
+    (not-opened (a .p) (a .s .now) (a .seed) (a .patches) (a .one .now) (a .two .now) _ (o .last .1 .1 .0) (o .last .1 .1 .1 .0) (c .before .before .before .before .before .before .before .before .before .before .if1 .left) (c .before .before .before .before .before .before .before .before .before .if2 .left) (rw (c .before .k .given .1) at (o .ensures .0)), (tt, tt, tt, tt, tt, tt, tt, tt, tt, tt, tt, tt))
 
 returns-4 : tie.Need-returns-4
 returns-4 c =
-    let s = c .before .before .before .before .before .before .before .before .before .before .before .before .before .before .before .before .before .before .before .before .before .before .before in
-    let o = c .before .before .before .before .before .before .before .before .before .before .before .before .before .before .before .before .before .read-priced-opening in
-    (opened (s .args .p) (s .args .s .now) (s .args .seed) (s .args .patches) (s .args .one .now) (s .args .two .now) _ _ (o .last .1 .1 .1 .0) (o .last .1 .1 .1 .1 .0) (c .try-both .last .1 .1 .1 .1 .1 .0) (c .try-both .last .1 .1 .1 .1 .1 .1 .0) (c .before .before .before .before .before .before .before .before .before .before .before .before .before .before .before .before .before .before .before .before .before .if1 .left) (c .before .before .before .before .before .before .before .before .before .before .before .before .before .before .before .before .before .before .before .before .if2 .left) (rw (c .before .before .before .before .before .before .before .before .before .before .before .before .before .before .before .enum-told .given .1) at (o .ensures)) (c .try-both .ensures .0), (tt, tt, tt, tt, tt, tt, tt, tt, tt, tt, tt, tt))
+    let a = c .before .before .before .before .before .before .before .before .before .before .before .before .before .before .before .before .before .before .before .before .before .before .before .before .before .before .args in
+    let o = c .before .before .before .before .before .before .before .before .before .before .before .before .before .before .before .before .before .read-function in
+    let b = c .try-both in
+    (opened (a .p) (a .s .now) (a .seed) (a .patches) (a .one .now) (a .two .now) (o .last .1 .1 .0) (o .last .1 .1 .1 .0) (b .last .1 .1 .1 .1 .1 .0) (b .last .1 .1 .1 .1 .1 .1 .0) (c .before .before .before .before .before .before .before .before .before .before .before .before .before .before .before .before .before .before .before .before .before .before .before .before .if1 .left) (c .before .before .before .before .before .before .before .before .before .before .before .before .before .before .before .before .before .before .before .before .before .before .before .if2 .left) (rw (c .before .before .before .before .before .before .before .before .before .before .before .before .before .before .before .enum-told .given .1) at (o .ensures .0)) (b .ensures .0), (tt, tt, tt, tt, tt, tt, tt, tt, tt, tt, tt, tt))
 
 pub try-job-spec : {M : Type 1} → statement M
 try-job-spec =
@@ -44,7 +46,7 @@ try-job-spec =
     (tie.spec
     returns
     returns-2
-    read-priced-opening-requires
+    read-function-requires
     enum-known-k
     enum-told
     try-both-requires

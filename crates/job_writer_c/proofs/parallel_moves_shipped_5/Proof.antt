@@ -37,4 +37,12 @@ returns-2 c =
 
 pub parallel-moves-shipped-5-spec : {M : Type 1} → statement M
 parallel-moves-shipped-5-spec =
-    tie.close (tie.spec fill-requires put-target-requires enum-known-n told-requires enum-told returns returns-2)
+    tie.close
+    (tie.spec
+    fill-requires
+    put-target-requires
+    enum-known-n
+    told-requires
+    enum-told
+    returns
+    returns-2)

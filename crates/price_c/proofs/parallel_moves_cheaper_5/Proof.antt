@@ -7,7 +7,6 @@ use Rattle.price_c.proofs.parallel_moves_cheaper_5.Tie as tie
 use Rattle.price_c.proofs.parallel_moves_cheaper_5.Reads as reads
 use Rattle.price_c.proofs.parallel_moves_cheaper_5.Lts as lts
 use Rattle.cheaper.proofs.choose.Reads as choose-reads
-use Rattle.price_c.proofs.prices_of.Reads as prices-of-reads
 
 prices-of-requires : tie.Need-prices-of-requires
 prices-of-requires c κs = search needs

@@ -5,7 +5,7 @@ use native.Mathlib.Omega.{arith}
 use borrow.Author.Needs.{needs}
 use Rattle.edges.specs.Patches.{patchNumbered}
 use Rattle.edges.proofs.Laws.{nothing-found, found, part-is, part-long, part-few}
-use Rattle.price_c.specs.Priced.{pricesIn}
+use Rattle.price.specs.Price.{pricesIn}
 use Rattle.price_c.proofs.Laws.{gives-19, gives-2}
 use Rattle.price_c.proofs.parallel_moves_price_5.Statement.{statement}
 use Rattle.price_c.proofs.parallel_moves_price_5.Tie as tie
@@ -13,7 +13,6 @@ use Rattle.price_c.proofs.parallel_moves_price_5.Reads as reads
 use Rattle.price_c.proofs.parallel_moves_price_5.Lts as lts
 use Rattle.edges.proofs.find.Reads as find-reads
 use Rattle.price_c.proofs.is_outside.Reads as is-outside-reads
-use Rattle.price_c.proofs.prices_of.Reads as prices-of-reads
 use Rattle.price_c.proofs.put_price.Reads as put-price-reads
 
 prices-of-requires : tie.Need-prices-of-requires

@@ -3,14 +3,14 @@ use mathlib.Core.Path.{_≡_, refl, sym, _∙_}
 use borrow.Author.Needs.{needs}
 use borrow.Author.Tests.{lt-ltb, le-ltb}
 use lib.ListN.{length}
-use Rattle.price_c.specs.Priced.{pricesIn, fewEdits}
+use Rattle.price.specs.Price.{pricesIn}
+use Rattle.price_c.specs.Priced.{fewEdits}
 use Rattle.price_c.proofs.Laws.{gives-19, gives-2}
 use Rattle.price_c.proofs.parallel_moves_price_edits_5.Statement.{statement}
 use Rattle.price_c.proofs.parallel_moves_price_edits_5.Tie as tie
 use Rattle.price_c.proofs.parallel_moves_price_edits_5.Reads as reads
 use Rattle.price_c.proofs.parallel_moves_price_edits_5.Lts as lts
 use Rattle.price_c.proofs.is_outside.Reads as is-outside-reads
-use Rattle.price_c.proofs.prices_of.Reads as prices-of-reads
 use Rattle.price_c.proofs.put_price.Reads as put-price-reads
 
 prices-of-requires : tie.Need-prices-of-requires

@@ -51,11 +51,32 @@ slice-aggregate-read-runs c = search needs
 read-runs-requires : tie.Need-read-runs-requires
 read-runs-requires c κs = search needs
 
-slice-aggregate-read-full : tie.Need-slice-aggregate-read-full
-slice-aggregate-read-full c = search needs
+arg-count-requires : tie.Need-arg-count-requires
+arg-count-requires c κs = search needs
 
-read-full-requires : tie.Need-read-full-requires
-read-full-requires c κs = search needs
+expect-requires : tie.Need-expect-requires
+expect-requires c κs = search needs
+
+slice-aggregate-read-all : tie.Need-slice-aggregate-read-all
+slice-aggregate-read-all c = search needs
+
+read-all-requires : tie.Need-read-all-requires
+read-all-requires c κs = search needs
+
+enum-known-n : tie.Need-enum-known-n
+enum-known-n c = search needs
+
+enum-told : tie.Need-enum-told
+enum-told c = search needs
+
+slice-aggregate-fail : tie.Need-slice-aggregate-fail
+slice-aggregate-fail c = search needs
+
+fail-requires : tie.Need-fail-requires
+fail-requires c κs = search needs
+
+returns : tie.Need-returns
+returns c = search needs
 
 array-share-prefix-runs : tie.Need-array-share-prefix-runs
 array-share-prefix-runs c = search needs
@@ -64,10 +85,10 @@ slice-aggregate-put-job : tie.Need-slice-aggregate-put-job
 slice-aggregate-put-job c = search needs
 
 array-share-prefix-job : tie.Need-array-share-prefix-job
-array-share-prefix-job c = search needs
+array-share-prefix-job c = (rw (c .before .before .n .given .1) at (c .before .before .before .before .before .read-all .ensures)) .0
 
 slice-aggregate-put-job-2 : tie.Need-slice-aggregate-put-job-2
-slice-aggregate-put-job-2 c = search needs
+slice-aggregate-put-job-2 c = (rw (c .before .before .before .n .given .1) at (c .before .before .before .before .before .before .read-all .ensures)) .1
 
 slice-aggregate-put-job-3 : tie.Need-slice-aggregate-put-job-3
 slice-aggregate-put-job-3 c = search needs
@@ -87,17 +108,17 @@ slice-aggregate-write-all c = sym (length-take-le _ _ (within (c .before .before
 write-all-requires : tie.Need-write-all-requires
 write-all-requires c κs = search needs
 
-slice-aggregate-fail : tie.Need-slice-aggregate-fail
-slice-aggregate-fail c = search needs
+slice-aggregate-fail-2 : tie.Need-slice-aggregate-fail-2
+slice-aggregate-fail-2 c = search needs
 
-fail-requires : tie.Need-fail-requires
-fail-requires c κs = search needs
-
-returns : tie.Need-returns
-returns c = search needs
+fail-requires-2 : tie.Need-fail-requires-2
+fail-requires-2 c κs = search needs
 
 returns-2 : tie.Need-returns-2
 returns-2 c = search needs
+
+returns-3 : tie.Need-returns-3
+returns-3 c = search needs
 
 pub main-spec : {M : Type 1} → statement M
 main-spec =
@@ -115,8 +136,15 @@ main-spec =
     narrow-requires-5
     slice-aggregate-read-runs
     read-runs-requires
-    slice-aggregate-read-full
-    read-full-requires
+    arg-count-requires
+    expect-requires
+    slice-aggregate-read-all
+    read-all-requires
+    enum-known-n
+    enum-told
+    slice-aggregate-fail
+    fail-requires
+    returns
     array-share-prefix-runs
     slice-aggregate-put-job
     array-share-prefix-job
@@ -127,7 +155,7 @@ main-spec =
     array-share-prefix-out
     slice-aggregate-write-all
     write-all-requires
-    slice-aggregate-fail
-    fail-requires
-    returns
-    returns-2)
+    slice-aggregate-fail-2
+    fail-requires-2
+    returns-2
+    returns-3)

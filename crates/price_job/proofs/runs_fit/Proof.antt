@@ -13,4 +13,8 @@ returns-2 : tie.Need-returns-2
 returns-2 c = rw (ne-eqb _ 0 (c .if1 .left))
 
 pub runs-fit-spec : {M : Type 1} → statement M
-runs-fit-spec = tie.close (tie.spec returns returns-2)
+runs-fit-spec =
+    tie.close
+    (tie.spec
+    returns
+    returns-2)

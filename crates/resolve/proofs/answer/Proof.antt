@@ -20,4 +20,10 @@ returns : tie.Need-returns
 returns c = (c .before .before .write-text .ensures .0, (tt, tt, tt, tt, tt, tt, tt, tt, tt, tt, tt, tt, tt, tt, tt))
 
 pub answer-spec : {M : Type 1} → statement M
-answer-spec = tie.close (tie.spec start-requires write-text-requires same-length returns)
+answer-spec =
+    tie.close
+    (tie.spec
+    start-requires
+    write-text-requires
+    same-length
+    returns)

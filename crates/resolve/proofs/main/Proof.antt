@@ -6,7 +6,6 @@ use Rattle.resolve.proofs.main.Lts as lts
 use Rattle.os.proofs.arg.Reads as arg-reads
 use Rattle.os.proofs.fail.Reads as fail-reads
 use Rattle.resolve.proofs.answer.Reads as answer-reads
-use Rattle.resolve.proofs.read_all.Reads as read-all-reads
 use Rattle.resolve.proofs.setting_from.Reads as setting-from-reads
 
 slice-aggregate-arg : tie.Need-slice-aggregate-arg

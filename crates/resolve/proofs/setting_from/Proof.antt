@@ -17,4 +17,10 @@ returns-3 : tie.Need-returns-3
 returns-3 c = rw (le-ltb _ 2 (c .before .if1 .left), ne-eqb _ 2 (c .if2 .left))
 
 pub setting-from-spec : {M : Type 1} → statement M
-setting-from-spec = tie.close (tie.spec returns setting-of-requires returns-2 returns-3)
+setting-from-spec =
+    tie.close
+    (tie.spec
+    returns
+    setting-of-requires
+    returns-2
+    returns-3)

@@ -24,4 +24,12 @@ returns-4 : tie.Need-returns-4
 returns-4 c = sym (one-byte (c .before .before .before .before .before .args .arg .now) (c .before .before .before .before .if1 .left) ∙ rw (ne-eqb _ 49 (c .before .before .if2 .left), ne-eqb _ 50 (c .if3 .left)))
 
 pub setting-of-spec : {M : Type 1} → statement M
-setting-of-spec = tie.close (tie.spec returns shared-slice-read-if2 returns-2 shared-slice-read-if3 returns-3 returns-4)
+setting-of-spec =
+    tie.close
+    (tie.spec
+    returns
+    shared-slice-read-if2
+    returns-2
+    shared-slice-read-if3
+    returns-3
+    returns-4)

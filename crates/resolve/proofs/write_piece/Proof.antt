@@ -6,7 +6,6 @@ use Rattle.resolve.proofs.write_piece.Tie as tie
 use Rattle.resolve.proofs.write_piece.Reads as reads
 use Rattle.resolve.proofs.write_piece.Lts as lts
 use Rattle.job_text.proofs.emptied.Reads as emptied-reads
-use Rattle.resolve.proofs.write_all.Reads as write-all-reads
 
 slice-aggregate-write-all : tie.Need-slice-aggregate-write-all
 slice-aggregate-write-all c = let s = c .before .before .before in sym (length-take-le (s .args .p .held) (s .args .out .now) (s .pre .room))
@@ -26,4 +25,9 @@ returns-2 c = search needs
 pub write-piece-spec : {M : Type 1} → statement M
 write-piece-spec =
     tie.close
-    (tie.spec slice-aggregate-write-all write-all-requires emptied-requires returns returns-2)
+    (tie.spec
+    slice-aggregate-write-all
+    write-all-requires
+    emptied-requires
+    returns
+    returns-2)

@@ -25,4 +25,9 @@ returns-3 c =
     rw (ne-eqb (args .told) 17 (if1 .left), ne-eqb (args .told) 22 (if2 .left))
 
 pub agrees-spec : {M : Type 1} → statement M
-agrees-spec = tie.close (tie.spec returns returns-2 returns-3)
+agrees-spec =
+    tie.close
+    (tie.spec
+    returns
+    returns-2
+    returns-3)

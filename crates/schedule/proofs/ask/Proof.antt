@@ -17,4 +17,9 @@ returns c =
     (rw (told .ensures) at (r .ensures .0), omega (arith, told .ensures, r .kept .1 .1 .1 .1 .1 .1 .1 .0))
 
 pub ask-spec : {M : Type 1} → statement M
-ask-spec = tie.close (tie.spec told-requires ask-in-requires returns)
+ask-spec =
+    tie.close
+    (tie.spec
+    told-requires
+    ask-in-requires
+    returns)

@@ -30,4 +30,10 @@ returns c = λ es w. rw (c .before .before .before .wide .ensures .0) at (c .bef
 
 pub put-patch-spec : {M : Type 1} → statement M
 put-patch-spec =
-    tie.close (tie.spec told-requires wide-requires put-patch-requires same-length returns)
+    tie.close
+    (tie.spec
+    told-requires
+    wide-requires
+    put-patch-requires
+    same-length
+    returns)

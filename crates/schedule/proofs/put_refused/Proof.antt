@@ -18,4 +18,10 @@ returns : tie.Need-returns
 returns c = rw (c .before .before .before .byte .ensures .0) at (c .before .before .put-refused .ensures)
 
 pub put-refused-spec : {M : Type 1} → statement M
-put-refused-spec = tie.close (tie.spec byte-requires put-refused-requires same-length returns)
+put-refused-spec =
+    tie.close
+    (tie.spec
+    byte-requires
+    put-refused-requires
+    same-length
+    returns)

@@ -17,4 +17,9 @@ returns c =
     (rw (told .ensures) at (r .ensures .0), omega (arith, told .ensures, r .kept .1 .1 .1 .1 .1 .1 .1 .0))
 
 pub resolve-spec : {M : Type 1} → statement M
-resolve-spec = tie.close (tie.spec told-requires resolve-in-requires returns)
+resolve-spec =
+    tie.close
+    (tie.spec
+    told-requires
+    resolve-in-requires
+    returns)

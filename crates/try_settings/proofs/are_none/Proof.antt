@@ -11,4 +11,8 @@ returns-2 : tie.Need-returns-2
 returns-2 c = rw (eq-eqb (c .before .args .a) 0 (omega (arith, c .if1 .left)))
 
 pub are-none-spec : {M : Type 1} → statement M
-are-none-spec = tie.close (tie.spec returns returns-2)
+are-none-spec =
+    tie.close
+    (tie.spec
+    returns
+    returns-2)

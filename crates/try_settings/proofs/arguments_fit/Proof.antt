@@ -13,4 +13,9 @@ returns-3 : tie.Need-returns-3
 returns-3 c = rw (lt-ltb (c .before .before .args .seed) 4294967296 (c .before .if1 .left), le-leb 1 (c .before .before .args .patches) (c .if2 .left))
 
 pub arguments-fit-spec : {M : Type 1} → statement M
-arguments-fit-spec = tie.close (tie.spec returns returns-2 returns-3)
+arguments-fit-spec =
+    tie.close
+    (tie.spec
+    returns
+    returns-2
+    returns-3)

@@ -8,6 +8,12 @@ use Rattle.try_settings.proofs.main.Tie as tie
 number-at-requires : tie.Need-number-at-requires
 number-at-requires c κs = search needs
 
+arg-count-requires : tie.Need-arg-count-requires
+arg-count-requires c κs = search needs
+
+patches-from-requires : tie.Need-patches-from-requires
+patches-from-requires c κs = search needs
+
 number-at-requires-2 : tie.Need-number-at-requires-2
 number-at-requires-2 c κs = search needs
 
@@ -32,26 +38,35 @@ number-at-requires-5 c κs = search needs
 narrow-requires-4 : tie.Need-narrow-requires-4
 narrow-requires-4 c κs = search needs
 
-number-at-requires-6 : tie.Need-number-at-requires-6
-number-at-requires-6 c κs = search needs
+slice-aggregate-read-all : tie.Need-slice-aggregate-read-all
+slice-aggregate-read-all c = search needs
 
-narrow-requires-5 : tie.Need-narrow-requires-5
-narrow-requires-5 c κs = search needs
+read-all-requires : tie.Need-read-all-requires
+read-all-requires c κs = search needs
 
-slice-aggregate-read-full : tie.Need-slice-aggregate-read-full
-slice-aggregate-read-full c = search needs
+enum-known-n : tie.Need-enum-known-n
+enum-known-n c = search needs
 
-read-full-requires : tie.Need-read-full-requires
-read-full-requires c κs = search needs
+enum-told : tie.Need-enum-told
+enum-told c = search needs
+
+slice-aggregate-fail : tie.Need-slice-aggregate-fail
+slice-aggregate-fail c = search needs
+
+fail-requires : tie.Need-fail-requires
+fail-requires c κs = search needs
+
+returns : tie.Need-returns
+returns c = search needs
 
 slice-aggregate-put-job : tie.Need-slice-aggregate-put-job
 slice-aggregate-put-job c = search needs
 
 array-share-prefix-job : tie.Need-array-share-prefix-job
-array-share-prefix-job c = search needs
+array-share-prefix-job c = (rw (c .before .before .n .given .1) at (c .before .before .before .before .before .read-all .ensures)) .0
 
 slice-aggregate-put-job-2 : tie.Need-slice-aggregate-put-job-2
-slice-aggregate-put-job-2 c = search needs
+slice-aggregate-put-job-2 c = (rw (c .before .before .before .n .given .1) at (c .before .before .before .before .before .before .read-all .ensures)) .1
 
 put-job-requires : tie.Need-put-job-requires
 put-job-requires c κs = search needs
@@ -65,23 +80,25 @@ slice-aggregate-write-all c = let o = c .before .before .put-job in sym (length-
 write-all-requires : tie.Need-write-all-requires
 write-all-requires c κs = search needs
 
-slice-aggregate-fail : tie.Need-slice-aggregate-fail
-slice-aggregate-fail c = search needs
+slice-aggregate-fail-2 : tie.Need-slice-aggregate-fail-2
+slice-aggregate-fail-2 c = search needs
 
-fail-requires : tie.Need-fail-requires
-fail-requires c κs = search needs
-
-returns : tie.Need-returns
-returns c = search needs
+fail-requires-2 : tie.Need-fail-requires-2
+fail-requires-2 c κs = search needs
 
 returns-2 : tie.Need-returns-2
 returns-2 c = search needs
+
+returns-3 : tie.Need-returns-3
+returns-3 c = search needs
 
 pub main-spec : {M : Type 1} → statement M
 main-spec =
     tie.close
     (tie.spec
     number-at-requires
+    arg-count-requires
+    patches-from-requires
     number-at-requires-2
     narrow-requires
     number-at-requires-3
@@ -90,10 +107,13 @@ main-spec =
     narrow-requires-3
     number-at-requires-5
     narrow-requires-4
-    number-at-requires-6
-    narrow-requires-5
-    slice-aggregate-read-full
-    read-full-requires
+    slice-aggregate-read-all
+    read-all-requires
+    enum-known-n
+    enum-told
+    slice-aggregate-fail
+    fail-requires
+    returns
     slice-aggregate-put-job
     array-share-prefix-job
     slice-aggregate-put-job-2
@@ -101,7 +121,7 @@ main-spec =
     array-share-prefix-out
     slice-aggregate-write-all
     write-all-requires
-    slice-aggregate-fail
-    fail-requires
-    returns
-    returns-2)
+    slice-aggregate-fail-2
+    fail-requires-2
+    returns-2
+    returns-3)

@@ -26,4 +26,9 @@ returns c =
 pub put-label-spec : {M : Type 1} → statement M
 put-label-spec =
     tie.close
-    (tie.spec put-text-requires blanks-left-requires put-blanks-requires same-length returns)
+    (tie.spec
+    put-text-requires
+    blanks-left-requires
+    put-blanks-requires
+    same-length
+    returns)

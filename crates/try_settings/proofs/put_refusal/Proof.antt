@@ -26,4 +26,10 @@ returns-2 c = let e = sym (c .before .before .before .before .before .are-none .
 
 pub put-refusal-spec : {M : Type 1} → statement M
 put-refusal-spec =
-    tie.close (tie.spec are-none-requires returns put-refused-requires same-length returns-2)
+    tie.close
+    (tie.spec
+    are-none-requires
+    returns
+    put-refused-requires
+    same-length
+    returns-2)

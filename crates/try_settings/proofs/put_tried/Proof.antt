@@ -18,4 +18,10 @@ returns c =
     ((o .last .1 .1 .1 .1 .1 .0, o .last .1 .1 .1 .1 .1 .1 .0, o .ensures .0, c .before .before .put-table .ensures), (tt, tt, tt, tt, tt, tt, tt, tt, tt, tt, tt, tt, tt))
 
 pub put-tried-spec : {M : Type 1} → statement M
-put-tried-spec = tie.close (tie.spec try-both-requires put-table-requires same-length returns)
+put-tried-spec =
+    tie.close
+    (tie.spec
+    try-both-requires
+    put-table-requires
+    same-length
+    returns)
