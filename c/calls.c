@@ -1,7 +1,8 @@
 /* Reads recorded calls (rust/tests/calls.txt) on standard input and makes each:
  * its edits, refusal, slots and position must be the recorded ones, and so must a
- * function's L to plan with; a refused call must leave the list, the cache and the
- * position as they were. Prints how many there were. It is C and C++. */
+ * function's L to plan with, also where it is opened with prices; a refused call must leave
+ * the list, the cache and the position as they were. Prints how many there were. It is C
+ * and C++. */
 #include <inttypes.h>
 #include <stdio.h>
 #include <stdlib.h>
@@ -20,7 +21,9 @@ static struct parallel_moves_entry entries[MOST_NUMBERS / 4];
 static uint64_t words[MOST_NUMBERS];
 static uint64_t list[PARALLEL_MOVES_MOST_EDITS + PAST];
 static uint64_t before[PARALLEL_MOVES_MOST_EDITS + PAST];
-static unsigned long line;
+static unsigned long line, functions;
+/* The highest. */
+static const uint32_t PRICES[] = { 65535, 65535, 65535, 65535 };
 
 static void fail(const char *what)
 {
@@ -73,7 +76,15 @@ static bool open_function(void)
     if (given != refusal) {
         fail("another refusal of a function whose L is asked for");
     }
-    if (parallel_moves_open_in(&memory, kept_evictions, bytes, length) != refusal) {
+    if (parallel_moves_open_priced_in(&memory, kept_evictions, PRICES, bytes, length) != refusal
+        || memory.is_open != (refusal == 0)) {
+        fail("another refusal of a function with prices");
+    }
+    if (refusal != 0 && memcmp(cache, memory.cache, sizeof cache) != 0) {
+        fail("a refused function with prices changed the cache");
+    }
+    /* Every second one is left as it was opened with prices. */
+    if (++functions % 2 == 0 && parallel_moves_open_in(&memory, kept_evictions, bytes, length) != refusal) {
         fail("another refusal of a function");
     }
     if (refusal != 0 && memcmp(cache, memory.cache, sizeof cache) != 0) {

@@ -3,6 +3,7 @@
  * what differs, or that all is as said. It is C and C++. */
 #include <stdio.h>
 #include <stdlib.h>
+#include <string.h>
 
 #include "parallel_moves.h"
 
@@ -56,7 +57,15 @@ static uint64_t moved(uint64_t to, uint64_t from, uint64_t value)
 
 int main(void)
 {
-    enum { R0 = 1, R1 = 3, R3 = 7, S0 = 0, S2 = 4 };
+    enum { R0 = 1, R1 = 3, R2 = 5, R3 = 7, S0 = 0, S2 = 4, PATCHES = 46 };
+    /* Two patches, and the first: the swap, with unit 1 free, which is a destination's. */
+    static const uint8_t thirteen[] = {2, 1, 1, 2, 0, R0, R1, 0, 0, R1, R0, 1};
+    /* r0, r1 and r2 are the units 0 1, 1 2 and 3 4. The value is rebuilt by class 2, which has
+     * r0 and r2 and ends in r0; the first patch rebuilds it in r1, and the second does nothing. */
+    static const uint8_t fourteen[] = {
+        5, 1, 4, 0, 1, 3, 0, 0, 2, 0, 1, 0, 0, 2, 1, 2, 0, 0, 2, 3, 4, 3, 0, 1, 3, 0, 1, 2, 3, 0, 1, 2,
+        0, 0, 3, 0, 1, 2, 3, 0, 1, 2, 0, 0, 2, 0, 2, 2, 2, 0, 1, 0, 1, 0, 2, 2, 2, 0, 1, 1, R1, 0, 0, 0};
+    static uint8_t swap[sizeof job];
     const uint64_t high[] = {moved(S2, R1, 1), moved(R1, R0, 0), moved(R0, S2, 1)};
     uint64_t list[MOST], changed[MOST];
     uint8_t refusal = 0;
@@ -89,6 +98,20 @@ int main(void)
     is("a slot above a frame's", 2, 0, high, 3, 124);
     is("the greatest limit", 2048, 0, list + 1, 3, 1);
     is("a limit", 2049, 0, list + 1, 3, 102);
+    /* A patch before it is tested and not resolved: its 13 and 14 come first. */
+    memcpy(swap, job, job_length);
+    memcpy(job + PATCHES, thirteen, sizeof thirteen);
+    memcpy(job + PATCHES + sizeof thirteen, swap + PATCHES + 1, job_length - PATCHES - 1);
+    job_length += sizeof thirteen - 1;
+    is("behind a patch that is refused by 13", -1, 1, list + 1, 3, 113);
+    is("the same in a frame", 1, 1, list, 4, 113);
+    job[PATCHES + 2] = 2;
+    is("behind a patch with another free unit", -1, 1, list + 1, 3, 1);
+    memcpy(job, fourteen, sizeof fourteen);
+    job_length = sizeof fourteen;
+    is("behind a patch that is refused by 14", -1, 1, list, 0, 114);
+    job[sizeof fourteen - 4] = R2;
+    is("behind a patch with another destination", -1, 1, list, 0, 1);
     /* Before all else. */
     job_length = 0;
     is("a limit, of no job", 2049, 0, list, 4, 102);

@@ -24,7 +24,11 @@ static const uint32_t prices[PARALLEL_MOVES_PRICES] = {4, 6, 16, 12};
 static struct parallel_moves_memory *memory, *before, *other;
 static struct parallel_moves_groups *groups;
 static struct parallel_moves_preview *previews;
+static struct parallel_moves_writer *writer;
 static uint64_t list[MOST], tallies[2][PARALLEL_MOVES_TALLY];
+static uint8_t written[MOST];
+/* A patch count, and a patch of nothing. */
+static const uint32_t patch[] = {1, 0, 0};
 static int wrong;
 
 static void is(const char *when, const char *what, size_t given, size_t expected)
@@ -64,8 +68,12 @@ static void closed(const char *when)
        parallel_moves_ask_in(memory, free_units, 0, entries, list, MOST, &refusal, previews), 0);
     is(when, "a refusal of an asking", refusal, 2);
     is(when, "a take", parallel_moves_take_in(memory, previews), 20);
+    refusal = 99;
+    is(when, "bytes of a job", parallel_moves_write_opened_in(memory, writer, patch, 3, written, MOST, &refusal), 0);
+    is(when, "a refusal of a job to be written", refusal, 2);
     for (size_t i = 0; i < MOST; i++) {
         is(when, "the list", list[i], ~i);
+        is(when, "the bytes", written[i], 0);
     }
     is(when, "the memory", memcmp(before, memory, sizeof *memory) != 0, false);
     is(when, "the preview", memcmp(&preview, previews, sizeof preview) != 0, false);
@@ -80,6 +88,20 @@ static void reopen(void)
 static void refuse(void)
 {
     is("refused", "an opening", parallel_moves_open_in(memory, 3, bytes, FUNCTION), 22);
+}
+
+static void refuse_price(void)
+{
+    static const uint32_t too_dear[PARALLEL_MOVES_PRICES] = {4, 6, 16, 65536};
+    is("a price", "an opening", parallel_moves_open_priced_in(memory, 1, too_dear, bytes, FUNCTION), 19);
+}
+
+static void count_patches(void)
+{
+    uint8_t refusal = 99;
+    is("a job's opening", "patches",
+       parallel_moves_priced_job_in(memory, 1, prices, bytes, sizeof bytes, &refusal), 1);
+    is("a job's opening", "a refusal", refusal, 0);
 }
 
 static void plan(void)
@@ -117,6 +139,7 @@ static void end(void)
 /* Each use of the memory's tables ends the function that was open there. */
 static void ended(void)
 {
+    static uint8_t job[PARALLEL_MOVES_MOST_BYTES];
     uint8_t refusal = 99;
     open_function("the first");
     is("the first", "edits",
@@ -129,6 +152,19 @@ static void ended(void)
     open_function("a second");
     refuse();
     closed("after a refused opening");
+    open_function("before a price");
+    refuse_price();
+    closed("after an opening with a price too high");
+    open_function("before a job's opening");
+    count_patches();
+    closed("after a job's opening");
+    is("with prices", "an opening", parallel_moves_open_priced_in(memory, 1, prices, bytes, FUNCTION), 0);
+    is("with prices", "open", memory->is_open, true);
+    is("with prices", "bytes of a job",
+       parallel_moves_write_opened_in(memory, writer, patch, 3, job, sizeof job, &refusal), sizeof bytes);
+    is("with prices", "a refusal of a job to be written", refusal, 0);
+    is("with prices", "the job", memcmp(job, bytes, sizeof bytes) != 0, false);
+    is("with prices", "open", memory->is_open, true);
     open_function("before planning");
     plan();
     closed("after planning");
@@ -170,6 +206,7 @@ static void stale(void)
         void (*done)(void);
     } between[] = {
         {"after another opening", reopen}, {"after a refused opening", refuse},
+        {"after a price", refuse_price}, {"after a job's opening", count_patches},
         {"after planning", plan}, {"after a job", answer},
         {"after a job by groups", answer_groups}, {"after trying", try_settings},
         {"after the end", end}};
@@ -208,7 +245,8 @@ int main(void)
     other = PARALLEL_MOVES_AS(struct parallel_moves_memory *, calloc(1, sizeof *other));
     groups = PARALLEL_MOVES_AS(struct parallel_moves_groups *, calloc(1, sizeof *groups));
     previews = PARALLEL_MOVES_AS(struct parallel_moves_preview *, calloc(2, sizeof *previews));
-    if (!memory || !before || !other || !groups || !previews) {
+    writer = PARALLEL_MOVES_AS(struct parallel_moves_writer *, calloc(1, sizeof *writer));
+    if (!memory || !before || !other || !groups || !previews || !writer) {
         return EXIT_FAILURE;
     }
     closed("fresh from calloc");
@@ -217,6 +255,7 @@ int main(void)
     if (!wrong) {
         puts("all as said");
     }
+    free(writer);
     free(previews);
     free(groups);
     free(other);

@@ -5,6 +5,8 @@
  *   parallel_moves_open_in with a target and a function, then
  *   parallel_moves_resolve_in with each patch, and parallel_moves_slots_made;
  *   before them, for whoever lays out the frame, parallel_moves_enough_slots_in;
+ *   of a target with prices, parallel_moves_open_priced_in, and
+ *   parallel_moves_priced_job_in for a whole job;
  * - libasking_c.a, which `rt staticlib asking_c` builds, beside libcalls_c.a, for a
  *   patch asked for before one settles on it: parallel_moves_ask_in, and
  *   parallel_moves_take_in;
@@ -17,8 +19,8 @@
  * - libanswer_groups_c.a, which `rt staticlib answer_groups_c` builds, for the same by
  *   groups: parallel_moves_answer_groups_in;
  * - libjob_writer_c.a, which `rt staticlib job_writer_c` builds, for the bytes of a
- *   job from its numbers, parallel_moves_write_in, and the shipped target,
- *   parallel_moves_shipped_in;
+ *   job from its numbers, parallel_moves_write_in, or of a function that is open,
+ *   parallel_moves_write_opened_in, and the shipped target, parallel_moves_shipped_in;
  * - libprice_c.a, which `rt staticlib price_c` builds, for what edits cost:
  *   parallel_moves_price and parallel_moves_price_edits, and the cheaper of two
  *   lists, parallel_moves_cheaper_list;
@@ -57,9 +59,11 @@
  *
  * The calls that are lent the tables of a function one by one ask:
  * - parallel_moves_resolve, parallel_moves_resolve_groups and parallel_moves_ask: target,
- *   function and cache are those of one parallel_moves_open that answered 0, and are as
- *   that and the calls of the function since left them. A refused opening, and any other
- *   call that works in these tables, ends the function;
+ *   function and cache are those of one parallel_moves_open or parallel_moves_open_priced
+ *   that answered 0, and are as that and the calls of the function since left them. A
+ *   refused opening, and any other call that works in these tables, ends the function;
+ * - parallel_moves_write_opened: target and function are those of such an opening, and are
+ *   as it left them;
  * - parallel_moves_take: made, stamp and slots are as one parallel_moves_ask left them
  *   that was not refused, and the cache is the one that it asked on;
  * - parallel_moves_slots_made: the cache is an opened function's, else the number says
@@ -171,6 +175,32 @@ PARALLEL_MOVES_LOOK_AT_IT uint8_t parallel_moves_open(
     uint16_t function[PARALLEL_MOVES_FUNCTION],
     uint16_t cache[PARALLEL_MOVES_CACHE])
     PARALLEL_MOVES_SYMBOL("parallel_moves_open");
+
+/* Opens a function as parallel_moves_open does, of a target that has these prices, of M,
+ * R, S and L: 19 for one above PARALLEL_MOVES_MOST_PRICE, tested when the target is read
+ * to its end, after 7 and before the function's first number. */
+PARALLEL_MOVES_LOOK_AT_IT uint8_t parallel_moves_open_priced(
+    uint32_t kept_evictions,
+    const uint32_t prices[PARALLEL_MOVES_PRICES],
+    const uint8_t *bytes, size_t bytes_length,
+    uint16_t target[PARALLEL_MOVES_TARGET],
+    uint16_t function[PARALLEL_MOVES_FUNCTION],
+    uint16_t cache[PARALLEL_MOVES_CACHE])
+    PARALLEL_MOVES_SYMBOL("parallel_moves_open_priced");
+
+/* How many patches a whole job says that it has, 1 to 1,024, of a target that has these
+ * prices. *refusal is set to 0, or to the number by which the job's opening is refused,
+ * with 19 as for parallel_moves_open_priced: look at it first, since then the result is 0.
+ * The patches are not read. The working tables are `target` and `function`: a function
+ * that was opened in them is open no longer. */
+uint32_t parallel_moves_priced_job(
+    uint32_t kept_evictions,
+    const uint32_t prices[PARALLEL_MOVES_PRICES],
+    const uint8_t *job, size_t job_length,
+    uint8_t *refusal,
+    uint16_t target[PARALLEL_MOVES_TARGET],
+    uint16_t function[PARALLEL_MOVES_FUNCTION])
+    PARALLEL_MOVES_SYMBOL("parallel_moves_priced_job");
 
 /* The L to plan with: so many emergency slots are enough for a function, whatever
  * patches it gets. `bytes` are a target and a function over it, with any L and with
@@ -534,6 +564,25 @@ size_t parallel_moves_write(
     uint16_t writers[PARALLEL_MOVES_WRITERS])
     PARALLEL_MOVES_SYMBOL("parallel_moves_write");
 
+/* Writes a job of an opened target and function: `numbers` are the rest of it, the patch
+ * count and the patches, in the order of docs/JOB.md. It returns and sets what
+ * parallel_moves_write would of all the job's numbers. Asked of the caller, and not tested:
+ * `target` and `function` are as an opening left them that answered 0. They stay so. The
+ * working tables are `work` to `writers`. */
+size_t parallel_moves_write_opened(
+    const uint16_t target[PARALLEL_MOVES_TARGET],
+    const uint16_t function[PARALLEL_MOVES_FUNCTION],
+    const uint32_t *numbers, size_t numbers_length,
+    uint8_t *bytes, size_t bytes_length,
+    uint8_t *refusal,
+    uint8_t work[PARALLEL_MOVES_MOST_BYTES],
+    uint16_t read_target[PARALLEL_MOVES_TARGET],
+    uint16_t read_function[PARALLEL_MOVES_FUNCTION],
+    bool available[PARALLEL_MOVES_UNITS],
+    uint16_t entries[PARALLEL_MOVES_ENTRIES],
+    uint16_t writers[PARALLEL_MOVES_WRITERS])
+    PARALLEL_MOVES_SYMBOL("parallel_moves_write_opened");
+
 /* Writes the shipped target (docs/JOB.md, 'Writing a job') to the front of `work`,
  * as the bytes that a job on it begins with, and returns how many there are. What stands
  * past them in `work` may be anything. */
@@ -628,13 +677,13 @@ static inline size_t parallel_moves_entry_numbers_length(struct parallel_moves_e
  * many calls as you like, one at a time. It has one opened function at most, and
  * `is_open` tells whether it has one: none before the first opening, none where the
  * last opening was refused, and none after parallel_moves_enough_slots_in,
- * parallel_moves_answer_in, parallel_moves_answer_groups_in or parallel_moves_try_in,
- * which use its tables, whatever they answer. A patch without an opened function is
- * refused with 2, a take with 20, and nothing changes. `position` is that of the last
- * patch of the function which was resolved or taken, 0 before the first. `openings` rises
- * with every opening, also a refused one, and with every other use that ends the opened
- * function: an answer is taken only under the number that it was asked for under. Read
- * these three, and write none. */
+ * parallel_moves_priced_job_in, parallel_moves_answer_in, parallel_moves_answer_groups_in
+ * or parallel_moves_try_in, which use its tables, whatever they answer. Without an opened
+ * function a patch is refused with 2, so is a job to be written of it, a take is with 20,
+ * and nothing changes. `position` is that of the last patch of the function which was
+ * resolved or taken, 0 before the first. `openings` rises with every opening, also a
+ * refused one, and with every other use that ends the opened function: an answer is taken
+ * only under the number that it was asked for under. Read these three, and write none. */
 struct parallel_moves_memory {
     uint64_t openings;
     uint64_t edits[PARALLEL_MOVES_EDITS];
@@ -674,6 +723,34 @@ PARALLEL_MOVES_LOOK_AT_IT static inline uint8_t parallel_moves_open_in(
         kept_evictions, bytes, bytes_length, memory->target, memory->function, memory->cache);
     memory->is_open = refusal == 0;
     return refusal;
+}
+
+/* parallel_moves_open_priced with the tables of `memory`, as parallel_moves_open_in. */
+PARALLEL_MOVES_LOOK_AT_IT static inline uint8_t parallel_moves_open_priced_in(
+    struct parallel_moves_memory *memory, uint32_t kept_evictions,
+    const uint32_t prices[PARALLEL_MOVES_PRICES],
+    const uint8_t *bytes, size_t bytes_length)
+{
+    parallel_moves_close_in(memory);
+    memory->position = 0;
+    uint8_t refusal = parallel_moves_open_priced(
+        kept_evictions, prices, bytes, bytes_length, memory->target, memory->function,
+        memory->cache);
+    memory->is_open = refusal == 0;
+    return refusal;
+}
+
+/* parallel_moves_priced_job with the tables of `memory`, which has no opened function
+ * afterwards. */
+static inline uint32_t parallel_moves_priced_job_in(
+    struct parallel_moves_memory *memory, uint32_t kept_evictions,
+    const uint32_t prices[PARALLEL_MOVES_PRICES],
+    const uint8_t *job, size_t job_length,
+    uint8_t *refusal)
+{
+    parallel_moves_close_in(memory);
+    return parallel_moves_priced_job(
+        kept_evictions, prices, job, job_length, refusal, memory->target, memory->function);
 }
 
 /* parallel_moves_enough_slots with the tables of `memory`, which has no opened
@@ -840,7 +917,7 @@ PARALLEL_MOVES_LOOK_AT_IT static inline uint8_t parallel_moves_take_in(
     return refusal;
 }
 
-/* The tables of parallel_moves_write, about a third of a megabyte: make one with
+/* The tables of writing, about a third of a megabyte: make one with
  * calloc, and use it for as many calls as you like, one at a time. They are apart from
  * those of struct parallel_moves_memory, so that a function which is opened there stays
  * so while jobs are written. */
@@ -862,6 +939,24 @@ static inline size_t parallel_moves_write_in(
 {
     return parallel_moves_write(
         numbers, numbers_length, bytes, bytes_length, refusal,
+        writer->work, writer->target, writer->function, writer->available,
+        writer->entries, writer->writers);
+}
+
+/* parallel_moves_write_opened of the function that is open in `memory`, with the tables of
+ * `writer`; without one, 2 and no bytes. The function stays open. */
+static inline size_t parallel_moves_write_opened_in(
+    const struct parallel_moves_memory *memory, struct parallel_moves_writer *writer,
+    const uint32_t *numbers, size_t numbers_length,
+    uint8_t *bytes, size_t bytes_length,
+    uint8_t *refusal)
+{
+    if (!memory->is_open) {
+        *refusal = 2;
+        return 0;
+    }
+    return parallel_moves_write_opened(
+        memory->target, memory->function, numbers, numbers_length, bytes, bytes_length, refusal,
         writer->work, writer->target, writer->function, writer->available,
         writer->entries, writer->writers);
 }
@@ -1014,11 +1109,13 @@ enum parallel_moves_tally_cell {
 
 /* Draws `patches` patches of a function from a seed, and counts what becomes of them with
  * one kept eviction, in `one`, and with two, in `two`; docs/JOB.md says how they are
- * drawn. Of the job's own patches only their count is read. `prices` are as for
+ * drawn. The bytes are a target and a function, as for parallel_moves_open, or a whole job
+ * of them, whose own patches are read and tested, but not resolved. `prices` are as for
  * parallel_moves_price. Returns 0, or the number of the refusal, and then leaves both
- * tallies alone: 2, tested first, where `patches` is not from 1 to 1,024; then as a job is
- * refused, with 19 for a price above its bound after the target's 7. The working tables are
- * `target` to `carried`. */
+ * tallies alone: 2, tested first, where `patches` is not from 1 to 1,024; then what the
+ * target is refused by, 19 for a price above its bound, after 7, and what the function is
+ * refused by; and if something stands behind it, what reading the job to its end is (1 to
+ * 15, 21 and 8). The working tables are `target` to `carried`. */
 PARALLEL_MOVES_LOOK_AT_IT uint8_t parallel_moves_try(
     const uint8_t *job, size_t job_length,
     const uint32_t prices[PARALLEL_MOVES_PRICES],
@@ -1067,7 +1164,8 @@ PARALLEL_MOVES_LOOK_AT_IT static inline uint8_t parallel_moves_try_in(
  * 2, with *refusal the number by which the job up to that patch, the patch or, with 24, the
  * list is refused: 24 for a word that is no edit, or names a register, a value or a slot
  * that there is not. `patch` counts the job's patches from 0; 2 for one that the job has
- * not. Patches before it are read and not resolved, those behind it are not read. The list
+ * not. Patches before it are read and tested and not resolved, so that a number of theirs
+ * (all but 16 and 17) comes first; those behind it are not read. The list
  * may have any length. The working tables are `target` to `asked`. */
 PARALLEL_MOVES_LOOK_AT_IT uint8_t parallel_moves_examine(
     const uint8_t *job, size_t job_length,

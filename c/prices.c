@@ -1,5 +1,5 @@
-/* prices FOLDER : what edits cost, of some trials of the folder and at each limit, and
- * the cheaper of two lists.
+/* prices FOLDER : what edits cost, of some trials of the folder and at each limit, the
+ * cheaper of two lists, and functions and jobs opened with prices.
  * Prints `all as said`; at the first that differs it says which, and ends with 1. It is
  * C and C++. */
 #include <stdio.h>
@@ -9,6 +9,7 @@
 #include "parallel_moves.h"
 
 static struct parallel_moves_memory memory;
+static uint16_t cache[PARALLEL_MOVES_CACHE];
 static uint8_t job[PARALLEL_MOVES_MOST_BYTES];
 static uint64_t words[PARALLEL_MOVES_MOST_WORDS];
 static uint64_t list[2 * PARALLEL_MOVES_MOST_EDITS];
@@ -192,11 +193,69 @@ static void cheaper_of_two(void)
     }
 }
 
+/* What a function, and a job of it, are refused by when they are opened with prices: both by
+ * the same number; or, with 0, the function is open and the job says `patches`. */
+static void check_opened(
+    uint32_t kept, const uint32_t *prices, size_t function, size_t whole, uint8_t refusal, uint32_t patches, const char *what)
+{
+    memcpy(cache, memory.cache, sizeof cache);
+    check(parallel_moves_open_priced_in(&memory, kept, prices, job, function) == refusal, what);
+    check(memory.is_open == (refusal == 0), what);
+    check(refusal == 0 || memcmp(cache, memory.cache, sizeof cache) == 0, what);
+    check(refusal != 0 || parallel_moves_slots_made(memory.cache) == 0, what);
+    uint8_t given = 99;
+    check(parallel_moves_priced_job_in(&memory, kept, prices, job, whole, &given) == patches, what);
+    check(given == refusal, what);
+    check(!memory.is_open, what);
+}
+
+/* 19 comes after the target's 7, and before the function's first number. */
+static void opened_with_prices(void)
+{
+    /* swap-full: a target of 39 bytes, a function of 7, a patch count and a patch. */
+    static const uint8_t swap_full[] = {
+        3, 1, 3, 0, 1, 3, 0, 0, 1, 0, 0, 0, 1, 1, 0, 0, 1, 2, 2, 0, 1, 3, 0, 1, 2, 3, 0, 1, 2,
+        0, 0, 3, 0, 1, 2, 3, 0, 1, 2, 2, 0, 1, 0, 0, 0, 0, 1, 0, 2, 0, 1, 3, 0, 0, 3, 1, 1};
+    enum { TARGET = 39, FUNCTION = 46, JOB = sizeof swap_full };
+    memcpy(job, swap_full, JOB);
+    const uint32_t most = PARALLEL_MOVES_MOST_PRICE;
+    const uint32_t dearest[] = { most, most, most, most };
+    for (int i = 0; i < PARALLEL_MOVES_PRICES; i++) {
+        uint32_t too_dear[] = { 4, 6, 16, 12 };
+        too_dear[i] = most + 1;
+        check_opened(1, dearest, FUNCTION, JOB, 0, 1, "the greatest prices");
+        check_opened(2, too_dear, FUNCTION, JOB, 19, 0, "a price above the greatest");
+        check_opened(3, too_dear, FUNCTION, JOB, 22, 0, "22 before 19");
+        check_opened(1, too_dear, TARGET - 1, TARGET - 1, 1, 0, "a target cut off, before 19");
+        check_opened(1, too_dear, TARGET, TARGET, 19, 0, "19 before a function cut off");
+        check_opened(1, dearest, TARGET, TARGET, 1, 0, "a function cut off");
+        /* A top-level class without slots. */
+        job[20] = 0;
+        check_opened(1, dearest, FUNCTION, JOB, 7, 0, "a target that is refused by 7");
+        check_opened(1, too_dear, FUNCTION, JOB, 7, 0, "7 before 19");
+        job[20] = 1;
+        /* A bank that there is not, of the first value. */
+        job[42] = 9;
+        check_opened(1, dearest, FUNCTION, JOB, 2, 0, "a function that is refused by 2");
+        check_opened(1, too_dear, FUNCTION, JOB, 19, 0, "19 before the function's 2");
+        job[42] = 0;
+    }
+    /* Of a job the patches are not read, but their count is; of a function nothing is left over. */
+    uint8_t given = 99;
+    job[FUNCTION] = 3;
+    check(parallel_moves_priced_job_in(&memory, 1, PRICES, job, FUNCTION + 1, &given) == 3 && given == 0, "three patches");
+    check(parallel_moves_priced_job_in(&memory, 1, PRICES, job, FUNCTION, &given) == 0 && given == 1, "no count");
+    job[FUNCTION] = 0;
+    check(parallel_moves_priced_job_in(&memory, 1, PRICES, job, JOB, &given) == 0 && given == 2, "no patches");
+    check(parallel_moves_open_priced_in(&memory, 1, PRICES, job, JOB) == 8, "bytes left over");
+}
+
 int main(int count, char **given)
 {
     if (count != 2) {
         return EXIT_FAILURE;
     }
+    opened_with_prices();
     whole_jobs(given[1]);
     prices_and_limits();
     cheaper_of_two();

@@ -49,7 +49,7 @@ struct work {
 };
 
 static struct work *w;
-static size_t numbers_length, bytes_length, function_length, edits;
+static size_t numbers_length, bytes_length, function_length, function_numbers, edits;
 static struct parallel_moves_entry entries[MOVES];
 static uint32_t kept;
 static const uint32_t prices[PARALLEL_MOVES_PRICES] = {4, 6, 16, 12};
@@ -111,6 +111,7 @@ static void put_job(void)
         put(0);
     }
     function_length = bytes_length;
+    function_numbers = numbers_length;
     put(1);
     put(0);
     put(MOVES);
@@ -137,6 +138,25 @@ static void plan(void)
 static void open_function(void)
 {
     is("opening", parallel_moves_open_in(&w->memory, kept, w->bytes, function_length), 0);
+}
+
+static void open_priced(void)
+{
+    uint8_t refusal = 99;
+    is("a job's patches", parallel_moves_priced_job_in(&w->memory, kept, prices, w->bytes, bytes_length, &refusal), 1);
+    is("a job's opening", refusal, 0);
+    is("opening with prices", parallel_moves_open_priced_in(&w->memory, kept, prices, w->bytes, function_length), 0);
+}
+
+static void write_opened(void)
+{
+    uint8_t refusal = 99;
+    is("writing an opened function",
+       parallel_moves_write_opened_in(
+           &w->memory, &w->writer, w->numbers + function_numbers, numbers_length - function_numbers, w->written, MOST,
+           &refusal),
+       bytes_length);
+    is("the bytes of an opened function", memcmp(w->written, w->bytes, bytes_length) != 0, false);
 }
 
 static void ask(void)
@@ -297,7 +317,8 @@ static struct {
     void (*call)(void);
     size_t most;
 } kinds[] = {
-    {"planning", plan, 0}, {"opening", open_function, 0}, {"asking", ask, 0}, {"taking", take, 0},
+    {"planning", plan, 0}, {"opening with prices", open_priced, 0}, {"writing what is open", write_opened, 0},
+    {"opening", open_function, 0}, {"asking", ask, 0}, {"taking", take, 0},
     {"resolving", resolve, 0}, {"by groups", by_groups, 0}, {"a job by groups", answer_groups, 0},
     {"a job", answer, 0}, {"text", text, 0}, {"prices", price, 0}, {"examining", examine, 0},
     {"examining in a frame", examine_in, 0}, {"writing", write_job, 0}, {"trying", try_settings, 0},

@@ -23,9 +23,18 @@ pub fn read(job: &[u8]) -> Result<Read, Refused> {
     let mut reader = Reader::new(job);
     let target = Target::read(&mut reader)?;
     let values = Values::read(&mut reader, &target)?;
+    read_patches(&mut reader, &target, &values)
+}
+
+/// Reads what stands behind a function in a job, the patch count first, to the job's end.
+pub fn read_patches(
+    reader: &mut Reader<'_>,
+    target: &Target,
+    values: &Values,
+) -> Result<Read, Refused> {
     let mut read = Read::default();
     for _ in 0..reader.within(1, MOST_PATCHES)? {
-        let patch = Patch::read(&mut reader, &target, &values)?;
+        let patch = Patch::read(reader, target, values)?;
         read.patches += 1;
         read.entries += patch.entries.len();
     }
@@ -33,6 +42,14 @@ pub fn read(job: &[u8]) -> Result<Read, Refused> {
         true => Ok(read),
         false => Err(LEFT_OVER),
     }
+}
+
+/// The target and the function that a job begins with, if they are taken.
+pub fn beginning(job: &[u8]) -> Option<&[u8]> {
+    let mut reader = Reader::new(job);
+    let target = Target::read(&mut reader).ok()?;
+    Values::read(&mut reader, &target).ok()?;
+    Some(&job[..reader.place()])
 }
 
 /// The numbers that bytes begin with, and whether they are all of them.

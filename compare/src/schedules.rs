@@ -18,6 +18,9 @@ schedules SEED COUNT STDIN STDOUT
     what is to be printed of them.
 ";
 
+/// What the program says of a frame that it has no tables for.
+const TOO_MANY: &str = "more formulas than the two that this program takes\n";
+
 /// A record is shorter than this.
 const MOST_BYTES: usize = 4000;
 
@@ -72,6 +75,9 @@ impl Schedule {
         if let Err(refused) = sharing::open_frame(self.limit, &self.shares) {
             return Ok(format!("refused {}\n", refused.0));
         }
+        if self.shares.len() > 2 {
+            return Ok(TOO_MANY.into());
+        }
         let mut functions: Vec<(Function, u32)> = Vec::new();
         for (given, &share) in self.given.iter().zip(&self.shares) {
             let first = functions.first().map(|(function, _)| sharing::slots(function));
@@ -92,11 +98,11 @@ impl Schedule {
                     left[*formula] = expected.outcome.is_ok().then_some(asked);
                     text += &answer(&expected)?;
                 }
-                // Nothing left to take is taken too late.
+                // Where no asking left something, no take is made.
                 Kind::Take => match left[*formula].as_ref().map(|asked| frame.take(*formula, asked)) {
                     Some(Ok(_)) => text += "taken\n",
                     Some(Err(refused)) => writeln!(text, "refused {}", refused.0)?,
-                    None => text += "refused 20\n",
+                    None => text += "nothing to take\n",
                 },
             }
         }
@@ -148,6 +154,7 @@ fn trials() -> Vec<Schedule> {
         two(0, 2, [0, 0], 1, vec![(0, Ask(chain())), (1, Resolve(swap())), (0, Take)]),
         two(0, 2, [0, 0], 1, vec![(1, Resolve(swap())), (0, Ask(swap())), (1, Resolve(swap())), (0, Take)]),
         two(0, 2, [2, 1], 3, vec![]),
+        Schedule { limit: 3, shares: vec![1; 3], given: vec![], calls: vec![] },
     ]
 }
 

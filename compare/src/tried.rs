@@ -6,11 +6,13 @@ use std::fs;
 use std::process::ExitCode;
 
 use judge::number::Refused;
+use judge::reading::beginning;
 use judge::tries::{Asked, Counts, tried};
 
 const HELP: &str = "\
 tried SEEDS JOB..
-    Compares, for each job file, so many seeds and a few arguments that are refused.
+    Compares, for each job file, so many seeds and a few arguments that are refused; the
+    function alone, and the job cut off, changed behind its function, and too long.
     Prints counts and `no difference`, or the first difference, and ends with 1.
 ";
 
@@ -160,7 +162,8 @@ fn compare(seeds: &str, jobs: &[String]) -> Result<ExitCode, Box<dyn Error>> {
     for file in jobs {
         let job = fs::read(file)?;
         let prices = [4, 6, 16, 12];
-        let mut given: Vec<([u32; 4], u32, u32, usize)> = Vec::new();
+        let whole = || job.clone();
+        let mut given: Vec<([u32; 4], u32, u32, Vec<u8>)> = Vec::new();
         for index in 0..seeds {
             // The first seeds, and others from all over.
             let seed = if index % 2 == 0 {
@@ -170,25 +173,42 @@ fn compare(seeds: &str, jobs: &[String]) -> Result<ExitCode, Box<dyn Error>> {
             };
             let prices =
                 [prices, [1, 10, 100, 1000], [65_535; 4], [0, 0, 0, 1]][index as usize % 4];
-            given.push((prices, seed, 1 + index * 37 % 300, job.len()));
+            given.push((prices, seed, 1 + index * 37 % 300, whole()));
         }
-        given.push((prices, 7, 1024, job.len()));
+        given.push((prices, 7, 1024, whole()));
+        // The function alone.
+        let function = beginning(&job).ok_or("a job has no function")?;
+        given.push((prices, 7, 1024, function.to_vec()));
         // What is refused, and in which order.
         for patches in [0, 1025, u32::MAX] {
-            given.push(([65_536, 0, 0, 0], 7, patches, 0));
+            given.push(([65_536, 0, 0, 0], 7, patches, Vec::new()));
         }
         for place in 0..4 {
             let mut prices = prices;
             prices[place] = 65_536;
-            given.push((prices, 7, 1, job.len()));
+            given.push((prices, 7, 1, whole()));
         }
         for length in 0..job.len() {
-            given.push((prices, 7, 1, length));
-            given.push(([65_536; 4], 7, 1, length));
+            given.push((prices, 7, 1, job[..length].to_vec()));
+            given.push(([65_536; 4], 7, 1, job[..length].to_vec()));
         }
-        for (prices, seed, patches, length) in given {
-            let wanted = judged(prices, seed, patches, &job[..length]);
-            let got = ours.tried(prices, seed, patches, &job[..length]);
+        // Jobs that reading refuses behind the function, and some that it takes.
+        for at in function.len()..job.len() {
+            for to in [0, 1, 2, 3, 9, 127, 128] {
+                let mut changed = job.clone();
+                changed[at] = to;
+                given.push((prices, 7, 1, changed));
+            }
+        }
+        given.push((prices, 7, 1, [&job[..], &[0]].concat()));
+        for length in [65_536, 65_537] {
+            let mut long = job.clone();
+            long.resize(length, 0);
+            given.push((prices, 7, 1, long));
+        }
+        for (prices, seed, patches, job) in given {
+            let wanted = judged(prices, seed, patches, &job);
+            let got = ours.tried(prices, seed, patches, &job);
             calls += 1;
             refused += u64::from(wanted.0 != 0);
             if wanted.0 == 0 {
@@ -200,7 +220,7 @@ fn compare(seeds: &str, jobs: &[String]) -> Result<ExitCode, Box<dyn Error>> {
             }
             if wanted != got {
                 println!("DIFFERENCE");
-                println!("{file} {length} bytes, prices {prices:?} seed {seed} patches {patches}");
+                println!("{file} as {job:?}, prices {prices:?} seed {seed} patches {patches}");
                 println!("of the judge {} {:?}", wanted.0, wanted.1);
                 println!("of ours {} {:?}", got.0, got.1);
                 return Ok(ExitCode::FAILURE);

@@ -6,9 +6,10 @@ use std::fmt::{self, Display, Formatter};
 
 use original::function::Function as _;
 
-use crate::answer::{self, Judge, MOST_BYTES, SETTINGS};
+use crate::answer::{Judge, MOST_BYTES, SETTINGS};
 use crate::calls::{Call, Function, Room, Session};
 use crate::number::{NAMES_NOTHING, Reader, Refused};
+use crate::reading;
 use crate::target::Target;
 use crate::values::Values;
 
@@ -91,8 +92,8 @@ pub fn tried(asked: Asked, job: &[u8]) -> Result<Tried, Refused> {
     Ok(Tried { asked, counts })
 }
 
-/// Reads a job's opening, the prices tested behind the target ("tested after 7"). The
-/// patch count is read, and the patches are not.
+/// Reads a function, the prices tested behind the target ("tested after 7"). It stands alone,
+/// or in a job that is read to its end.
 fn open(kept_evictions: u32, prices: [u64; 4], job: &[u8]) -> Result<Function, Refused> {
     if job.len() > MOST_BYTES {
         return Err(NAMES_NOTHING);
@@ -103,7 +104,9 @@ fn open(kept_evictions: u32, prices: [u64; 4], job: &[u8]) -> Result<Function, R
         return Err(PRICE_OUTSIDE);
     }
     let values = Values::read(&mut reader, &target)?;
-    reader.within(1, answer::MOST_PATCHES)?;
+    if !reader.at_end() {
+        reading::read_patches(&mut reader, &target, &values)?;
+    }
     Ok(Function {
         judge: Judge::of(kept_evictions)?,
         target,

@@ -175,20 +175,25 @@ impl JobBuilder {
     pub(crate) fn each_number(&self, mut put: impl FnMut(u32, Part)) {
         self.target.each_number(&mut put);
         self.function.each_number(&mut put);
-        put(count(self.patches.len()), Part::Patches);
-        for (patch, number) in self.patches.iter().zip(1..) {
-            put(count(patch.free.len()), Part::Patch(number));
-            for &unit in &patch.free {
-                put(unit.0, Part::FreeUnit(number, unit));
+        each_number_of(&self.patches, put);
+    }
+}
+
+/// Gives each number of patches in turn, their count first.
+pub(crate) fn each_number_of(patches: &[Patch], mut put: impl FnMut(u32, Part)) {
+    put(count(patches.len()), Part::Patches);
+    for (patch, number) in patches.iter().zip(1..) {
+        put(count(patch.free.len()), Part::Patch(number));
+        for &unit in &patch.free {
+            put(unit.0, Part::FreeUnit(number, unit));
+        }
+        put(count(patch.entries.len()), Part::Patch(number));
+        for (&[kind, first, second, third], entry) in patch.entries.iter().zip(1..) {
+            for number_of_it in [kind, first, second] {
+                put(number_of_it, Part::Entry(number, entry));
             }
-            put(count(patch.entries.len()), Part::Patch(number));
-            for (&[kind, first, second, third], entry) in patch.entries.iter().zip(1..) {
-                for number_of_it in [kind, first, second] {
-                    put(number_of_it, Part::Entry(number, entry));
-                }
-                if kind == 0 {
-                    put(third, Part::Entry(number, entry));
-                }
+            if kind == 0 {
+                put(third, Part::Entry(number, entry));
             }
         }
     }

@@ -14,7 +14,7 @@ use crate::sys::Examiner;
 /// edits are given as words, as [`Edits::words`](crate::Edits::words) has them and
 /// [`Edit::word`](crate::Edit::word) makes them; there may be any number of them.
 ///
-/// Patches before it are read and not resolved, and those behind it are not read.
+/// Patches before it are read and tested, but not resolved; those behind it are not read.
 ///
 /// # Errors
 ///

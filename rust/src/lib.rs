@@ -12,12 +12,14 @@
 //! lays out the frame, [`ParallelMoves::enough_slots`] says how many emergency slots
 //! are enough for a function. With a target's [`Prices`], [`ResolvedPatch::price`] and
 //! [`Edits::price`] say what an edge costs, and [`cheaper()`] chooses one of two lists of
-//! edits. [`try_settings`] compares one and two kept evictions on patches that it draws.
-//! [`examine`] says whether a list of edits from elsewhere does what a patch asks.
+//! edits; [`ParallelMoves::open_priced`] and [`priced_job`] refuse a price that is too high when
+//! the target is read. [`try_settings`] compares one and two kept evictions on patches that it
+//! draws of a function. [`examine`] says whether a list of edits from elsewhere does what a patch asks.
 //!
 //! A [`JobBuilder`] makes these bytes in the words of the trade, and says which register,
-//! class, value or entry is refused; [`write()`] and [`JobWriter`] make them of numbers, and
-//! [`text`] of a readable text, which it also prints of them. A [`Picture`] shows what stands
+//! class, value or entry is refused; [`write()`] and [`JobWriter`] make them of numbers,
+//! [`ParallelMoves::write_job`] of an opened function and its patches, and [`text`] of a readable
+//! text, which it also prints of them. A [`Picture`] shows what stands
 //! where at every stop of a patch, and [`Resolver::locate`] says where a job is refused. The
 //! program `parallel-moves` does all this on the command line, for many jobs at once.
 //!
@@ -85,7 +87,7 @@ pub use parallel_moves::{MOST_EDITS, ParallelMoves};
 pub use patch::Patch;
 pub use picture::Picture;
 pub use preview::{Preview, TakeError};
-pub use price::{Edge, Prices, cheaper};
+pub use price::{Edge, Prices, cheaper, priced_job};
 pub use reading::{Location, patch_count};
 pub use refusal::{Refusal, Unnamed};
 pub use resolver::Resolver;

@@ -5,6 +5,7 @@ use std::fmt;
 use crate::edit::Edits;
 use crate::patch::Patch;
 use crate::preview::{Preview, TakeError};
+use crate::price::Prices;
 use crate::refusal::Refusal;
 use crate::sys::{self, Opened, Tables};
 
@@ -65,12 +66,39 @@ impl ParallelMoves {
     /// [`Refusal::NoSuchSetting`], before all else, if `kept_evictions` is neither 1
     /// nor 2; the refusals 1 to 9. Any bytes can be given.
     pub fn open(kept_evictions: u32, target_and_function: &[u8]) -> Result<Self, Refusal> {
-        open(
-            Tables::new(),
-            Box::new([0; MOST_EDITS]),
-            kept_evictions,
-            target_and_function,
-        )
+        let opened = Tables::new().open(kept_evictions, target_and_function);
+        with_list(opened, Box::new([0; MOST_EDITS]))
+    }
+
+    /// As [`ParallelMoves::open`], of a target that has these prices.
+    ///
+    /// # Errors
+    ///
+    /// As [`ParallelMoves::open`], and [`Refusal::OutsidePrice`] if a price is above 65,535:
+    /// after the refusals 1 to 7 of the target, and before those of the function.
+    ///
+    /// ```
+    /// use parallel_moves::{ParallelMoves, Prices, Refusal};
+    ///
+    /// // One register; then a function whose one value is of bank 9.
+    /// let target = [1, 1, 3, 0, 1, 1, 0, 0, 1, 0, 2, 0, 1, 0, 0, 0, 0, 1, 0, 1, 0];
+    /// let bytes = [&target[..], &[1, 0, 0, 9, 0]].concat();
+    /// let open = |moves, bytes: &[u8]| {
+    ///     let prices = Prices { moves, remats: 6, spills: 16, reloads: 12 };
+    ///     ParallelMoves::open_priced(1, prices, bytes).err()
+    /// };
+    /// assert_eq!(open(65_536, &bytes), Some(Refusal::OutsidePrice));
+    /// assert_eq!(open(65_535, &bytes), Some(Refusal::NamesNothing));
+    /// assert_eq!(open(65_536, &bytes[..20]), Some(Refusal::NotANumber));
+    /// ```
+    pub fn open_priced(
+        kept_evictions: u32,
+        prices: Prices,
+        target_and_function: &[u8],
+    ) -> Result<Self, Refusal> {
+        let opened =
+            Tables::new().open_priced(kept_evictions, prices.numbers(), target_and_function);
+        with_list(opened, Box::new([0; MOST_EDITS]))
     }
 
     /// Opens another function in the same memory.
@@ -79,12 +107,27 @@ impl ParallelMoves {
     ///
     /// As [`ParallelMoves::open`]; the memory is then given up.
     pub fn reopen(self, kept_evictions: u32, target_and_function: &[u8]) -> Result<Self, Refusal> {
-        open(
-            self.tables.close(),
-            self.list,
-            kept_evictions,
-            target_and_function,
-        )
+        let opened = self
+            .tables
+            .close()
+            .open(kept_evictions, target_and_function);
+        with_list(opened, self.list)
+    }
+
+    /// Opens another function in the same memory, of a target that has these prices.
+    ///
+    /// # Errors
+    ///
+    /// As [`ParallelMoves::open_priced`]; the memory is then given up.
+    pub fn reopen_priced(
+        self,
+        kept_evictions: u32,
+        prices: Prices,
+        target_and_function: &[u8],
+    ) -> Result<Self, Refusal> {
+        let tables = self.tables.close();
+        let opened = tables.open_priced(kept_evictions, prices.numbers(), target_and_function);
+        with_list(opened, self.list)
     }
 
     /// The L to plan with: so many emergency slots are enough for a function,
@@ -267,13 +310,12 @@ impl ParallelMoves {
     }
 }
 
-fn open(
-    tables: Tables,
+/// An opened function with a list for its edits; or its refusal.
+fn with_list(
+    opened: Result<Opened, u8>,
     list: Box<[u64; MOST_EDITS]>,
-    kept_evictions: u32,
-    bytes: &[u8],
 ) -> Result<ParallelMoves, Refusal> {
-    match tables.open(kept_evictions, bytes) {
+    match opened {
         Ok(tables) => Ok(ParallelMoves { tables, list }),
         Err(number) => Err(Refusal::given(number)),
     }

@@ -8,7 +8,9 @@ use crate::sys;
 /// What an edit of each kind costs on a target, in quarter cycles: 0 to 65,535.
 ///
 /// Prices are given beside a job and are no part of its bytes. Any can be given; one
-/// above 65,535 is refused where they are used.
+/// above 65,535 is refused where they are used, and by
+/// [`ParallelMoves::open_priced`](crate::ParallelMoves::open_priced) and [`priced_job`] when
+/// the target is read to its end.
 #[derive(Clone, Copy, Debug, Default, PartialEq, Eq, Hash)]
 pub struct Prices {
     /// Of [`Edit::Move`](crate::Edit::Move), `M`.
@@ -82,6 +84,27 @@ impl<'a> Edits<'a> {
     pub fn cheaper(self, others: Edits<'a>, prices: Prices) -> Result<Edits<'a>, Refusal> {
         cheaper(self.words(), others.words(), prices).map(Edits::new)
     }
+}
+
+/// How many patches a whole job says that it has, of a target with these prices. The patches
+/// themselves are not read.
+///
+/// # Errors
+///
+/// As the opening of a job is refused: [`Refusal::NoSuchSetting`] before all else, the
+/// refusals 1 to 7 of the target, [`Refusal::OutsidePrice`] for a price above 65,535, and then
+/// those of the function and of the patch count.
+///
+/// ```
+/// use parallel_moves::{Prices, Refusal, priced_job};
+///
+/// let prices = |moves| Prices { moves, remats: 6, spills: 16, reloads: 12 };
+/// let job = std::fs::read("../examples/swap-full.job").unwrap();
+/// assert_eq!(priced_job(1, prices(65_535), &job), Ok(1));
+/// assert_eq!(priced_job(1, prices(65_536), &job), Err(Refusal::OutsidePrice));
+/// ```
+pub fn priced_job(kept_evictions: u32, prices: Prices, job: &[u8]) -> Result<u32, Refusal> {
+    sys::priced_job(kept_evictions, prices.numbers(), job).map_err(Refusal::given)
 }
 
 /// The cheaper of two lists of edits, as words ([`Edits::words`]): one of the two slices

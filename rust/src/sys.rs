@@ -18,7 +18,7 @@ mod tries;
 mod writing;
 
 pub(crate) use asking::Pending;
-pub(crate) use calls::enough_slots;
+pub(crate) use calls::{enough_slots, priced_job};
 pub(crate) use examine::Examiner;
 pub(crate) use frame::{OpenedFrame, PendingInFrame};
 pub(crate) use jobs::text;

@@ -6,9 +6,15 @@ use std::str::SplitWhitespace;
 
 use crate::entity::{Allocation, RegUnit, Value};
 use crate::sys::Tables;
-use crate::{Edit, MOST_EDITS, ParallelMoves, Patch, Preview, Refusal, TakeError};
+use crate::{Edit, MOST_EDITS, ParallelMoves, Patch, Preview, Prices, Refusal, TakeError};
 
 const CALLS: &str = include_str!("../tests/calls.txt");
+const DEAREST: Prices = Prices {
+    moves: 65_535,
+    remats: 65_535,
+    spills: 65_535,
+    reloads: 65_535,
+};
 
 /// A call, and what it should come to.
 enum Call {
@@ -84,7 +90,7 @@ fn patch(free: &[u32], numbers: &[u32]) -> Option<Patch> {
 
 #[test]
 fn recorded_calls() {
-    let mut moves = None;
+    let mut moves: Option<ParallelMoves> = None;
     let (mut all, mut refused, mut left_out) = (0, 0, 0);
     for (number, call) in calls().enumerate() {
         all += 1;
@@ -99,9 +105,17 @@ fn recorded_calls() {
                 let given = ParallelMoves::enough_slots(kept_evictions, &bytes);
                 let recorded = Refusal::of_number(refusal).map_or(Ok(enough), Err);
                 assert_eq!(given, recorded, "call {number}");
-                let opened = match moves.take() {
-                    None => ParallelMoves::open(kept_evictions, &bytes),
-                    Some(moves) => ParallelMoves::reopen(moves, kept_evictions, &bytes),
+                // Every second one with prices, which are in their range.
+                let prices = (number % 2 == 0).then_some(DEAREST);
+                let opened = match (moves.take(), prices) {
+                    (None, None) => ParallelMoves::open(kept_evictions, &bytes),
+                    (None, Some(prices)) => {
+                        ParallelMoves::open_priced(kept_evictions, prices, &bytes)
+                    }
+                    (Some(moves), None) => moves.reopen(kept_evictions, &bytes),
+                    (Some(moves), Some(prices)) => {
+                        moves.reopen_priced(kept_evictions, prices, &bytes)
+                    }
                 };
                 match opened {
                     Ok(opened) => {

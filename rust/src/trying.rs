@@ -8,14 +8,18 @@ use crate::sys;
 
 /// Draws patches of a function from a seed, and counts what becomes of them with one kept
 /// eviction and with two, in this order: each time from the same seed, and with no
-/// emergency slot made before. Of the job's own patches only their count is read.
-/// `docs/JOB.md` of the repository says how patches are drawn.
+/// emergency slot made before. `docs/JOB.md` of the repository says how patches are drawn.
+///
+/// The bytes are a target and a function, as for
+/// [`ParallelMoves::open`](crate::ParallelMoves::open), or a whole job of them, whose own
+/// patches are read and tested, but not resolved: what is counted is the same.
 ///
 /// # Errors
 ///
 /// [`Refusal::NamesNothing`], before all else, if `patches` is not from 1 to 1,024; then the
 /// refusals 1 to 7 of the target, [`Refusal::OutsidePrice`] for a price above 65,535, and
-/// the refusals of the function and of the patch count.
+/// the refusals of the function. If something stands behind it, then those of reading the job
+/// to its end, as of [`write`](crate::write()): 1 to 15, 21, and 8.
 ///
 /// ```
 /// use parallel_moves::{Prices, Refusal, try_settings};
@@ -28,6 +32,9 @@ use crate::sys;
 /// assert_eq!(one.refused(Refusal::SelfMove), 7_547);
 /// assert_eq!(one.refused(Refusal::WrittenTwice), 1_661);
 /// assert_eq!(one, two);
+/// // The same without the patch count and the patch.
+/// let function = &job[..job.len() - 11];
+/// assert_eq!(try_settings(function, prices, 0, 1024), Ok([one, two]));
 /// ```
 pub fn try_settings(
     job: &[u8],

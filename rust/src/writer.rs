@@ -1,7 +1,10 @@
-//! Jobs written from their numbers.
+//! Jobs written from their numbers, or of an opened function.
 
 use std::fmt;
 
+use crate::builder::each_number_of;
+use crate::parallel_moves::ParallelMoves;
+use crate::patch::Patch;
 use crate::refusal::Refusal;
 use crate::sys::WriterTables;
 
@@ -38,7 +41,7 @@ pub fn write(numbers: &[u32]) -> Result<Vec<u8>, Refusal> {
     JobWriter::new().write(numbers)
 }
 
-/// Writes jobs from their numbers.
+/// Writes jobs, from their numbers or of an opened function.
 ///
 /// It owns the memory that the work is done in, about a third of a megabyte, and uses
 /// it again from call to call. No call depends on the calls before it.
@@ -81,6 +84,67 @@ impl JobWriter {
             None => Ok(count),
             Some(refusal) => Err(refusal),
         }
+    }
+
+    /// As [`ParallelMoves::write_job`].
+    ///
+    /// # Errors
+    ///
+    /// As [`ParallelMoves::write_job`].
+    pub fn write_job(
+        &mut self,
+        moves: &ParallelMoves,
+        patches: &[Patch],
+    ) -> Result<Vec<u8>, Refusal> {
+        let mut numbers = Vec::new();
+        each_number_of(patches, |number, _| numbers.push(number));
+        let mut bytes = vec![0; MOST_BYTES];
+        let tables = &mut self.tables;
+        let (count, number) = tables.write_opened(&moves.tables, &numbers, &mut bytes);
+        match Refusal::of_number(number) {
+            None => {
+                bytes.truncate(count);
+                Ok(bytes)
+            }
+            Some(refusal) => Err(refusal),
+        }
+    }
+}
+
+impl ParallelMoves {
+    /// The bytes of a job of this target and function, with these patches. The function
+    /// stays as it is, and it does not matter what was resolved before: so the patches that
+    /// it was given can be kept, and given again as a job. Moves that reading would drop or
+    /// make a rebuild of are written as they are given. The number of kept evictions is no
+    /// part of a job.
+    ///
+    /// A [`JobWriter`] does the same many times over without new memory.
+    ///
+    /// # Errors
+    ///
+    /// The number that reading these bytes to their end would give: 2, before all else for
+    /// more than 65,536 bytes, then 3, 9 to 15 or 21; 2 for no patch or more than 1,024. Any
+    /// patches can be given. Resolving is another matter, as of [`write`](crate::write()).
+    ///
+    /// ```
+    /// use parallel_moves::{ParallelMoves, Patch, PhysReg, Refusal, Value};
+    ///
+    /// # fn main() -> Result<(), Refusal> {
+    /// let job = std::fs::read("../examples/swap-full.job").unwrap();
+    /// // All but its patch count and its patch.
+    /// let moves = ParallelMoves::open(1, &job[..job.len() - 11])?;
+    /// let [r0, r1] = [0, 1].map(PhysReg::new);
+    /// let mut swap = Patch::new();
+    /// swap.move_(r0, r1, Value::new(0)).move_(r1, r0, Value::new(1));
+    /// assert_eq!(moves.write_job(&[swap.clone()])?, job);
+    /// swap.move_(r0, r0, Value::new(0));
+    /// assert_eq!(moves.write_job(&[swap]), Err(Refusal::SelfMove));
+    /// assert_eq!(moves.write_job(&[]), Err(Refusal::NamesNothing));
+    /// # Ok(())
+    /// # }
+    /// ```
+    pub fn write_job(&self, patches: &[Patch]) -> Result<Vec<u8>, Refusal> {
+        JobWriter::new().write_job(self, patches)
     }
 }
 

@@ -4,7 +4,7 @@
 #[path = "examine/brute.rs"]
 mod brute;
 
-use parallel_moves::{Refusal, examine, examine_in, first_fault, text};
+use parallel_moves::{Refusal, Resolver, examine, examine_in, first_fault, text};
 
 /// Three registers and their classes; then what follows.
 fn three(rest: &str) -> Vec<u8> {
@@ -117,6 +117,71 @@ fn trials() {
             "{wrong}"
         );
     }
+}
+
+/// The patches before the one that is examined are tested and not resolved: each number of theirs
+/// comes first, 13 and 14 too, and 17 does not.
+#[test]
+fn behind_another_patch() {
+    let swap = plain(0, 1, SWAP);
+    // The patch count and the patch, of 11 bytes; all numbers are below 128.
+    let (opening, patch) = swap.split_at(swap.len() - 11);
+    let ours = words("M s0 r1 1, M r1 r0 0, M r0 s0 1");
+    let says = |opening: &[u8], first: &[u8], list: &[u64]| {
+        let job = [opening, &[2], first, &patch[1..]].concat();
+        let alone = examine_in(1, &job, 1, list);
+        let whole = examine(&job, 1, list);
+        assert_eq!(whole, alone);
+        // The same patch examined itself has the same number.
+        if let Err(refusal) = whole {
+            assert_eq!(examine(&job, 0, list), Err(refusal));
+        }
+        whole
+    };
+    let first = &patch[1..];
+    assert_eq!(says(opening, first, &ours), Ok(true));
+    assert_eq!(says(opening, first, &ours[1..]), Ok(false));
+    // Units 1 and 2 are free, and r1 is a destination.
+    let free = |unit| [&[1, unit], &first[1..]].concat();
+    assert_eq!(says(opening, &free(2), &ours), Ok(true));
+    assert_eq!(
+        says(opening, &free(1), &ours),
+        Err(Refusal::FreeDestination)
+    );
+    assert_eq!(says(opening, &free(1), &[0]), Err(Refusal::FreeDestination));
+    assert_eq!(
+        says(opening, &[0, 1, 0, 1, 1, 0], &ours),
+        Err(Refusal::SelfMove)
+    );
+    // Without an emergency slot the swap would get 17.
+    let no_slot = plain(0, 0, SWAP);
+    assert!(Resolver::new().answer(1, &no_slot).is_err());
+    let through = words("M r2 r1 1, M r1 r0 0, M r0 r2 1");
+    assert_eq!(says(&no_slot[..46], first, &through), Ok(false));
+    // r0 and r1 have a unit in common, and a value is rebuilt by a class of r0 and r2 that ends
+    // in r0: in r1 it cannot be.
+    let rebuilt = |first: &str| {
+        let text = format!(
+            "units 5\nbank b0 slots 2^4 top-level c0 stack c1\nregister r0 bank b0 units 0 1\n\
+             register r1 bank b0 units 1 2\nregister r2 bank b0 units 3 4\n\
+             class c0 bank b0 with-slots members r0 r1 r2 order r0 r1 r2\n\
+             class c1 bank b0 members r0 r1 r2 order r0 r1 r2\n\
+             class c2 bank b0 members r0 r2 order r2 r0\nslots 0\nemergency-slots 1\n\
+             value v0 bank b0 rebuilt cheaper-than-load by c2\npatch 1\n  rebuild v0 in {first}\n\
+             patch 2\n  rebuild v0 in r2\n"
+        );
+        let mut job = text::to_bytes(&text.replace("in r1", "in r0")).unwrap();
+        // The text would not say it: the destination of the first patch.
+        let dest = job.len() - 7;
+        job[dest] = code(first) as u8;
+        job
+    };
+    let list = words("R r2 0");
+    assert_eq!(examine(&rebuilt("r0"), 1, &list), Ok(true));
+    let refused = Err(Refusal::EvictsDestination);
+    assert_eq!(examine(&rebuilt("r1"), 0, &list), refused);
+    assert_eq!(examine(&rebuilt("r1"), 1, &list), refused);
+    assert_eq!(examine_in(1, &rebuilt("r1"), 1, &[0]), refused);
 }
 
 /// The tables of half a megabyte are on the heap: a thread with a small stack can examine, also

@@ -6,8 +6,8 @@ use std::thread;
 
 use common::{deep_chain, jobs, kept_evictions, many_swaps, printed, text, text_of};
 use parallel_moves::{
-    Answer, BuildError, Edit, JobBuilder, JobWriter, ParallelMoves, Patch, PhysReg, Refusal,
-    RefusedJob, Resolver, Value,
+    Answer, BuildError, Edit, JobBuilder, JobWriter, ParallelMoves, Patch, PhysReg, Prices,
+    Refusal, RefusedJob, Resolver, Value, priced_job,
 };
 
 /// The list of words is enlarged, and the answer is whole.
@@ -59,6 +59,34 @@ fn small_stack_of_writing() {
             .unwrap();
         assert_eq!(written, Ok(job));
     }
+}
+
+/// So do an opening with prices, a job's opening, and a job written of the opened function.
+#[test]
+fn small_stack_of_opening() {
+    let job = deep_chain();
+    let expected = job.clone();
+    let written = thread::Builder::new()
+        .stack_size(64 * 1024)
+        .spawn(move || {
+            let prices = Prices::default();
+            // Behind the function: the patch count, no free unit, 128 entries.
+            let function = (0..job.len()).rfind(|&end| {
+                let opened = ParallelMoves::open_priced(1, prices, &job[..end]);
+                opened.is_ok()
+            });
+            let moves = ParallelMoves::open_priced(1, prices, &job[..function?]).ok()?;
+            let mut patch = Patch::new();
+            for n in (0..128).rev() {
+                patch.move_(PhysReg::new(n), PhysReg::new(n + 1), Value::new(n));
+            }
+            assert_eq!(priced_job(1, prices, &job), Ok(1));
+            moves.write_job(&[patch]).ok()
+        })
+        .unwrap()
+        .join()
+        .unwrap();
+    assert_eq!(written, Some(expected));
 }
 
 /// After a long answer a short one is short.

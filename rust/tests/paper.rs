@@ -1,9 +1,10 @@
 //! What `docs/JOB.md` shows: its jobs have the answers that stand there, its table of
-//! stops is what the machine holds, and its patches cost what it says.
+//! stops is what the machine holds, and its patches cost what it says. And README names
+//! every crate.
 
 mod common;
 
-use std::collections::HashMap;
+use std::collections::{HashMap, HashSet};
 use std::fs;
 use std::io::Write;
 use std::process::{Command, Stdio};
@@ -199,4 +200,34 @@ fn printed(mut program: Command, given: &[&str], job: &[u8]) -> String {
     child.stdin.take().unwrap().write_all(job).unwrap();
     let output = child.wait_with_output().unwrap();
     String::from_utf8(output.stdout).unwrap()
+}
+
+/// Every crate stands in README's drawing, but those for C and Rust, which it names together, and in
+/// its table of layers; and no other does.
+#[test]
+fn every_crate_is_drawn() {
+    let readme = fs::read_to_string(root().join("README.md")).unwrap();
+    let is_name = |c: char| c.is_ascii_alphanumeric() || c == '_';
+    let drawing = blocks(&readme, "text")[0];
+    let drawn: HashSet<&str> = drawing.split(|c| !is_name(c)).collect();
+    let (_, layers) = readme.split_once("| crate | what it has |").unwrap();
+    let rows = layers.lines().take_while(|line| !line.is_empty());
+    let named = rows.filter_map(|row| row.split('|').nth(1));
+    let mut layered: Vec<&str> = named
+        .flat_map(|names| names.split('`').skip(1).step_by(2))
+        .collect();
+    let mut crates = Vec::new();
+    for folder in fs::read_dir(root().join("crates")).unwrap() {
+        let name = folder.unwrap().file_name().into_string().unwrap();
+        assert!(
+            name.ends_with("_c") || drawn.contains(&name[..]),
+            "{name} is not drawn"
+        );
+        crates.push(name);
+    }
+    crates.sort();
+    layered.sort();
+    assert_eq!(layered, crates);
+    let count = format!("{} crates are proved", crates.len());
+    assert!(readme.contains(&count), "{count}");
 }

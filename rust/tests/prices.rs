@@ -5,6 +5,7 @@ mod common;
 use common::jobs;
 use parallel_moves::{
     Allocation, ParallelMoves, Patch, PhysReg, Prices, Refusal, Resolver, Value, cheaper,
+    priced_job,
 };
 
 const PRICES: Prices = Prices {
@@ -84,6 +85,83 @@ fn ranges() {
         }
     }
     assert_eq!(Refusal::OutsidePrice.number(), 19);
+}
+
+/// Opened with prices: 19 comes after the target's 7, and before the function's first number;
+/// so it does of a whole job's opening, which tells how many patches there are.
+#[test]
+fn opened_with_prices() {
+    let too_dear = [0, 1, 2, 3].map(|index| {
+        let mut prices = [4, 6, 16, 12];
+        prices[index] = 65_536;
+        let [moves, remats, spills, reloads] = prices;
+        Prices {
+            moves,
+            remats,
+            spills,
+            reloads,
+        }
+    });
+    let dearest = Prices {
+        moves: 65_535,
+        remats: 65_535,
+        spills: 65_535,
+        reloads: 65_535,
+    };
+    let job = trial("swap-full");
+    // Its target, its function, and what follows them.
+    let (target, function) = (39, 46);
+    let opened = |kept: u32, prices: Prices, job: &[u8], function: usize| {
+        let again = ParallelMoves::open(1, &trial("swap-full")[..46]).unwrap();
+        let number = |refusal: Refusal| refusal.number();
+        let bytes = &job[..function];
+        let opened = ParallelMoves::open_priced(kept, prices, bytes).map(|moves| moves.made());
+        let reopened = again.reopen_priced(kept, prices, bytes);
+        assert_eq!(reopened.map(|moves| moves.made()), opened);
+        (
+            opened.map_or_else(number, |made| made as u8),
+            priced_job(kept, prices, job).map_err(number),
+        )
+    };
+    let mut unfit = job.clone();
+    // A top-level class without slots.
+    assert_eq!(std::mem::replace(&mut unfit[20], 0), 1);
+    let mut nowhere = job.clone();
+    // A bank that there is not, of the first value.
+    assert_eq!(std::mem::replace(&mut nowhere[42], 9), 0);
+    assert_eq!(opened(1, dearest, &job, function), (0, Ok(1)));
+    assert_eq!(opened(2, dearest, &job, function), (0, Ok(1)));
+    assert_eq!(opened(1, dearest, &unfit, function), (7, Err(7)));
+    assert_eq!(opened(1, dearest, &nowhere, function), (2, Err(2)));
+    assert_eq!(opened(1, dearest, &job[..target], target), (1, Err(1)));
+    for prices in too_dear {
+        assert_eq!(opened(1, prices, &job, function), (19, Err(19)));
+        assert_eq!(opened(3, prices, &job, function), (22, Err(22)));
+        assert_eq!(opened(1, prices, &unfit, function), (7, Err(7)));
+        assert_eq!(opened(1, prices, &nowhere, function), (19, Err(19)));
+        assert_eq!(opened(1, prices, &job[..target], target), (19, Err(19)));
+        assert_eq!(opened(1, prices, &job[..38], 38), (1, Err(1)));
+    }
+    // Of a function nothing is left over; of a job the count is read, and no patch.
+    assert_eq!(opened(1, dearest, &job, job.len()), (8, Ok(1)));
+    assert_eq!(priced_job(1, dearest, &job[..47]), Ok(1));
+    assert_eq!(priced_job(1, dearest, &job[..46]), Err(Refusal::NotANumber));
+    let none = [&job[..46], &[0]].concat();
+    assert_eq!(priced_job(1, dearest, &none), Err(Refusal::NamesNothing));
+}
+
+/// A function opened with prices answers as one without.
+#[test]
+fn the_same_edits() {
+    let job = trial("swap-full");
+    let [r0, r1] = [0, 1].map(PhysReg::new);
+    let mut swap = Patch::new();
+    swap.move_(r0, r1, Value::new(0))
+        .move_(r1, r0, Value::new(1));
+    let mut moves = ParallelMoves::open(1, &job[..46]).unwrap();
+    let mut priced = ParallelMoves::open_priced(1, PRICES, &job[..46]).unwrap();
+    assert_eq!(priced.resolve(&swap), moves.resolve(&swap));
+    assert_eq!((priced.made(), moves.made()), (1, 1));
 }
 
 /// Patch by patch: the edits of a call, and none.

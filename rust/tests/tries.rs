@@ -3,7 +3,7 @@
 mod common;
 
 use common::{encoded, jobs, numbers};
-use parallel_moves::{Prices, Refusal, Tally, try_settings};
+use parallel_moves::{JobBuilder, Prices, Refusal, Tally, try_settings, write};
 
 const PRICES: Prices = Prices {
     moves: 4,
@@ -141,8 +141,10 @@ fn refusals() {
     assert_eq!(refusal(target, too_dear, 1), 19);
     assert_eq!(refusal(target, dearest, 1), 1);
     assert_eq!(refusal(&job[..38], too_dear, 1), 1);
-    assert_eq!(refusal(function, dearest, 1), 1);
-    assert_eq!(refusal(&job[..47], dearest, 1), 0);
+    assert_eq!(refusal(&job[..45], dearest, 1), 1);
+    assert_eq!(refusal(function, too_dear, 1), 19);
+    assert_eq!(refusal(function, dearest, 1), 0);
+    assert_eq!(refusal(&job[..47], dearest, 1), 1);
     // A top-level class without slots.
     let mut unfit = job.clone();
     assert_eq!(unfit[20], 1);
@@ -169,21 +171,80 @@ fn refusals() {
     }
 }
 
-/// Of the patches of a job only their count is read, which is from 1 to 1,024.
+/// A target and a function alone are tried as a whole job of them is, whatever its patches.
 #[test]
-fn patches_are_not_read() {
+fn function_alone() {
     let job = swap_full();
-    let tried = |behind: &[u8]| {
-        let job = [&job[..46], behind].concat();
-        try_settings(&job, PRICES, 3, 50).map_err(Refusal::number)
-    };
     let whole = try_settings(&job, PRICES, 3, 50).unwrap();
-    assert_eq!(tried(&[1]).unwrap(), whole);
-    assert_eq!(tried(&[2, 255, 255, 255, 255, 255, 255]).unwrap(), whole);
-    assert_eq!(tried(&[]), Err(1));
-    assert_eq!(tried(&[0]), Err(2));
-    assert_eq!(tried(&[128, 8]).unwrap(), whole);
-    assert_eq!(tried(&[129, 8]), Err(2));
+    let empty = [1, 0, 0];
+    for behind in [&[][..], &empty, &[&[2, 0, 0][..], &job[47..]].concat()] {
+        let job = [&job[..46], behind].concat();
+        assert_eq!(try_settings(&job, PRICES, 3, 50).as_ref(), Ok(&whole));
+    }
+    for slots in [13, 29] {
+        // Behind the function one patch without entries.
+        let job = three_banks(slots);
+        let (function, patch) = job.split_at(job.len() - 3);
+        assert_eq!(patch, empty);
+        let whole = try_settings(&job, PRICES, 7, 300);
+        assert_eq!(try_settings(function, PRICES, 7, 300), whole);
+        assert!(whole.unwrap()[0].drawn() > 300);
+    }
+}
+
+/// The patches of a job are read to its end as the writer reads them, and not resolved: in the
+/// later of two every number but 16 and 17 comes.
+#[test]
+fn patches_are_read() {
+    let tried = |function: &[u8], behind: &str| {
+        let job = [function, &encoded(numbers(behind))].concat();
+        let written = JobBuilder::from_bytes(&job).map(|job| write(&job.numbers()));
+        let tried = try_settings(&job, PRICES, 3, 50).map_err(Refusal::number);
+        // The writer gives the same, where the bytes are numbers.
+        if let Ok(written) = written {
+            let written = written.map(drop).map_err(Refusal::number);
+            assert_eq!(tried.clone().map(drop), written, "{behind}");
+        }
+        tried.map_or_else(|number| number, |_| 0)
+    };
+    let job = swap_full();
+    let function = &job[..46];
+    assert_eq!(tried(function, "0"), 2);
+    assert_eq!(tried(function, "1025"), 2);
+    assert_eq!(tried(function, "1024"), 1);
+    assert_eq!(tried(function, "1 0 0 0"), 8);
+    let second = |patch: &str| tried(function, &format!("2 0 2 0 1 3 0 0 3 1 1 {patch}"));
+    for (patch, number) in [
+        ("0 0", 0),
+        ("0 1 0 1 3", 1),
+        ("1 3 0", 2),
+        ("0 1 2 1 3 0", 2),
+        ("2 1 1 0", 3),
+        ("0 1 0 1 1 0", 10),
+        ("0 1 1 3 0", 11),
+        ("0 2 0 1 3 0 0 5 3 1", 12),
+        ("1 1 1 0 1 3 0", 13),
+        ("0 0 0", 8),
+    ] {
+        assert_eq!(second(patch), number, "{patch}");
+    }
+    let many = format!("0 129 {}", "0 1 3 0 ".repeat(129));
+    assert_eq!(second(&many), 15);
+    // L = 0: the swap would get 17 when it is resolved, and the second patch is read.
+    let no_slot = [&job[..41], &[0], &job[42..46]].concat();
+    assert_eq!(tried(&no_slot, "1 0 2 0 1 3 0 0 3 1 1"), 0);
+    assert_eq!(tried(&no_slot, "2 0 2 0 1 3 0 0 3 1 1 0 1 0 1 1 0"), 10);
+    // r0 and r1 have a unit in common, and r0 is the last that the value's class can evict: 14.
+    let ends_in_r0 = "5 1 4 0 1 3 0 0 2 0 1 0 0 2 1 2 0 0 2 3 4 3 0 1 3 0 1 2 3 0 1 2 \
+         0 0 3 0 1 2 3 0 1 2 0 0 2 0 2 2 2 0 1 0 1 0 2 2";
+    let ends_in_r0 = encoded(numbers(ends_in_r0));
+    assert_eq!(tried(&ends_in_r0, "2 0 0 0 1 1 3 0"), 14);
+    assert_eq!(tried(&ends_in_r0, "2 0 0 0 1 1 5 0"), 0);
+    // Two banks: 9 for a register of the other, and 21 for a pair and its half.
+    let banks = three_banks(29);
+    let banks = &banks[..banks.len() - 3];
+    assert_eq!(tried(banks, "2 0 0 0 1 0 1 7 0"), 9);
+    assert_eq!(tried(banks, "2 0 0 0 2 0 13 0 2 0 15 2 2"), 21);
 }
 
 /// The shipped target, with N = 400 and L = 16, and for each bank b three plain values, one

@@ -4,7 +4,10 @@
 mod common;
 
 use common::{encoded, generated, jobs, numbers};
-use parallel_moves::{JobWriter, Refusal, Resolver, write};
+use parallel_moves::{
+    Allocation, JobWriter, ParallelMoves, Patch, PhysReg, Refusal, RegUnit, Resolver, SpillSlot,
+    Value, write,
+};
 
 /// Swap-full's target.
 const THREE: &str = "3 1 3 0 1 3 0 0 1 0 0 0 1 1 0 0 1 2 2 0 1 3 0 1 2 3 0 1 2 0 0 3 0 1 2 3 0 1 2";
@@ -179,6 +182,106 @@ fn the_longest_job() {
     assert_eq!(outcome(&one_more), 2);
     assert_eq!(with_room(&mut writer, &one_more, 0), Err(2));
     assert_eq!(with_room(&mut writer, &one_more, 70_000), Err(2));
+}
+
+/// The patches that numbers are, their count first; none where they cannot be told apart, or
+/// something is left over.
+fn patches(numbers: &[u32]) -> Option<Vec<Patch>> {
+    let mut rest = numbers.iter().copied();
+    let place = |code: u32| match code % 2 {
+        0 => Allocation::spillslot(SpillSlot::new(code as usize / 2)),
+        _ => Allocation::reg(PhysReg::new(code as usize / 2)),
+    };
+    let value = |number: u32| Value::new(number as usize);
+    let mut patches = Vec::new();
+    for _ in 0..rest.next()? {
+        let mut patch = Patch::new();
+        for _ in 0..rest.next()? {
+            patch.add_free_unit(RegUnit::new(rest.next()? as usize));
+        }
+        for _ in 0..rest.next()? {
+            match (rest.next()?, rest.next()?, rest.next()?) {
+                (0, source, dest) => {
+                    patch.add_move(place(source), place(dest), value(rest.next()?));
+                }
+                (1, dest, of) => patch.add_remat(place(dest), value(of)),
+                _ => return None,
+            }
+        }
+        patches.push(patch);
+    }
+    rest.next().is_none().then_some(patches)
+}
+
+/// A job written of its opened function and its patches: none where it has no such; else its
+/// bytes, or the number of the refusal.
+fn of_opened(writer: &mut JobWriter, job: &[u8]) -> Option<Result<Vec<u8>, Refusal>> {
+    let numbers = decoded(job)?;
+    let bytes = |count: usize| encoded(numbers[..count].iter().copied());
+    // Cut off before the function's end, and left over behind it.
+    let counts: Vec<usize> = (0..=numbers.len()).collect();
+    let function = *counts.get(counts.partition_point(|&count| {
+        let opened = ParallelMoves::open(1, &bytes(count));
+        opened.err() == Some(Refusal::NotANumber)
+    }))?;
+    let moves = ParallelMoves::open(2, &bytes(function)).ok()?;
+    let patches = patches(&numbers[function..])?;
+    let written = writer.write_job(&moves, &patches);
+    assert_eq!(moves.write_job(&patches), written);
+    Some(written)
+}
+
+/// Of an opened function each example has its very bytes, or the reader's number.
+#[test]
+fn of_opened_functions() {
+    let mut writer = JobWriter::new();
+    let (mut same, mut refused) = (0, 0);
+    for (name, job) in jobs("examples").into_iter().chain(jobs("compare/trials")) {
+        let Some(written) = of_opened(&mut writer, &job) else {
+            continue;
+        };
+        let numbers = decoded(&job).unwrap();
+        assert_eq!(written, write(&numbers), "{name}");
+        match written {
+            Ok(bytes) => {
+                assert_eq!(bytes, job, "{name}");
+                same += 1;
+            }
+            Err(_) => refused += 1,
+        }
+    }
+    assert!(same > 60 && refused > 10, "{same} {refused}");
+    let examples = jobs("examples");
+    let written = examples.iter().map(|(_, job)| of_opened(&mut writer, job));
+    let expected = examples.iter().map(|(_, job)| Some(Ok(job.clone())));
+    assert!(written.eq(expected));
+}
+
+/// What the function has resolved, or how it was opened, is no matter; and it stays as it was.
+#[test]
+fn of_a_function_in_use() {
+    let job = write(&all(&[THREE, TWO_VALUES, "1", SWAP])).unwrap();
+    let mut moves = ParallelMoves::open(1, &job[..46]).unwrap();
+    let swap = patches(&all(&["1", SWAP])).unwrap();
+    for made in [0, 1, 1] {
+        assert_eq!(moves.made(), made);
+        assert_eq!(moves.write_job(&swap).as_ref(), Ok(&job));
+        let edits: Vec<String> = moves
+            .resolve(&swap[0])
+            .unwrap()
+            .iter()
+            .map(|e| e.to_string())
+            .collect();
+        assert_eq!(edits, ["M s0 r1 1", "M r1 r0 0", "M r0 s0 1"]);
+    }
+    // None, as many as there may be, and one more.
+    let repeated = |count| vec![swap[0].clone(); count];
+    let longest = moves.write_job(&repeated(1024));
+    assert_eq!(longest.map(|job| job.len()), Ok(46 + 2 + 1024 * 10));
+    for count in [0, 1025] {
+        let written = moves.write_job(&repeated(count));
+        assert_eq!(written, Err(Refusal::NamesNothing));
+    }
 }
 
 /// A writer that has written other jobs writes as a new one does.

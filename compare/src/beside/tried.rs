@@ -6,15 +6,22 @@ use std::panic;
 use judge::number::Refused;
 use judge::prices;
 use judge::random::Random;
+use judge::reading::beginning;
 use judge::tries::{self, Asked, Counts};
 
 use crate::compare::{Difference, Outcome};
 use crate::ours::{NOT_TALLIED, Ours, TALLY};
 
 /// Compares what is counted of patches that are drawn, with a seed, a count of patches and
-/// prices that the seed decides, in range and not.
+/// prices that the seed decides, in range and not. Of one job in eight the function is given
+/// alone.
 pub fn compare(ours: &mut Ours, job: &[u8], seed: u64) -> Result<Outcome, Box<Difference>> {
-    let asked = asked(&mut Random::new(seed));
+    let mut random = Random::new(seed);
+    let asked = asked(&mut random);
+    let job = match random.below(8) {
+        0 => beginning(job).unwrap_or(job),
+        _ => job,
+    };
     let wrong = |what: String| {
         Box::new(Difference {
             what: format!("{asked:?}: {what}"),

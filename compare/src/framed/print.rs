@@ -35,6 +35,10 @@ fn printed(ours: &mut Ours, bytes: &[u8]) -> Result<String, String> {
     let limit = reader.number().map_err(|refused| broken(refused.0))?;
     let shares = read_list(&mut reader).map_err(broken)?;
     let mut refusal = ours.open(limit, &shares);
+    if refusal == 0 && shares.len() > 2 {
+        // The library takes up to 16; this is what the program says.
+        return Ok("more formulas than the two that this program takes\n".into());
+    }
     let mut rest = &bytes[reader.place()..];
     for &share in &shares {
         if refusal != 0 {
@@ -65,12 +69,13 @@ fn printed(ours: &mut Ours, bytes: &[u8]) -> Result<String, String> {
         let kind = reader.number().map_err(|refused| broken(refused.0))?;
         text += &format!("call {at} formula {}\n", formula + 1);
         if kind == 2 {
-            let refusal = left[formula]
+            let taken = left[formula]
                 .as_ref()
-                .map_or(20, |preview| ours.take(formula, preview));
-            text += &match refusal {
-                0 => "taken\n".into(),
-                number => format!("refused {number}\n"),
+                .map(|preview| ours.take(formula, preview));
+            text += &match taken {
+                None => "nothing to take\n".into(),
+                Some(0) => "taken\n".into(),
+                Some(number) => format!("refused {number}\n"),
             };
             continue;
         }

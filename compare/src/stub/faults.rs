@@ -7,7 +7,7 @@ use judge::number::Refused;
 use judge::plain::Slip;
 
 /// The faults, each in some answers only.
-const FAULTS: [&str; 72] = [
+const FAULTS: [&str; 74] = [
     "order",        // two edits change places in a patch with four or more
     "place",        // a copy into slot 3 goes to slot 1
     "made",         // a slot too many is counted from the second patch on
@@ -80,6 +80,8 @@ const FAULTS: [&str; 72] = [
     "try-price",    // 19 comes after the tests of the function
     "try-patches",  // 2 for the patch count comes after the tests of the job
     "try-set",      // a refused asking clears the counts
+    "try-alone",    // a function alone is refused by 1
+    "try-unread",   // what stands behind a function is not read
 ];
 
 /// The judge that stands behind the library's place.

@@ -2,7 +2,8 @@
 
 use std::slice;
 
-use judge::number::Refused;
+use judge::number::{NOT_A_NUMBER, Refused};
+use judge::reading::beginning;
 use judge::tries;
 
 use crate::faults::fault;
@@ -31,13 +32,21 @@ pub unsafe extern "C" fn parallel_moves_try(
     _marks: *mut u8,
     _carried: *mut u16,
 ) -> u8 {
-    let job = unsafe { slice::from_raw_parts(job, job_len) };
+    let mut job = unsafe { slice::from_raw_parts(job, job_len) };
+    let function = beginning(job);
+    let is_alone = function == Some(job);
+    if fault() == "try-unread" {
+        job = function.unwrap_or(job);
+    }
     let asked = tries::Asked {
         seed: seed.into(),
         patches: patches.into(),
         prices: prices.map(u64::from),
     };
     let mut tried = tries::tried(asked, job).map(|tried| tried.counts);
+    if fault() == "try-alone" && is_alone && tried.is_ok() {
+        tried = Err(NOT_A_NUMBER);
+    }
     let one_patch = tries::Asked {
         patches: 1,
         ..asked

@@ -4,7 +4,7 @@ use std::sync::atomic::Ordering;
 
 use super::{
     Carried, Diversions, EditBuffer, EmergencySpillSlotCache, Entries, Function, NEXT, Opened,
-    RegInfo, RegUnitSet, Slots, SparseMap, States, Tables, table,
+    Prices, RegInfo, RegUnitSet, Slots, SparseMap, States, Tables, table,
 };
 use crate::entity::RegUnit;
 
@@ -18,6 +18,28 @@ unsafe extern "C" {
         function: &mut Function,
         cache: &mut EmergencySpillSlotCache,
     ) -> u8;
+
+    #[link_name = "parallel_moves_open_priced_5"]
+    fn parallel_moves_open_priced(
+        kept_evictions: u32,
+        prices: &Prices,
+        bytes: *const u8,
+        bytes_length: usize,
+        target: &mut RegInfo,
+        function: &mut Function,
+        cache: &mut EmergencySpillSlotCache,
+    ) -> u8;
+
+    #[link_name = "parallel_moves_priced_job_5"]
+    fn parallel_moves_priced_job(
+        kept_evictions: u32,
+        prices: &Prices,
+        bytes: *const u8,
+        bytes_length: usize,
+        refusal: &mut u8,
+        target: &mut RegInfo,
+        function: &mut Function,
+    ) -> u32;
 
     #[link_name = "parallel_moves_enough_slots_5"]
     fn parallel_moves_enough_slots(
@@ -73,6 +95,33 @@ impl Tables {
                 &mut self.cache,
             )
         };
+        self.opened(refusal)
+    }
+
+    /// The same of a target with these prices.
+    pub(crate) fn open_priced(
+        mut self,
+        kept_evictions: u32,
+        prices: Prices,
+        bytes: &[u8],
+    ) -> Result<Opened, u8> {
+        // SAFETY: as in `open`; the prices are four numbers.
+        let refusal = unsafe {
+            parallel_moves_open_priced(
+                kept_evictions,
+                &prices,
+                bytes.as_ptr(),
+                bytes.len(),
+                &mut self.target,
+                &mut self.function,
+                &mut self.cache,
+            )
+        };
+        self.opened(refusal)
+    }
+
+    /// What an opening that answered so left in the tables.
+    fn opened(mut self, refusal: u8) -> Result<Opened, u8> {
         if refusal == 0 {
             self.position = 0;
             Ok(Opened(self, NEXT.fetch_add(1, Ordering::Relaxed)))
@@ -153,6 +202,30 @@ pub(crate) fn enough_slots(kept_evictions: u32, bytes: &[u8]) -> Result<u16, u8>
     };
     if refusal == 0 {
         Ok(enough)
+    } else {
+        Err(refusal)
+    }
+}
+
+/// How many patches a job says that it has, of a target with these prices; if its opening is
+/// refused, the number.
+pub(crate) fn priced_job(kept_evictions: u32, prices: Prices, job: &[u8]) -> Result<u32, u8> {
+    let mut refusal = 0;
+    // SAFETY: `job` is as long as the function is told, and each table has the length
+    // that it is declared with and is borrowed mutably. The function keeps no pointer.
+    let patches = unsafe {
+        parallel_moves_priced_job(
+            kept_evictions,
+            &prices,
+            job.as_ptr(),
+            job.len(),
+            &mut refusal,
+            &mut table(),
+            &mut table(),
+        )
+    };
+    if refusal == 0 {
+        Ok(patches)
     } else {
         Err(refusal)
     }

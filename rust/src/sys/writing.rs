@@ -1,6 +1,6 @@
 //! Jobs written: `job_writer_c`.
 
-use super::{Entries, Function, RegInfo, RegUnitSet, SparseMap, table};
+use super::{Entries, Function, Opened, RegInfo, RegUnitSet, SparseMap, table};
 
 /// The bytes of a job in the making.
 type Work = [u8; 65_536];
@@ -16,6 +16,23 @@ unsafe extern "C" {
         work: &mut Work,
         target: &mut RegInfo,
         function: &mut Function,
+        available: &mut RegUnitSet,
+        entries: &mut Entries,
+        writers: &mut SparseMap,
+    ) -> usize;
+
+    #[link_name = "parallel_moves_write_opened_5"]
+    fn parallel_moves_write_opened(
+        target: &RegInfo,
+        function: &Function,
+        numbers: *const u32,
+        numbers_length: usize,
+        bytes: *mut u8,
+        bytes_length: usize,
+        refusal: &mut u8,
+        work: &mut Work,
+        read_target: &mut RegInfo,
+        read_function: &mut Function,
         available: &mut RegUnitSet,
         entries: &mut Entries,
         writers: &mut SparseMap,
@@ -66,6 +83,39 @@ impl WriterTables {
         // function keeps no pointer.
         let count = unsafe {
             parallel_moves_write(
+                numbers.as_ptr(),
+                numbers.len(),
+                bytes.as_mut_ptr(),
+                bytes.len(),
+                &mut refusal,
+                &mut self.work,
+                &mut self.target,
+                &mut self.function,
+                &mut self.available,
+                &mut self.entries,
+                &mut self.writers,
+            )
+        };
+        (count, refusal)
+    }
+
+    /// The same of a job of an opened target and function, whose numbers from the patch
+    /// count on are given.
+    pub(crate) fn write_opened(
+        &mut self,
+        opened: &Opened,
+        numbers: &[u32],
+        bytes: &mut [u8],
+    ) -> (usize, u8) {
+        let Opened(tables, _) = opened;
+        let mut refusal = 0;
+        // SAFETY: target and function are as `open` left them when it did not refuse:
+        // `Tables` becomes `Opened` only there, and nothing else has them. For the rest as
+        // in `write`.
+        let count = unsafe {
+            parallel_moves_write_opened(
+                &tables.target,
+                &tables.function,
                 numbers.as_ptr(),
                 numbers.len(),
                 bytes.as_mut_ptr(),

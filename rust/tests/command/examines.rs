@@ -212,6 +212,24 @@ fn refused_answers() {
         said.contains("patch 1") && said.contains("refused 12: "),
         "{said}"
     );
+    // A patch that is refused once it is read: of unit 1, which is a destination's, 13 comes of
+    // the patches behind it, too.
+    let free = Path::new(env!("CARGO_TARGET_TMPDIR")).join("free.job");
+    let mut job = fs::read(three_swaps("three-free.job")).unwrap();
+    let second = job.len() - 20;
+    job.splice(second..=second, [1, 1]);
+    fs::write(&free, job).unwrap();
+    let answer = ["", "patch\n", "patch\n"].map(|head| format!("{head}{}", &OURS[23..]));
+    is(
+        free.to_str().unwrap(),
+        &answer.concat(),
+        "patch 1 yes\npatch 2 13\npatch 3 13\n",
+        &[
+            "patch 2: byte 58: patch 2, free unit 1: refused 13: ",
+            "patch 3: byte 58: patch 2, free unit 1: refused 13: ",
+        ],
+        1,
+    );
     is(UNFIT, "", "", &["byte 11: class 0: refused 7: "], 1);
     is(
         UNFIT,

@@ -1,6 +1,7 @@
 //! The programs `price_job` and `try_settings` beside the commands.
 
-use std::fs::File;
+use std::fs::{self, File};
+use std::path::Path;
 use std::process::Command;
 
 use crate::common::{jobs, options, root};
@@ -80,7 +81,15 @@ fn price_job_prints_the_same() {
     ];
     let refused = refused.map(|name| format!("{name}.job"));
     let refused = refused.iter().map(|file| &file[..]);
-    for file in refused.chain([SWAP, UNFIT, "examples/enough-two-sizes.job"]) {
+    // A second patch that goes from r0 to r0: the first one's price is printed all the same.
+    let swap = fs::read(root().join(SWAP)).unwrap();
+    let second = [&swap[..46], &[2], &swap[47..], &[0, 1, 0, 1, 1, 0]].concat();
+    let path = Path::new(env!("CARGO_TARGET_TMPDIR")).join("second.job");
+    fs::write(&path, second).unwrap();
+    let second = path.to_str().unwrap();
+    let prices = printed("price_job", second, "1 4 6 16 12");
+    assert_eq!(prices, "patch 1 edits 3 total 12\nrefused 10\n");
+    for file in refused.chain([second, SWAP, UNFIT, "examples/enough-two-sizes.job"]) {
         for kept in ["1", "2", "0"] {
             for words in [
                 "4 6 16 12",
@@ -108,6 +117,28 @@ fn try_settings_prints_the_same() {
         tried += u32::from(same("try_settings", "try", &file, "7 30 4 6 16 12"));
     }
     assert!(tried > 50, "{tried}");
+    // A function alone, and jobs that are refused behind it, which a reader sees.
+    let swap = fs::read(root().join(SWAP)).unwrap();
+    let path = Path::new(env!("CARGO_TARGET_TMPDIR")).join("behind.job");
+    let behind = |bytes: &[u8]| {
+        fs::write(&path, bytes).unwrap();
+        same(
+            "try_settings",
+            "try",
+            path.to_str().unwrap(),
+            "7 30 4 6 16 12",
+        )
+    };
+    assert!(behind(&swap[..46]));
+    assert!(behind(&swap));
+    // A function, a job and an entry cut off; a byte left over; a second patch that goes from r0
+    // to r0.
+    assert!(!behind(&swap[..45]));
+    assert!(!behind(&swap[..47]));
+    assert!(!behind(&swap[..56]));
+    assert!(!behind(&[&swap[..], &[0]].concat()));
+    let again = [&swap[..46], &[2], &swap[47..], &[0, 1, 0, 1, 1, 0]].concat();
+    assert!(!behind(&again));
     for words in [
         "0 1024 4 6 16 12",
         "4294967295 10 1 2 3 65535",

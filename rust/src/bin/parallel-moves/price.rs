@@ -1,8 +1,8 @@
 //! `parallel-moves price`.
 
-use parallel_moves::{Refusal, Resolver, patch_count, try_settings};
+use parallel_moves::{Refusal, Resolver, priced_job};
 
-use crate::command::{Command, Each, Failure, Outcome, Run, located, refused};
+use crate::command::{Command, Each, Failure, Outcome, Run, located};
 use crate::given::{Given, KEPT, Opt, PRICES};
 use crate::jobs::Kind;
 
@@ -31,24 +31,23 @@ pub const COMMAND: Command = Command {
 fn run(given: &Given, resolver: &mut Resolver, job: &[u8]) -> Outcome {
     let (kept, prices) = (given.kept(), given.prices()?);
     let runs: Vec<u64> = given.list(&RUNS, u64::MAX);
-    // 22 comes first, and is left to the answer.
-    if (1..=2).contains(&kept) {
-        // 19 comes after the target's refusals, and before those of the function.
-        if let Err(refusal) = try_settings(job, prices, 0, 1) {
+    // 19 comes after the target's refusals, and before those of the function.
+    let patches = match priced_job(kept, prices, job) {
+        Ok(patches) => patches as usize,
+        Err(refusal) => {
             let why = match refusal {
                 Refusal::OutsidePrice => given.outside(&PRICES, refusal),
                 _ => located(resolver, kept, job, refusal),
             };
             return Err(refused_at(String::new(), refusal, why));
         }
-        // Then 2 for the run counts, before a patch is looked at.
-        let patches = patch_count(job).map_err(refused)? as usize;
-        if !runs.is_empty() && runs.len() != patches {
-            let (runs, patches) = (counted(runs.len(), "run count"), counted(patches, "patch"));
-            let refusal = Refusal::NamesNothing;
-            let why = format!("refused {}: {runs} for {patches}", refusal.number());
-            return Err(refused_at(String::new(), refusal, why));
-        }
+    };
+    // Then 2 for the run counts, before a patch is looked at.
+    if !runs.is_empty() && runs.len() != patches {
+        let (runs, patches) = (counted(runs.len(), "run count"), counted(patches, "patch"));
+        let refusal = Refusal::NamesNothing;
+        let why = format!("refused {}: {runs} for {patches}", refusal.number());
+        return Err(refused_at(String::new(), refusal, why));
     }
     let answered = resolver.answer(kept, job);
     let answer = match &answered {

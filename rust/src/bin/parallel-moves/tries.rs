@@ -26,7 +26,8 @@ pub const COMMAND: Command = Command {
     options: &[SEED, PATCHES, PRICES],
     about: &[
         "Draws patches of a job's function from a seed, and prints what becomes of them",
-        "with one kept eviction and with two, as the program `try_settings` does.",
+        "with one kept eviction and with two, as the program `try_settings` does. JOB may",
+        "end behind its function; else its own patches are read, and not resolved.",
     ],
     run: Run::Each(Each {
         kind: Kind::Job,
