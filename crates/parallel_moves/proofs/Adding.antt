@@ -25,7 +25,7 @@ use Rattle.parallel_moves.specs.declared.Resolved as R
 use Rattle.parallel_moves.specs.declared.Resolved.{Resolved}
 use Rattle.parallel_moves.specs.Given.{nothingNamed, entryOf, entriesOf, withMade, Numbered, Built}
 use Rattle.parallel_moves.specs.Answers.{answerGranted, GivesGranted, ResolvesGranted, Asks, AsksGranted}
-use Rattle.parallel_moves.specs.Steps.{AllAdded}
+use Rattle.parallel_moves.specs.Steps.{ifNone, addedUntil, AllAdded}
 use Rattle.parallel_moves.proofs.First.{first-append, first-within, built-within}
 
 -- an entry by its first number
@@ -62,6 +62,15 @@ short (x ∷ y ∷ z ∷ u ∷ l) a b = absurd (omega arith)
 
 -- one entry added or refused, before others
 module _ (t f e w e′ w′ : List ℕ) (x : Entry) (l : List Entry) where
+  -- what they become up to the first that is refused
+  until-added : AddedAs t f e w e′ w′ x none → addedUntil (T t) (functionOf f) (x ∷ l) (sortedOf e) ≡ addedUntil (T t) (functionOf f) l (sortedOf e′)
+  unfolding addedUntil
+  until-added one = let y = one .yes refl in rw (← one .is, y .0)
+
+  until-refused : (n : ℕ) → AddedAs t f e w e′ w′ x (some n) → sortedOf e′ ≡ addedUntil (T t) (functionOf f) (x ∷ l) (sortedOf e)
+  unfolding addedUntil
+  until-refused n one = rw (← one .is) (one .no n refl .0)
+
   one-added : AddedAs t f e w e′ w′ x none
       → (firstOf (entriesConditions (T t) (functionOf f) (x ∷ l) (sortedOf e)) ≡ firstOf (entriesConditions (T t) (functionOf f) l (sortedOf e′)))
       × (sortedFrom (T t) (functionOf f) (x ∷ l) (sortedOf e) ≡ sortedFrom (T t) (functionOf f) l (sortedOf e′))
@@ -78,10 +87,11 @@ module _ (t f e : List ℕ) (numbers : List ℕ) where
     pub ok : EntriesOk t f e′ w′
     pub first : firstOf (entriesConditions (T t) (functionOf f) (entriesOf numbers) (sortedOf e)) ≡ firstOf (entriesConditions (T t) (functionOf f) (entriesOf (drop at numbers)) (sortedOf e′))
     pub became : sortedFrom (T t) (functionOf f) (entriesOf numbers) (sortedOf e) ≡ sortedFrom (T t) (functionOf f) (entriesOf (drop at numbers)) (sortedOf e′)
+    pub until : addedUntil (T t) (functionOf f) (entriesOf numbers) (sortedOf e) ≡ addedUntil (T t) (functionOf f) (entriesOf (drop at numbers)) (sortedOf e′)
     pub within : at + left ≡ length numbers
 
   pub adding-start : (w : List ℕ) → EntriesOk t f e w → Adding e w 0 (length numbers)
-  adding-start w ok = record { ok = ok; first = refl; became = refl; within = omega arith }
+  adding-start w ok = record { ok = ok; first = refl; became = refl; until = refl; within = omega arith }
 
   module _ (e′ w′ : List ℕ) (at left : ℕ) (h : Adding e′ w′ at left) where
     abbrev entry : Entry
@@ -92,14 +102,15 @@ module _ (t f e : List ℕ) (numbers : List ℕ) where
 
     -- no entry is left
     ended : entriesOf (drop at numbers) ≡ [] → AllAdded t f e e′ w′ (entriesOf numbers) none
-    unfolding entriesConditions sortedFrom firstOf
-    ended none-left = record { is = sym (h .first ∙ rw none-left); yes = λ _. sym (h .became ∙ rw none-left); ok = h .ok }
+    unfolding entriesConditions sortedFrom firstOf addedUntil
+    ended none-left = record { is = sym (h .first ∙ rw none-left); until = sym (h .until ∙ rw none-left); yes = λ _. sym (h .became ∙ rw none-left); ok = h .ok }
 
     -- the first of those left is refused
     stopped : (n : ℕ) (e″ w″ : List ℕ) (x : Entry) (l : List Entry) → entriesOf (drop at numbers) ≡ x ∷ l → AddedAs t f e′ w′ e″ w″ x (some n) → AllAdded t f e e″ w″ (entriesOf numbers) (some n)
     stopped n e″ w″ x l is one =
         record {
           is = one-refused t f e′ w′ e″ w″ x l n one ∙ sym (h .first ∙ rw is);
+          until = until-refused t f e′ w′ e″ w″ x l n one ∙ sym (h .until ∙ rw is);
           yes = λ q. absurd (let z : _≡_ {A = ℕ} 0 1 = cc in omega arith);
           ok = same-tables e″ w″ n x one;
         }
@@ -112,6 +123,7 @@ module _ (t f e : List ℕ) (numbers : List ℕ) where
           ok = one .yes refl .1;
           first = h .first ∙ rw is (y .0);
           became = h .became ∙ rw is (y .1);
+          until = h .until ∙ rw is (until-added t f e′ w′ e″ w″ entry (entriesOf (drop (at + 4) numbers)) one);
           within = omega (arith, h .within);
         }
 
@@ -126,11 +138,12 @@ module _ (t f e : List ℕ) (numbers : List ℕ) where
     left-over a b = let n : length (drop at numbers) ≡ left = omega (arith, length-drop at numbers, h .within) in short (drop at numbers) (omega arith) (omega arith)
 
     pub adding-short : (e″ w″ : List ℕ) (r : Option ℕ) → left < 4 → 0 < left → AddedAs t f e′ w′ e″ w″ nothingNamed r → AllAdded t f e e″ w″ (entriesOf numbers) r
-    unfolding entriesConditions sortedFrom firstOf
+    unfolding entriesConditions sortedFrom firstOf addedUntil
     adding-short e″ w″ none a b one =
         let y = one-added t f e′ w′ e″ w″ nothingNamed [] one in
         record {
           is = sym (h .first ∙ rw (left-over a b) (y .0));
+          until = sym (h .until ∙ rw (left-over a b) (until-added t f e′ w′ e″ w″ nothingNamed [] one));
           yes = λ _. sym (h .became ∙ rw (left-over a b) (y .1));
           ok = one .yes refl .1;
         }

@@ -2,14 +2,16 @@
 use Prim.Native.Nat.{ℕ, _<_, _≤_}
 use mathlib.Core.Path.{_≡_}
 use mathlib.Core.Bool.{Bool}
-use mathlib.Core.List.{List, _++_}
+use mathlib.Core.List.{List, [], _∷_, _++_}
 use mathlib.Core.Option.{Option, none, some}
 use lib.ListN.{length, drop}
 use Rattle.entity.specs.Logic.{has}
+use Rattle.reginfo.specs.RegInfo.{RegInfo}
 use Rattle.reginfo.specs.Refused.{firstOf}
+use Rattle.function.specs.Function.{Function}
 use Rattle.function.specs.Table.{functionOf}
 use Rattle.small_set.specs.Set.{setOf}
-use Rattle.rules.specs.Patch.{Entry, Patch, sortedFrom, run}
+use Rattle.rules.specs.Patch.{Entry, Patch, Sorted, entryConditions, add, sortedFrom, run}
 use Rattle.rules.specs.Refusals.{entriesConditions}
 use Rattle.edit.specs.Buffer.{countOf, wordsOf}
 use Rattle.slots.specs.Stacks.{cacheOf, stampOf, metOf, stacksOf, SlotsFit, Untouched}
@@ -49,8 +51,20 @@ pub record Shown (limit : ℕ) (cache list : List ℕ) (k : ScratchAllocator) (e
   pub within : madeOf k ≤ limit
       → (r ≡ A.the-variants.Ready (countOf edits) (record { made = madeOf k; position = metOf slots; stamp = stampOf cache })) × (list′ ≡ wordsOf edits ++ drop (countOf edits) list)
 
--- entries added one after the other: the number of the first that is refused; where none is, the table holds what they became
+-- the one where there is no number, else the other
+abbrev pub ifNone : {A : Type 0} → Option ℕ → A → A → A
+ifNone none x y = x
+ifNone (some n) x y = y
+
+-- what entries become one after the other, up to the first that is refused
+unfoldable pub addedUntil : RegInfo → Function → List Entry → Sorted → Sorted
+addedUntil t f [] a = a
+addedUntil t f (x ∷ l) a = ifNone (firstOf (entryConditions t f a x)) (addedUntil t f l (add t f x a)) a
+
+-- entries added one after the other: the number of the first that is refused, and the table holds what those before it became; where none is, it
+-- holds what all became
 pub record AllAdded (t f e e′ w′ : List ℕ) (l : List Entry) (r : Option ℕ) : Type 0 where
   pub is : r ≡ firstOf (entriesConditions (T t) (functionOf f) l (sortedOf e))
+  pub until : sortedOf e′ ≡ addedUntil (T t) (functionOf f) l (sortedOf e)
   pub yes : r ≡ none → sortedOf e′ ≡ sortedFrom (T t) (functionOf f) l (sortedOf e)
   pub ok : EntriesOk t f e′ w′
