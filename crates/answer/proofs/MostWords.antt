@@ -11,7 +11,7 @@ use Rattle.entity.specs.Logic.{and}
 use Rattle.entity.proofs.Laws.{and-true}
 use Rattle.reginfo.specs.RegInfo.{RegInfo}
 use Rattle.reginfo.specs.Refused as target
-use Rattle.reginfo.specs.Refused.{cond, firstOf, targetRefusal}
+use Rattle.reginfo.specs.Refused.{refusedIf, firstOf, targetRefusal}
 use Rattle.function.specs.Function.{Function}
 use Rattle.function.specs.Refused as function
 use Rattle.rules.specs.Scratch.{Cache, emptyCache}
@@ -37,7 +37,7 @@ module _ (t : RegInfo) (f : Function) where
   enough : (p : Patch) (room : ℕ) (c : Cache) → bound (sorted t f p) ≤ room
       → resolve t f p room c
       ≡ unlessRefused (firstOf (entriesConditions t f (p .entries) nothingSorted))
-      (unlessRefused (firstOf (cond 13 (freeDestination t f p (sorted t f p)) ∷ cond 14 (lastOverlaps t f (sorted t f p)) ∷ cond 16 false ∷ [])) (answerOf (run t f p (sorted t f p) c)))
+      (unlessRefused (firstOf (refusedIf 13 (freeDestination t f p (sorted t f p)) ∷ refusedIf 14 (lastOverlaps t f (sorted t f p)) ∷ refusedIf 16 false ∷ [])) (answerOf (run t f p (sorted t f p) c)))
   unfolding resolveSorted patchConditions
   enough p room c h = resolve-first t f p room c ∙ rw (le-ltb room (bound (sorted t f p)) h)
 

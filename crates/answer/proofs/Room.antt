@@ -11,7 +11,7 @@ use lib.Dec.{ltb}
 use lib.ListN.{length}
 use Rattle.entity.specs.Logic.{indices}
 use Rattle.reginfo.specs.RegInfo.{RegInfo}
-use Rattle.reginfo.specs.Refused.{Condition, cond, firstOf}
+use Rattle.reginfo.specs.Refused.{Condition, refusedIf, firstOf}
 use Rattle.reginfo.specs.Given.{Given, NoneHolds}
 use Rattle.reginfo.proofs.First.{first-none, none-first, given-first, first-given}
 use Rattle.function.specs.Function.{Function}
@@ -46,8 +46,8 @@ headless-number (refused k) = refl
 headless-number (resolved es c n) = refl
 
 sixteen : (o : Option ℕ) (b13 b14 b16 b17 : Bool) → (o ≡ none → b16 ≡ false → b17 ≡ false)
-    → orThen o (firstOf (cond 13 b13 ∷ cond 14 b14 ∷ cond 16 true ∷ cond 17 b17 ∷ []))
-    ≡ orThen (orThen o (firstOf (cond 13 b13 ∷ cond 14 b14 ∷ cond 16 b16 ∷ cond 17 b17 ∷ []))) (some 16)
+    → orThen o (firstOf (refusedIf 13 b13 ∷ refusedIf 14 b14 ∷ refusedIf 16 true ∷ refusedIf 17 b17 ∷ []))
+    ≡ orThen (orThen o (firstOf (refusedIf 13 b13 ∷ refusedIf 14 b14 ∷ refusedIf 16 b16 ∷ refusedIf 17 b17 ∷ []))) (some 16)
 unfolding firstOf
 sixteen (some k) b13 b14 b16 b17 h = refl
 sixteen none true b14 b16 b17 h = refl

@@ -7,7 +7,7 @@ use mathlib.Core.Logic.{_↔_}
 use lib.Dec.{ltb}
 use lib.ListN.{length}
 use Rattle.reginfo.specs.RegInfo.{RegInfo}
-use Rattle.reginfo.specs.Refused.{Condition, cond}
+use Rattle.reginfo.specs.Refused.{Condition, refusedIf}
 use Rattle.reginfo.specs.Given.{Given, NoneHolds}
 use Rattle.function.specs.Function.{Function}
 use Rattle.rules.specs.Edit.{Edit}
@@ -45,10 +45,10 @@ module _ (out : Out) (t : RegInfo) (f : Function) where
   unfoldable pub conditionsIn : Patch → (left : ℕ) → Cache → List Condition
   conditionsIn p left c =
       entriesConditions t f (p .entries) nothingSorted
-      ++ (cond 13 (freeDestination t f p (sorted t f p))
-      ∷ cond 14 (lastOverlaps t f (sorted t f p))
-      ∷ cond 16 (ltb left (1 + bound (sorted t f p)))
-      ∷ cond 17 (out t f p c)
+      ++ (refusedIf 13 (freeDestination t f p (sorted t f p))
+      ∷ refusedIf 14 (lastOverlaps t f (sorted t f p))
+      ∷ refusedIf 16 (ltb left (1 + bound (sorted t f p)))
+      ∷ refusedIf 17 (out t f p c)
       ∷ [])
 
 -- "Each is given when its condition holds and none earlier does, else not."
@@ -66,8 +66,8 @@ jobInBy by room kept l = afterRead (opening kept l) (λ h r. patchesIn by (h .ta
 abbrev pub jobIn : (room kept : ℕ) → List ℕ → Answers
 jobIn room kept l = jobInBy resolve room kept l
 
--- as many words are enough for every job: "a move has at least 4 bytes of the job and at most 8 edits, a rebuild 3 and 5, and there are 1,024
--- patches" (c/parallel_moves.h), each with its head
+-- as many words are enough for every job: a move has at least 4 bytes of the job and at most 8 edits, a rebuild 3 and 5, and there are 1,024
+-- patches (c/parallel_moves.h), each with its head
 abbrev pub mostWords : ℕ
 mostWords = 2 * 65536 + 1024
 

@@ -7,7 +7,7 @@ use mathlib.Core.Option.{Option, none, some}
 use native.Mathlib.Omega.{arith}
 use Rattle.reginfo.specs.RegInfo.{RegInfo}
 use Rattle.reginfo.specs.Refused as target
-use Rattle.reginfo.specs.Refused.{cond, firstOf}
+use Rattle.reginfo.specs.Refused.{refusedIf, firstOf}
 use Rattle.function.specs.Function.{Function}
 use Rattle.rules.specs.Scratch.{Cache, ScratchAllocator}
 use Rattle.rules.specs.Patch.{Patch, nothingSorted, sorted, bound, patchConditions, run}
@@ -34,7 +34,7 @@ module _ (t : RegInfo) (f : Function) where
   unfolding groupConditions
   groups-exact ta p room c =
       let r = group-refusals t f ta p room c in
-      ap firstOf (sym (append-assoc (entriesConditions t f (p .entries) nothingSorted) (patchConditions t f p room (sorted t f p)) (cond 17 (groupsOut t f p c) ∷ [])))
+      ap firstOf (sym (append-assoc (entriesConditions t f (p .entries) nothingSorted) (patchConditions t f p room (sorted t f p)) (refusedIf 17 (groupsOut t f p c) ∷ [])))
       ∙ first-is (groupConditions t f p room c) (resolveByGroups t f p room c) (λ n. r .given n .0) (r .taken .0)
 
   -- the groups' bounds add up to the patch's

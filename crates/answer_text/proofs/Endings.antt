@@ -9,7 +9,7 @@ use borrow.Author.Tests.{eq-eqb, ne-eqb}
 use lib.Dec.{eqb}
 use lib.ListN.{length, take}
 use lib.Seq.{take-append-le, take-append-add}
-use Rattle.entity.specs.Logic.{pick, no, all}
+use Rattle.entity.specs.Logic.{pick, no, allIn}
 use Rattle.entity.specs.Place.{Place, reg, slot}
 use Rattle.entity.proofs.Laws.{and-true}
 use Rattle.rules.specs.Edit.{Edit, Move, Rematerialize, EmergencySpill, EmergencyReload}
@@ -42,40 +42,40 @@ unfolding decimal
 decimal-line {l} x o = rw (append-assoc (digitsOf x (x / 10)) ((48 + x % 10) ∷ []) l) (digits-line x (x / 10) (more (λ e. omega arith) o))
 
 abbrev noNewline : List ℕ → Bool
-noNewline d = all (λ b. no (eqb b 10)) d
+noNewline d = allIn (λ b. no (eqb b 10)) d
 
 other : (b : ℕ) → no (eqb b 10) ≡ true → b ≡ 10 → ⊥
 other b h e = false≢true (rw (eq-eqb b 10 e) at h)
 
 word-line : {l : List ℕ} (d : List ℕ) → noNewline d ≡ true → OneLine l → OneLine (d ++ l)
-unfolding all
+unfolding allIn
 word-line [] h o = o
 word-line (b ∷ d) h o = let a = and-true (no (eqb b 10)) (noNewline d) h in more (other b (a .0)) (word-line d (a .1) o)
 
 space : {l : List ℕ} → OneLine l → OneLine (32 ∷ l)
-unfolding all
+unfolding allIn
 space o = word-line (32 ∷ []) refl o
 
 place-line : {l : List ℕ} (p : Place) → OneLine l → OneLine (placeText p ++ l)
-unfolding all placeText
+unfolding allIn placeText
 place-line (reg r) o = word-line (114 ∷ []) refl (decimal-line r o)
 place-line (slot s) o = word-line (115 ∷ []) refl (decimal-line s o)
 
 edit-line : (e : Edit) → OneLine (editLine e)
-unfolding all
+unfolding allIn
 edit-line (Move to from v) = word-line (77 ∷ 32 ∷ []) refl (place-line to (space (place-line from (space (decimal-line v end)))))
 edit-line (Rematerialize to v) = word-line (82 ∷ 32 ∷ []) refl (place-line to (space (decimal-line v end)))
 edit-line (EmergencySpill s r) = word-line (83 ∷ 32 ∷ []) refl (place-line (slot s) (space (place-line (reg r) end)))
 edit-line (EmergencyReload r s) = word-line (76 ∷ 32 ∷ []) refl (place-line (reg r) (space (place-line (slot s) end)))
 
 patch-line : (k count made : ℕ) → OneLine (patchLine k count made)
-unfolding all
+unfolding allIn
 patch-line k count made =
     word-line patchWord refl (space (decimal-line k (space (word-line editsWord refl
     (space (decimal-line count (space (word-line madeWord refl (space (decimal-line made end))))))))))
 
 refused-line : (number : ℕ) → OneLine (refusedLine number)
-unfolding all
+unfolding allIn
 refused-line number = word-line refusedWord refl (space (decimal-line number end))
 
 edit-or-none : (o : Option Edit) → AtMostOne (lineOf o)

@@ -29,7 +29,8 @@ patchOf free numbers = record { free = free; entries = entriesOf numbers }
 unfoldable pub callOf : RegInfo → Function → List ℕ → List ℕ → ℕ → Cache → Answer
 callOf t f free numbers room c = unlessRefused (freeRefusal (t .units) free) (resolve t f (patchOf free numbers) room c)
 
--- free units as a set: the number of the first that is refused; where none is, the set has these and no other
+-- free units as a set: the number of the first that is refused, and then the set, which is worked in, holds anything; where none is, it has these
+-- and no other
 pub record FreeTaken (units : ℕ) (us : List ℕ) (r : Option ℕ) (set : List Bool) : Type 0 where
   pub is : r ≡ freeRefusal units us
   pub has-all : r ≡ none → (u : ℕ) → has u us ≡ setOf set u

@@ -9,7 +9,7 @@ use native.Mathlib.Omega.{arith}
 use lib.Dec.{eqb}
 use lib.ListN.{length, getD}
 use borrow.Author.Tests.{eq-eqb, ne-eqb, eqb-true, eqb-false}
-use Rattle.entity.specs.Logic.{pick, and, or, no, any, has}
+use Rattle.entity.specs.Logic.{pick, and, or, no, anyIn, has}
 use Rattle.entity.specs.Place.{Place, placeAt}
 use Rattle.function.specs.Function.{numValues, valueBank}
 use Rattle.function.specs.Known.{Checked}
@@ -207,13 +207,13 @@ module _ (t f cache e sparse : List ℕ) (given : Given t f e sparse) (m : ℕ) 
     pub lead-diverted : Led t f cache e (leadDiverted (T t) (F f) (movesOf e) m) p w k′ after
     lead-diverted = ⊎-elim lead-new lead-live (same? (countAt (w .diverted) v) 0)
 
-  pub lead-open : (k′ : ScratchAllocator) (w′ : Work) → true ≡ any (λ y. isPending (statesOf (w .marks) y)) (writers (T t) (F f) (movesOf e) m) → Led t f cache e (leadDiverted (T t) (F f) (movesOf e) m) p w k′ w′ → Led t f cache e (lead (T t) (F f) (movesOf e) m) p w k′ w′
+  pub lead-open : (k′ : ScratchAllocator) (w′ : Work) → true ≡ anyIn (λ y. isPending (statesOf (w .marks) y)) (writers (T t) (F f) (movesOf e) m) → Led t f cache e (leadDiverted (T t) (F f) (movesOf e) m) p w k′ w′ → Led t f cache e (lead (T t) (F f) (movesOf e) m) p w k′ w′
   unfolding lead leadDiverted
   lead-open k′ w′ q l =
       let is : lead (T t) (F f) (movesOf e) m p ≡ some (l .gone .next) = rw (h .stands .state, ← q, ← h .stands .state) (l .gone .is) in
       record { gone = record { next = l .gone .next; is = is; stands = l .gone .stands }; still = l .still }
 
-  pub lead-closed : (k′ : ScratchAllocator) (x : Tables) (src : ℕ) → false ≡ any (λ y. isPending (statesOf (w .marks) y)) (writers (T t) (F f) (movesOf e) m) → placeAt src ≡ getD (movesOf e) m noMove .source
+  pub lead-closed : (k′ : ScratchAllocator) (x : Tables) (src : ℕ) → false ≡ anyIn (λ y. isPending (statesOf (w .marks) y)) (writers (T t) (F f) (movesOf e) m) → placeAt src ≡ getD (movesOf e) m noMove .source
       → Moved t f cache k (w .tables) k′ x (doMove (T t) (F f) (valueBank (F f) v) (dest (T t) (F f) (movesOf e) m) (placeAt src) v)
       → Led t f cache e (lead (T t) (F f) (movesOf e) m) p w k′ (record { tables = x; sources = w .sources; diverted = w .diverted; marks = w .marks; carried = w .carried })
   unfolding lead andThen

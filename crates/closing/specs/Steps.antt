@@ -6,7 +6,7 @@ use mathlib.Core.List.{List}
 use mathlib.Core.Option.{Option, some}
 use lib.Dec.{eqb}
 use lib.ListN.{length}
-use Rattle.entity.specs.Logic.{pick, any}
+use Rattle.entity.specs.Logic.{pick, anyIn}
 use Rattle.reginfo.specs.RegInfo.{RegInfo}
 use Rattle.function.specs.Function.{Function}
 use Rattle.rules.specs.Order.{KeptMove, ParallelMoves, isPending, value, source, writers, carried, emit, divert, lead, undivertAll, close}

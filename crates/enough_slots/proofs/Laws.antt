@@ -8,7 +8,7 @@ use native.Mathlib.Omega.{arith}
 use borrow.Author.Tests.{eqb-true, eqb-false}
 use lib.Dec.{eqb}
 use lib.ListN.{length, replicate}
-use Rattle.entity.specs.Logic.{or, any, indices}
+use Rattle.entity.specs.Logic.{or, anyIn, indices}
 use Rattle.entity.proofs.Laws.{indices-step}
 use Rattle.reginfo.specs.RegInfo.{RegInfo, spillslotSize}
 use Rattle.reginfo.specs.Table.{regInfoOf}
@@ -43,14 +43,14 @@ ofSize t f z v = eqb (spillslotSize t (valueBank f v)) z
 
 -- one value more
 pub mark-step : (t : RegInfo) (f : Function) (sizes new : List Bool) (i left : ℕ) → 0 < left → setOf new ≡ inserted (setOf sizes) (spillslotSize t (valueBank f i))
-    → (z : ℕ) → or (setOf sizes z) (any (ofSize t f z) (indices i left)) ≡ or (setOf new z) (any (ofSize t f z) (indices (i + 1) (left - 1)))
-unfolding any
+    → (z : ℕ) → or (setOf sizes z) (anyIn (ofSize t f z) (indices i left)) ≡ or (setOf new z) (anyIn (ofSize t f z) (indices (i + 1) (left - 1)))
+unfolding anyIn
 mark-step t f sizes new i left h e z =
     rw (indices-step i left h, e, inserted-or (setOf sizes) (spillslotSize t (valueBank f i)) z)
-    (sym (or-assoc (setOf sizes z) (ofSize t f z i) (any (ofSize t f z) (indices (i + 1) (left - 1)))))
+    (sym (or-assoc (setOf sizes z) (ofSize t f z i) (anyIn (ofSize t f z) (indices (i + 1) (left - 1)))))
 
-pub none-left : (t : RegInfo) (f : Function) (sizes : List Bool) (i z : ℕ) → or (setOf sizes z) (any (ofSize t f z) (indices i 0)) ≡ setOf sizes z
-unfolding any indices
+pub none-left : (t : RegInfo) (f : Function) (sizes : List Bool) (i z : ℕ) → or (setOf sizes z) (anyIn (ofSize t f z) (indices i 0)) ≡ setOf sizes z
+unfolding anyIn indices
 none-left t f sizes i z = or-false (setOf sizes z)
 
 -- one size more

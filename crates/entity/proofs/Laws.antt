@@ -9,7 +9,7 @@ use lib.Dec.{eqb, ltb}
 use lib.ListN.{getD, length, drop, length-map}
 use lib.Seq.{drop-cons}
 use borrow.Author.Tests.{lt-ltb, le-ltb, eq-eqb, ne-eqb, eqb-true, eqb-false, ltb-true, ltb-false}
-use Rattle.entity.specs.Logic.{pick, and, or, no, any, all, has, meets, lastOr, indices, cells}
+use Rattle.entity.specs.Logic.{pick, and, or, no, anyIn, allIn, has, meets, lastOr, indices, cells}
 use Rattle.entity.specs.Place.{Place, reg, slot, codeOf, placeAt, regUnit, slotUnit, unitCode, unitAt}
 
 -- what a test says of its parts
@@ -104,27 +104,27 @@ unfolding meets
 meets-step l m j h = ap (λ (k : List ℕ). meets k m) (drop-step l j 0 h)
 
 -- what a test of every element says of one of them
-pub all-at : {A : Type 0} (p : A → Bool) (l : List A) (i : ℕ) (d : A) → all p l ≡ true → i < length l → p (getD l i d) ≡ true
-unfolding all
+pub all-at : {A : Type 0} (p : A → Bool) (l : List A) (i : ℕ) (d : A) → allIn p l ≡ true → i < length l → p (getD l i d) ≡ true
+unfolding allIn
 all-at p [] i d e h = absurd (omega arith)
-all-at p (x ∷ l) zero d e h = and-true (p x) (all p l) e .0
-all-at p (x ∷ l) (suc i) d e h = all-at p l i d (and-true (p x) (all p l) e .1) (omega arith)
+all-at p (x ∷ l) zero d e h = and-true (p x) (allIn p l) e .0
+all-at p (x ∷ l) (suc i) d e h = all-at p l i d (and-true (p x) (allIn p l) e .1) (omega arith)
 
-pub any-at : {A : Type 0} (p : A → Bool) (l : List A) (i : ℕ) (d : A) → any p l ≡ false → i < length l → p (getD l i d) ≡ false
-unfolding any
+pub any-at : {A : Type 0} (p : A → Bool) (l : List A) (i : ℕ) (d : A) → anyIn p l ≡ false → i < length l → p (getD l i d) ≡ false
+unfolding anyIn
 any-at p [] i d e h = absurd (omega arith)
-any-at p (x ∷ l) zero d e h = or-false (p x) (any p l) e .0
-any-at p (x ∷ l) (suc i) d e h = any-at p l i d (or-false (p x) (any p l) e .1) (omega arith)
+any-at p (x ∷ l) zero d e h = or-false (p x) (anyIn p l) e .0
+any-at p (x ∷ l) (suc i) d e h = any-at p l i d (or-false (p x) (anyIn p l) e .1) (omega arith)
 
-pub any-from : (p : ℕ → Bool) (a n i : ℕ) → any p (indices a n) ≡ false → i < n → p (a + i) ≡ false
-unfolding any indices
+pub any-from : (p : ℕ → Bool) (a n i : ℕ) → anyIn p (indices a n) ≡ false → i < n → p (a + i) ≡ false
+unfolding anyIn indices
 any-from p a zero i e h = absurd (omega arith)
-any-from p a (suc n) zero e h = let l : a + 0 ≡ a = omega arith in ap p l ∙ or-false (p a) (any p (indices (a + 1) n)) e .0
+any-from p a (suc n) zero e h = let l : a + 0 ≡ a = omega arith in ap p l ∙ or-false (p a) (anyIn p (indices (a + 1) n)) e .0
 any-from p a (suc n) (suc i) e h =
     let l : a + suc i ≡ a + 1 + i = omega arith in
-    ap p l ∙ any-from p (a + 1) n i (or-false (p a) (any p (indices (a + 1) n)) e .1) (omega arith)
+    ap p l ∙ any-from p (a + 1) n i (or-false (p a) (anyIn p (indices (a + 1) n)) e .1) (omega arith)
 
-pub any-below : (p : ℕ → Bool) (n i : ℕ) → any p (indices 0 n) ≡ false → i < n → p i ≡ false
+pub any-below : (p : ℕ → Bool) (n i : ℕ) → anyIn p (indices 0 n) ≡ false → i < n → p i ≡ false
 any-below p n i e h = let l : 0 + i ≡ i = omega arith in sym (ap p l) ∙ any-from p 0 n i e h
 
 -- a number that is listed stands somewhere
@@ -147,10 +147,10 @@ has-getD (y ∷ l) (suc k) h = ap (or (eqb (getD l k 0) y)) (has-getD l k (omega
     or-right true = refl
     or-right false = refl
 
-pub all-has : (p : ℕ → Bool) (l : List ℕ) (x : ℕ) → all p l ≡ true → has x l ≡ true → p x ≡ true
+pub all-has : (p : ℕ → Bool) (l : List ℕ) (x : ℕ) → allIn p l ≡ true → has x l ≡ true → p x ≡ true
 all-has p l x e h = let w = has-where x l h in rw (w .2) at (all-at p l (w .0) 0 e (w .1))
 
-pub any-has : (p : ℕ → Bool) (l : List ℕ) (x : ℕ) → any p l ≡ false → has x l ≡ true → p x ≡ false
+pub any-has : (p : ℕ → Bool) (l : List ℕ) (x : ℕ) → anyIn p l ≡ false → has x l ≡ true → p x ≡ false
 any-has p l x e h = let w = has-where x l h in rw (w .2) at (any-at p l (w .0) 0 e (w .1))
 
 -- where x could stand only at p, it is listed when it stands there

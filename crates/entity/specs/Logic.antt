@@ -19,14 +19,14 @@ abbrev pub no : Bool → Bool
 no b = not b
 
 -- some element passes the test
-unfoldable pub any : {A : Type 0} → (A → Bool) → List A → Bool
-any p [] = false
-any p (x ∷ l) = or (p x) (any p l)
+unfoldable pub anyIn : {A : Type 0} → (A → Bool) → List A → Bool
+anyIn p [] = false
+anyIn p (x ∷ l) = or (p x) (anyIn p l)
 
 -- every element passes the test
-unfoldable pub all : {A : Type 0} → (A → Bool) → List A → Bool
-all p [] = true
-all p (x ∷ l) = and (p x) (all p l)
+unfoldable pub allIn : {A : Type 0} → (A → Bool) → List A → Bool
+allIn p [] = true
+allIn p (x ∷ l) = and (p x) (allIn p l)
 
 -- x is listed
 unfoldable pub has : ℕ → List ℕ → Bool

@@ -43,15 +43,15 @@ unfoldable pub readPlace : ℕ → ℕ → ℕ → Option Place
 readPlace regs slots c = pick (names regs slots (placeAt c)) (some (placeAt c)) none
 
 -- 01: "numbers below 512 are register units and 512 + s is slot s"
-pub data Unit : Type 0 where
-  regUnit : ℕ → Unit
-  slotUnit : ℕ → Unit
+pub data PlaceUnit : Type 0 where
+  regUnit : ℕ → PlaceUnit
+  slotUnit : ℕ → PlaceUnit
 
-abbrev pub unitCode : Unit → ℕ
+abbrev pub unitCode : PlaceUnit → ℕ
 unitCode (regUnit u) = u
 unitCode (slotUnit s) = 512 + s
 
-unfoldable pub unitAt : ℕ → Unit
+unfoldable pub unitAt : ℕ → PlaceUnit
 unitAt n = pick (ltb n 512) (regUnit n) (slotUnit (n - 512))
 
 -- what the enums of the code stand for
@@ -59,7 +59,7 @@ abbrev pub placeOf : AllocationKind → Place
 placeOf (AK.the-variants.PhysReg r) = reg (r .0)
 placeOf (AK.the-variants.SpillSlot s) = slot (s .0)
 
-abbrev pub unitOf : AllocationUnitKind → Unit
+abbrev pub unitOf : AllocationUnitKind → PlaceUnit
 unitOf (UK.the-variants.Reg u) = regUnit (u .0)
 unitOf (UK.the-variants.SpillSlot s) = slotUnit (s .0)
 

@@ -8,7 +8,7 @@ use native.Mathlib.Omega.{arith}
 use lib.Dec.{eqb, ltb}
 use lib.ListN.{getD, length, length-append, length-map, List·getD-append, List·getD-map}
 use borrow.Author.Tests.{eqb-true, eqb-false, eq-eqb, lt-ltb, lt-leb, le-leb}
-use Rattle.entity.specs.Logic.{pick, and, or, no, any, has}
+use Rattle.entity.specs.Logic.{pick, and, or, no, anyIn, has}
 use Rattle.entity.specs.Place.{Place, slot, samePlace, placeAt, codeOf}
 use Rattle.entity.proofs.Laws.{and-true, no-false, any-has, has-getD, code-there}
 use Rattle.reginfo.specs.RegInfo.{RegInfo, placeUnits, overlap, inClass, ofBank}
@@ -71,11 +71,11 @@ no-true true e = sym e
 no-true false e = refl
 
 -- what was noted tells whether a unit was written
-pub noted-not : (w w′ us : List ℕ) (x : ℕ) (r : Bool) → NotedNew w w′ us x r → r ≡ false → any (isWritten w) us ≡ true
-noted-not w w′ us x r n q = no-false (any (isWritten w) us) (sym (n .is) ∙ q)
+pub noted-not : (w w′ us : List ℕ) (x : ℕ) (r : Bool) → NotedNew w w′ us x r → r ≡ false → anyIn (isWritten w) us ≡ true
+noted-not w w′ us x r n q = no-false (anyIn (isWritten w) us) (sym (n .is) ∙ q)
 
-pub noted-new : (w w′ us : List ℕ) (x : ℕ) (r : Bool) → NotedNew w w′ us x r → r ≡ true → any (isWritten w) us ≡ false
-noted-new w w′ us x r n q = no-true (any (isWritten w) us) (sym (n .is) ∙ q)
+pub noted-new : (w w′ us : List ℕ) (x : ℕ) (r : Bool) → NotedNew w w′ us x r → r ≡ true → anyIn (isWritten w) us ≡ false
+noted-new w w′ us x r n q = no-true (anyIn (isWritten w) us) (sym (n .is) ∙ q)
 
 pub new-remat-refused : (e w w′ us : List ℕ) (b : Bool) (x : Remat) (r : Bool) → NotedNew w w′ us 128 r → r ≡ false → RemattedAs e w e w′ us b x (some 12)
 new-remat-refused e w w′ us b x r n h = record { is = rw (noted-not w w′ us 128 r n h); yes = λ q. (let z : _≡_ {A = ℕ} 0 1 = cc in absurd (omega arith)); no = λ m q. (refl, n .no h) }
@@ -123,17 +123,17 @@ module _ (t : RegInfo) (f : Function) where
         let q = and-true (samePlace (m .dest) d) (eqb (m .value) v) (p .1) in
         rw (same-is (m .dest) d (q .0)) on
 
-    same-none : writerFrom t f (a .moves) 0 (a .moves) u ≡ none → any (sameMove t f s d v) (a .moves) ≡ false
-    same-none e = go (any (sameMove t f s d v) (a .moves)) refl
+    same-none : writerFrom t f (a .moves) 0 (a .moves) u ≡ none → anyIn (sameMove t f s d v) (a .moves) ≡ false
+    same-none e = go (anyIn (sameMove t f s d v) (a .moves)) refl
       where
-        go : (b : Bool) → any (sameMove t f s d v) (a .moves) ≡ b → b ≡ false
+        go : (b : Bool) → anyIn (sameMove t f s d v) (a .moves) ≡ b → b ≡ false
         go false q = refl
         go true q =
             let k = any-where (sameMove t f s d v) (a .moves) noMove q in
             let h = any-true (λ (m : KeptMove). has u (placeUnits t (m .dest))) (a .moves) (k .0) noMove (k .1) (same-writes (getD (a .moves) (k .0) noMove) (k .2)) in
             absurd (true≢false (sym h ∙ sym (known-from t f (a .moves) 0 (a .moves) u) ∙ ap known e))
 
-    same-some : (m : ℕ) → writerFrom t f (a .moves) 0 (a .moves) u ≡ some m → (m < length (a .moves)) × (any (sameMove t f s d v) (a .moves) ≡ sameMove t f s d v (getD (a .moves) m noMove))
+    same-some : (m : ℕ) → writerFrom t f (a .moves) 0 (a .moves) u ≡ some m → (m < length (a .moves)) × (anyIn (sameMove t f s d v) (a .moves) ≡ sameMove t f s d v (getD (a .moves) m noMove))
     same-some m e =
         let w = found-writer (a .moves) u 0 (a .moves) m e in
         let z : w .0 ≡ m = omega (arith, w .2) in
@@ -165,8 +165,8 @@ module _ (t f e w : List ℕ) (ok : Checked t f) (kept : EntriesOk t f e w) wher
   abbrev a : Sorted
   a = sortedOf e
 
-  overlaps-is : (d : Place) → overlapsEarlier T F a d ≡ any (isWritten w) (placeUnits T d)
-  overlaps-is d = overlaps-written T F a d ∙ ap (λ (g : ℕ → Option ℕ). any (λ u. known (g u)) (placeUnits T d)) (sym (kept .map))
+  overlaps-is : (d : Place) → overlapsEarlier T F a d ≡ anyIn (isWritten w) (placeUnits T d)
+  overlaps-is d = overlaps-written T F a d ∙ ap (λ (g : ℕ → Option ℕ). anyIn (λ u. known (g u)) (placeUnits T d)) (sym (kept .map))
 
   -- whether a kept move is this one shows at the writer of the first unit
   module _ (s d v : ℕ) (writes : Writable T (placeAt d)) where
@@ -177,7 +177,7 @@ module _ (t f e w : List ℕ) (ok : Checked t f) (kept : EntriesOk t f e w) wher
     unfolding first
     first-has = has-getD (placeUnits T (placeAt d)) 0 (writes .some)
 
-    at-writer : (o : Option ℕ) (b : Bool) → writerFrom T F (a .moves) 0 (a .moves) first ≡ o → any (sameMove T F (placeAt s) (placeAt d) v) (a .moves) ≡ isMoveOf e (orRemat o b) s d v
+    at-writer : (o : Option ℕ) (b : Bool) → writerFrom T F (a .moves) 0 (a .moves) first ≡ o → anyIn (sameMove T F (placeAt s) (placeAt d) v) (a .moves) ≡ isMoveOf e (orRemat o b) s d v
     unfolding moveAt
     at-writer none true q = same-none T F a (kept .sorted) (placeAt s) (placeAt d) v first first-has q
     at-writer none false q = same-none T F a (kept .sorted) (placeAt s) (placeAt d) v first first-has q
@@ -185,7 +185,7 @@ module _ (t f e w : List ℕ) (ok : Checked t f) (kept : EntriesOk t f e w) wher
         let p = same-some T F a (kept .sorted) (placeAt s) (placeAt d) v first first-has m q in
         p .1 ∙ rw (kept-is e m (p .0), lt-ltb m 128 (omega (arith, p .0, kept .few, kept .most)), same-code (getD e (m * 4) 0) s, same-code (getD e (1 + m * 4) 0) d)
 
-    same-there : any (sameMove T F (placeAt s) (placeAt d) v) (a .moves) ≡ isMoveOf e (mapOf w (getD (placeUnits T (placeAt d)) 0 0)) s d v
+    same-there : anyIn (sameMove T F (placeAt s) (placeAt d) v) (a .moves) ≡ isMoveOf e (mapOf w (getD (placeUnits T (placeAt d)) 0 0)) s d v
     unfolding writerOf first
     same-there = rw (kept .map) (at-writer (writerFrom T F (a .moves) 0 (a .moves) first) _ refl)
 
@@ -246,12 +246,12 @@ module _ (t f e w : List ℕ) (ok : Checked t f) (kept : EntriesOk t f e w) wher
   added-as-remat : (x : Entry) (b : Bool) (d v : ℕ) → firstOf (entryConditions T F a x) ≡ orElse (overlapsEarlier T F a (placeAt d)) 12 none → add T F x a ≡ withRemat b (rematAs d v) a → Writable T (placeAt d) → a .count < 128
       → (e′ w′ : List ℕ) (r : Option ℕ) → RemattedAs e w e′ w′ (placeUnits T (placeAt d)) b (rematAs d v) r → AddedAs t f e w e′ w′ x r
   added-as-remat x b d v h q writes less e′ w′ r done =
-      let given : firstOf (entryConditions T F a x) ≡ pick (any (isWritten w) (placeUnits T (placeAt d))) (some 12) none = h ∙ ap (λ (c : Bool). orElse c 12 none) (overlaps-is (placeAt d)) ∙ or-else-pick (any (isWritten w) (placeUnits T (placeAt d))) 12 in
+      let given : firstOf (entryConditions T F a x) ≡ pick (anyIn (isWritten w) (placeUnits T (placeAt d))) (some 12) none = h ∙ ap (λ (c : Bool). orElse c 12 none) (overlaps-is (placeAt d)) ∙ or-else-pick (anyIn (isWritten w) (placeUnits T (placeAt d))) 12 in
       record {
         is = done .is ∙ sym given;
         yes = λ z. (let m = done .yes z in
             let ok = rw q at (sorted-add T F x a (kept .sorted) (given ∙ sym (done .is) ∙ z)) in
-            let apart = overlaps-is (placeAt d) ∙ pick-none (any (isWritten w) (placeUnits T (placeAt d))) 12 (sym z ∙ done .is) in
+            let apart = overlaps-is (placeAt d) ∙ pick-none (anyIn (isWritten w) (placeUnits T (placeAt d))) 12 (sym z ∙ done .is) in
             (m .0 ∙ sym q, rw (m .0) (tracked-remat T F a (placeAt d) apart e e′ w w′ kept less (writes .few) b v (m .1) ok (m .2))));
         no = λ n z. (let q = done .no n z in rw (q .0) (refl, tracked-same T F a e w w′ kept (q .1)));
       }
@@ -267,7 +267,7 @@ module _ (t f e w : List ℕ) (ok : Checked t f) (kept : EntriesOk t f e w) wher
   -- a move
   module _ (s d v : ℕ) (p : PassedMove T F a (placeAt s) (placeAt d) v) where
     abbrev written : Bool
-    written = any (isWritten w) (placeUnits T (placeAt d))
+    written = anyIn (isWritten w) (placeUnits T (placeAt d))
 
     abbrev there : Bool
     there = isMoveOf e (mapOf w (getD (placeUnits T (placeAt d)) 0 0)) s d v

@@ -8,7 +8,7 @@ use native.Mathlib.Omega.{arith}
 use lib.Dec.{ltb}
 use lib.ListN.{getD, List·getD-eq-default}
 use borrow.Author.Tests.{ltb-true, ltb-false, lt-ltb}
-use Rattle.entity.specs.Logic.{pick, and, or, any, has, meets}
+use Rattle.entity.specs.Logic.{pick, and, or, anyIn, has, meets}
 use Rattle.entity.specs.Place.{Place, reg, slot, regUnit, slotUnit, unitAt}
 use Rattle.entity.proofs.Laws.{and-true, has-where, has-getD}
 use Rattle.reginfo.specs.RegInfo.{Reg, RegInfo, noReg, numRegs, regUnits, placeUnits}
@@ -45,12 +45,12 @@ slot-number u x e = go (ltb u 512) e
 meets-both : (l m : List ℕ) (u : ℕ) → has u l ≡ true → has u m ≡ true → meets l m ≡ true
 meets-both l m u h k = let w = has-where u l h in meets-any l m ∙ any-true (λ u. has u m) l (w .0) 0 (w .1) (rw (w .2) k)
 
-any-has-true : (p : ℕ → Bool) (l : List ℕ) (u : ℕ) → has u l ≡ true → p u ≡ true → any p l ≡ true
+any-has-true : (p : ℕ → Bool) (l : List ℕ) (u : ℕ) → has u l ≡ true → p u ≡ true → anyIn p l ≡ true
 any-has-true p l u h k = let w = has-where u l h in any-true p l (w .0) 0 (w .1) (rw (w .2) k)
 
 -- where no unit is free, none of a list is
-pub none-free : (l : List ℕ) → any (isFree []) l ≡ false
-unfolding any setOf
+pub none-free : (l : List ℕ) → anyIn (isFree []) l ≡ false
+unfolding anyIn setOf
 none-free [] = refl
 none-free (u ∷ l) = rw (none-free l) (neither (ltb u 512))
   where
@@ -59,7 +59,7 @@ none-free (u ∷ l) = rw (none-free l) (neither (ltb u 512))
     neither false = refl
 
 -- the keys are the units of the destinations
-pub key-written : (t : RegInfo) (f : Function) (a : Sorted) (e w : List ℕ) → Tracked t f a e w → (u : ℕ) → has u (keysOf w) ≡ any (λ d. has u (placeUnits t d)) (destinations a)
+pub key-written : (t : RegInfo) (f : Function) (a : Sorted) (e w : List ℕ) → Tracked t f a e w → (u : ℕ) → has u (keysOf w) ≡ anyIn (λ d. has u (placeUnits t d)) (destinations a)
 key-written t f a e w kept u = known-keys w u ∙ ap (λ (g : ℕ → Option ℕ). known (g u)) (kept .map) ∙ writer-known t f a u
 
 module _ (t : RegInfo) (ok : Accepted t) (f : Function) where
@@ -85,7 +85,7 @@ module _ (t : RegInfo) (ok : Accepted t) (f : Function) where
   reg-of-unit (slot s) u h = absurd (false≢true h)
 
   module _ (a : Sorted) (es w : List ℕ) (kept : Tracked t f a es w) (free : List Bool) (p : Patch) (same : (u : ℕ) → has u (p .free) ≡ setOf free u) where
-    to : any (isFree free) (keysOf w) ≡ true → freeDestination t f p a ≡ true
+    to : anyIn (isFree free) (keysOf w) ≡ true → freeDestination t f p a ≡ true
     to e =
         let j = any-where (isFree free) (keysOf w) 0 e in
         let u = getD (keysOf w) (j .0) 0 in
@@ -95,7 +95,7 @@ module _ (t : RegInfo) (ok : Accepted t) (f : Function) where
         any-true (λ d. meets (unitsOfReg t f d) (p .free)) (destinations a) (i .0) (slot 0) (i .1)
         (meets-both (unitsOfReg t f d) (p .free) u (unit-of-reg d u (i .2) (ltb-true u 512 (q .0))) (same u ∙ q .1))
 
-    from : freeDestination t f p a ≡ true → any (isFree free) (keysOf w) ≡ true
+    from : freeDestination t f p a ≡ true → anyIn (isFree free) (keysOf w) ≡ true
     from e =
         let i = any-where (λ d. meets (unitsOfReg t f d) (p .free)) (destinations a) (slot 0) e in
         let d = getD (destinations a) (i .0) (slot 0) in
@@ -105,5 +105,5 @@ module _ (t : RegInfo) (ok : Accepted t) (f : Function) where
         any-has-true (isFree free) (keysOf w) u (key-written t f a es w kept u ∙ any-true (λ d. has u (placeUnits t d)) (destinations a) (i .0) (slot 0) (i .1) (m .0))
         (rw (lt-ltb u 512 (m .1)) (sym (same u) ∙ k .2))
 
-    pub free-is : any (isFree free) (keysOf w) ≡ freeDestination t f p a
-    free-is = both-ways (any (isFree free) (keysOf w)) (freeDestination t f p a) to from
+    pub free-is : anyIn (isFree free) (keysOf w) ≡ freeDestination t f p a
+    free-is = both-ways (anyIn (isFree free) (keysOf w)) (freeDestination t f p a) to from

@@ -9,7 +9,7 @@ use lib.Dec.{eqb, ltb}
 use lib.ListN.{getD, length, drop, set, length-set, length-append, drop-of-length-le, List·getD-append}
 use lib.Seq.{getD-set-same, getD-set-other}
 use borrow.Author.Tests.{eqb-true, eqb-false, eq-eqb, ltb-true, ltb-false}
-use Rattle.entity.specs.Logic.{and, or, no, any, has, twice}
+use Rattle.entity.specs.Logic.{and, or, no, anyIn, has, twice}
 use Rattle.entity.specs.Place.{Place, reg, slot, samePlace, placeAt}
 use Rattle.entity.proofs.Laws.{or-false, and-true, never-true, any-at, any-has, has-getD, meets-comm, drop-step}
 use Rattle.reginfo.specs.RegInfo.{RegInfo, regUnits, placeUnits, overlap}
@@ -35,10 +35,10 @@ and-or true true false = refl
 and-or true false false = refl
 and-or false b c = refl
 
-any-and : (p : ℕ → Bool) (b : Bool) (l : List ℕ) → and (any p l) b ≡ any (λ u. and (p u) b) l
-unfolding any
+any-and : (p : ℕ → Bool) (b : Bool) (l : List ℕ) → and (anyIn p l) b ≡ anyIn (λ u. and (p u) b) l
+unfolding anyIn
 any-and p b [] = refl
-any-and p b (x ∷ l) = and-or (p x) (any p l) b ∙ ap (or (and (p x) b)) (any-and p b l)
+any-and p b (x ∷ l) = and-or (p x) (anyIn p l) b ∙ ap (or (and (p x) b)) (any-and p b l)
 
 and-not : (b : Bool) → and b (no b) ≡ false
 and-not true = refl
@@ -120,10 +120,10 @@ module _ (t : RegInfo) where
 
   -- ---- 21 by the cells
   -- unit by unit
-  pub clashes-all : (a : Sorted) (s : Place) → overlapsSource t a s ≡ any (clashesAt t a s) (placeUnits t s)
+  pub clashes-all : (a : Sorted) (s : Place) → overlapsSource t a s ≡ anyIn (clashesAt t a s) (placeUnits t s)
   unfolding clashesAt
   clashes-all a s =
-      any-same (λ (m : KeptMove). and (overlap t (m .source) s) (no (samePlace (m .source) s))) (λ (m : KeptMove). any (λ u. and (has u (placeUnits t (m .source))) (no (samePlace (m .source) s))) (placeUnits t s)) (a .moves)
+      any-same (λ (m : KeptMove). and (overlap t (m .source) s) (no (samePlace (m .source) s))) (λ (m : KeptMove). anyIn (λ u. and (has u (placeUnits t (m .source))) (no (samePlace (m .source) s))) (placeUnits t s)) (a .moves)
       (λ m. ap (λ (b : Bool). and b (no (samePlace (m .source) s))) (meets-comm (placeUnits t (m .source)) (placeUnits t s) ∙ meets-any (placeUnits t s) (placeUnits t (m .source))) ∙ any-and (λ u. has u (placeUnits t (m .source))) (no (samePlace (m .source) s)) (placeUnits t s))
       ∙ any-swap (λ (m : KeptMove) u. and (has u (placeUnits t (m .source))) (no (samePlace (m .source) s))) (a .moves) (placeUnits t s)
 
@@ -233,7 +233,7 @@ module _ (t : RegInfo) (e₀ : List ℕ) (r x : ℕ) where
   -- before unit j: none so far clashes, and only their cells are written
   pub record Indexing (e : List ℕ) (j : ℕ) : Type 0 where
     pub within : j ≤ length us
-    pub clash : any at us ≡ any at (drop j us)
+    pub clash : anyIn at us ≡ anyIn at (drop j us)
     pub all : indexed e₀ us x ≡ indexed e (drop j us) x
     pub low : (y : ℕ) → y < 1028 → getD e y 0 ≡ getD e₀ y 0
     pub stamp : getD e 1540 0 ≡ getD e₀ 1540 0
@@ -320,7 +320,7 @@ module _ (t : RegInfo) (e₀ : List ℕ) (r x : ℕ) where
 
     -- all are written
     pub indexing-done : length us ≤ j → x ≡ stampOf e₀ * 128 + getD e₀ 1024 0 → IndexedAs t e₀ e (reg r) false
-    unfolding indexed any
+    unfolding indexed anyIn
     indexing-done end is =
         let gone = drop-of-length-le us {i = j} end in
         record {

@@ -8,7 +8,7 @@ use native.Mathlib.Omega.{arith}
 use lib.Dec.{eqb}
 use lib.ListN.{getD, length, drop, length-append}
 use borrow.Author.Tests.{eqb-false, ne-eqb}
-use Rattle.entity.specs.Logic.{pick, or, any, has, twice}
+use Rattle.entity.specs.Logic.{pick, or, anyIn, has, twice}
 use Rattle.entity.specs.Place.{Place}
 use Rattle.entity.proofs.Laws.{or-false, any-has, meets-comm, drop-step}
 use Rattle.reginfo.specs.RegInfo.{RegInfo, placeUnits, overlap}
@@ -80,8 +80,8 @@ module _ (t : RegInfo) (f : Function) where
   abbrev unitOf : ℕ → Place → Bool
   unitOf u p = has u (placeUnits t p)
 
-  pub known-from : (ms : List KeptMove) (i : ℕ) (l : List KeptMove) (u : ℕ) → known (writerFrom t f ms i l u) ≡ any (λ (m : KeptMove). unitOf u (m .dest)) l
-  unfolding writerFrom any
+  pub known-from : (ms : List KeptMove) (i : ℕ) (l : List KeptMove) (u : ℕ) → known (writerFrom t f ms i l u) ≡ anyIn (λ (m : KeptMove). unitOf u (m .dest)) l
+  unfolding writerFrom anyIn
   known-from ms i [] u = refl
   known-from ms i (m ∷ l) u = known-pick (unitOf u (m .dest)) i (writerFrom t f ms (i + 1) l u) ∙ ap (or (unitOf u (m .dest))) (known-from ms (i + 1) l u)
 
@@ -98,7 +98,7 @@ module _ (t : RegInfo) (f : Function) where
       go false on = on
 
   -- a unit has a writer where a destination has it
-  pub writer-known : (a : Sorted) (u : ℕ) → known (writerOf t f a u) ≡ any (unitOf u) (destinations a)
+  pub writer-known : (a : Sorted) (u : ℕ) → known (writerOf t f a u) ≡ anyIn (unitOf u) (destinations a)
   unfolding writerOf destinations
   writer-known a u =
       let kept = map (λ (m : KeptMove). m .dest) (a .moves) in
@@ -108,11 +108,11 @@ module _ (t : RegInfo) (f : Function) where
       ∙ sym (any-append (unitOf u) kept (direct ++ scratch) ∙ rw (any-append (unitOf u) direct scratch, any-map (unitOf u) (λ (m : KeptMove). m .dest) (a .moves), any-map (unitOf u) (λ (r : Remat). r .dest) (a .remats), any-map (unitOf u) (λ (r : Remat). r .dest) (a .rematsWithScratch), known-from (a .moves) 0 (a .moves) u))
 
   -- 12: a destination overlaps an earlier one where one of its units has a writer
-  pub overlaps-written : (a : Sorted) (d : Place) → overlapsEarlier t f a d ≡ any (λ u. known (writerOf t f a u)) (placeUnits t d)
+  pub overlaps-written : (a : Sorted) (d : Place) → overlapsEarlier t f a d ≡ anyIn (λ u. known (writerOf t f a u)) (placeUnits t d)
   overlaps-written a d =
-      any-same (λ p. overlap t p d) (λ p. any (λ u. unitOf u p) (placeUnits t d)) (destinations a) (λ p. meets-comm (placeUnits t p) (placeUnits t d) ∙ meets-any (placeUnits t d) (placeUnits t p))
+      any-same (λ p. overlap t p d) (λ p. anyIn (λ u. unitOf u p) (placeUnits t d)) (destinations a) (λ p. meets-comm (placeUnits t p) (placeUnits t d) ∙ meets-any (placeUnits t d) (placeUnits t p))
       ∙ any-swap (λ p u. unitOf u p) (destinations a) (placeUnits t d)
-      ∙ any-same (λ u. any (unitOf u) (destinations a)) (λ u. known (writerOf t f a u)) (placeUnits t d) (λ u. sym (writer-known a u))
+      ∙ any-same (λ u. anyIn (unitOf u) (destinations a)) (λ u. known (writerOf t f a u)) (placeUnits t d) (λ u. sym (writer-known a u))
 
   -- an entry whose destination overlaps none before it
   module _ (a : Sorted) (d : Place) (apart : overlapsEarlier t f a d ≡ false) where
@@ -162,15 +162,15 @@ unfolding noted
 noted-step g us x j h = ap (λ (l : List ℕ). noted g l x) (drop-step us j 0 h)
 
 -- a unit that had no writer gets one: of those behind it as many have one as before
-any-updated : (g : ℕ → Option ℕ) (u x : ℕ) (l : List ℕ) → has u l ≡ false → any (λ v. known (updated g u x v)) l ≡ any (λ v. known (g v)) l
-unfolding any has updated
+any-updated : (g : ℕ → Option ℕ) (u x : ℕ) (l : List ℕ) → has u l ≡ false → anyIn (λ v. known (updated g u x v)) l ≡ anyIn (λ v. known (g v)) l
+unfolding anyIn has updated
 any-updated g u x [] h = refl
 any-updated g u x (v ∷ l) h =
     let p = or-false (eqb u v) (has u l) h in
     rw (ne-eqb v u (λ q. eqb-false u v (p .0) (sym q)), any-updated g u x l (p .1))
 
 pub new-step : (g : ℕ → Option ℕ) (us : List ℕ) (x j : ℕ) → twice us ≡ false → j < length us → known (g (getD us j 0)) ≡ false
-    → any (λ u. known (g u)) (drop j us) ≡ any (λ u. known (updated g (getD us j 0) x u)) (drop (j + 1) us)
+    → anyIn (λ u. known (g u)) (drop j us) ≡ anyIn (λ u. known (updated g (getD us j 0) x u)) (drop (j + 1) us)
 new-step g us x j once h e = any-step (λ u. known (g u)) us j 0 h ∙ rw e (sym (any-updated g (getD us j 0) x (drop (j + 1) us) (twice-at us j once h)))
 
 -- the same map tracks the same entries
@@ -180,7 +180,7 @@ tracked-same t f a e w w′ k s =
 
 -- no entry and no writer
 pub tracked-none : (t : RegInfo) (f : Function) (a : Sorted) (e v w : List ℕ) → a ≡ nothingSorted → Emptied v w → Tracked t f a e w
-unfolding writerOf writerFrom any emptyMap destinations
+unfolding writerOf writerFrom anyIn emptyMap destinations
 tracked-none t f a e v w q m =
     rw q
     record {

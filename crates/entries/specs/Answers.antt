@@ -5,7 +5,7 @@ use mathlib.Core.Bool.{Bool, true, false}
 use mathlib.Core.List.{List}
 use mathlib.Core.Option.{Option, none, some}
 use lib.ListN.{getD, length}
-use Rattle.entity.specs.Logic.{pick, no, any, has}
+use Rattle.entity.specs.Logic.{pick, no, anyIn, has}
 use Rattle.entity.specs.Place.{Place, placeAt}
 use Rattle.reginfo.specs.RegInfo.{RegInfo, placeUnits}
 use Rattle.reginfo.specs.Refused.{firstOf}
@@ -40,7 +40,7 @@ pub record AddedAs (t f e w e′ w′ : List ℕ) (x : Entry) (r : Option ℕ) :
 
 -- x noted as the writer of each of the units us, unless one of them has a writer
 pub record NotedNew (w w′ us : List ℕ) (x : ℕ) (r : Bool) : Type 0 where
-  pub is : r ≡ no (any (isWritten w) us)
+  pub is : r ≡ no (anyIn (isWritten w) us)
   pub yes : r ≡ true → Noted w w′ us x
   pub no : r ≡ false → Same w w′
 
@@ -61,6 +61,6 @@ pub record KeptAs (t : RegInfo) (e w e′ w′ : List ℕ) (s d v : ℕ) : Type 
 
 -- a rebuild added, unless one of the units us is written already
 pub record RemattedAs (e w e′ w′ us : List ℕ) (b : Bool) (x : Remat) (r : Option ℕ) : Type 0 where
-  pub is : r ≡ pick (any (isWritten w) us) (some 12) none
+  pub is : r ≡ pick (anyIn (isWritten w) us) (some 12) none
   pub yes : r ≡ none → (sortedOf e′ ≡ withRemat b x (sortedOf e)) × Noted w w′ us 128 × SameIndex e e′
   pub no : (n : ℕ) → r ≡ some n → (e′ ≡ e) × Same w w′

@@ -6,7 +6,7 @@ use mathlib.Core.List.{List, [], _∷_}
 use mathlib.Core.Option.{Option, none, some}
 use lib.Dec.{ltb}
 use lib.ListN.{length, getD}
-use Rattle.entity.specs.Logic.{pick, and, or, no, any, has, twice}
+use Rattle.entity.specs.Logic.{pick, and, or, no, anyIn, has, twice}
 use Rattle.entity.specs.Place.{Place, reg, samePlace, placeAt}
 use Rattle.reginfo.specs.RegInfo.{RegInfo, includesSpillslots, lastInOrder, placeUnits, overlap, ofBank}
 use Rattle.reginfo.specs.Known.{KnownPlace}
@@ -67,7 +67,7 @@ lastClashes t c d = and (no (includesSpillslots t c)) (overlap t (reg (lastInOrd
 module _ (t : RegInfo) where
   -- 21 at one unit: an unequal source of a kept move has it
   unfoldable pub clashesAt : Sorted → Place → ℕ → Bool
-  clashesAt a s u = any (λ (m : KeptMove). and (has u (placeUnits t (m .source))) (no (samePlace (m .source) s))) (a .moves)
+  clashesAt a s u = anyIn (λ (m : KeptMove). and (has u (placeUnits t (m .source))) (no (samePlace (m .source) s))) (a .moves)
 
   -- the cell of unit u is of this patch, and tells a kept move whose source is p
   pub record Points (a : Sorted) (e : List ℕ) (u : ℕ) (p : Place) : Type 0 where
@@ -108,7 +108,7 @@ orRemat none b = pick b (some 128) none
 
 module _ (t : RegInfo) (f : Function) where
   abbrev pub rematWrites : ℕ → List Remat → Bool
-  rematWrites u l = any (λ (r : Remat). has u (placeUnits t (r .dest))) l
+  rematWrites u l = anyIn (λ (r : Remat). has u (placeUnits t (r .dest))) l
 
   -- the writer of a unit
   unfoldable pub writerOf : Sorted → ℕ → Option ℕ

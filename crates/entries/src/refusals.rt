@@ -16,7 +16,7 @@ ghost use mathlib.Core.Path.{_≡_};
 ghost use mathlib.Core.Bool.{false};
 ghost use Prim.Native.Nat.{ℕ, _<_, _≤_};
 ghost use lib.ListN.{length};
-ghost use Rattle.entity.specs.Logic.{any, has};
+ghost use Rattle.entity.specs.Logic.{anyIn, has};
 ghost use Rattle.entity.specs.Place.{placeAt};
 ghost use Rattle.reginfo.specs.RegInfo.{numClasses};
 ghost use Rattle.reginfo.specs.Refused.{Accepted, firstOf};
@@ -45,7 +45,7 @@ fn is_free(free: &RegUnitSet, u: AllocationUnit) -> bool
 // 13: whether a free unit is a destination's: one that has a writer. Where none is given, neither the set nor a key is looked at.
 fn free_destination(w: &SparseMap, free: &RegUnitSet, given: bool) -> bool
     requires { ⌜ Linked (now w) ⌝ }
-    ensures { λ r. ⌜ r ≡ any (isFree (freeIn given (now (free .entry)))) (keysOf (now (w .entry))) ⌝ }
+    ensures { λ r. ⌜ r ≡ anyIn (isFree (freeIn given (now (free .entry)))) (keysOf (now (w .entry))) ⌝ }
 {
     if !given {
         return false;

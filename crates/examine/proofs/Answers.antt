@@ -9,11 +9,11 @@ use native.Mathlib.Omega.{arith}
 use lib.Dec.{eqb, ltb}
 use lib.ListN.{length, getD}
 use borrow.Author.Tests.{eqb-true, eqb-false, eq-eqb, ne-eqb, le-ltb}
-use Rattle.entity.specs.Logic.{pick, and, or, no, any, all, has, indices}
+use Rattle.entity.specs.Logic.{pick, and, or, no, anyIn, allIn, has, indices}
 use Rattle.entity.specs.Place.{Place, reg, slot, samePlace}
 use Rattle.reginfo.specs.RegInfo.{RegInfo, placeUnits, isMemory, inClass}
 use Rattle.reginfo.specs.Refused as target
-use Rattle.reginfo.specs.Refused.{Condition, cond, firstOf, orElse}
+use Rattle.reginfo.specs.Refused.{Condition, refusedIf, firstOf, orElse}
 use Rattle.function.specs.Function.{Function, canRematerialize, rematClass}
 use Rattle.rules.specs.Edit.{Edit, Move, Rematerialize, EmergencySpill, EmergencyReload, andThen}
 use Rattle.rules.specs.Scratch.{unitsOfReg}
@@ -50,31 +50,31 @@ only-is (some x) w e h = go (eqb (wordOf x) w) h
 
 module _ (t : RegInfo) (f : Function) (most : ℕ) where
   abbrev Words : List ℕ → Type 0
-  Words ws = ((editsIn ws ≡ none) × (all (namedIn t f most) ws ≡ false)) ⊎ ((editsIn ws ≡ some (map editAt ws)) × (all (namedIn t f most) ws ≡ all (named t f most) (map editAt ws)))
+  Words ws = ((editsIn ws ≡ none) × (allIn (namedIn t f most) ws ≡ false)) ⊎ ((editsIn ws ≡ some (map editAt ws)) × (allIn (namedIn t f most) ws ≡ allIn (named t f most) (map editAt ws)))
 
   and-no : (a b : Bool) → b ≡ false → and a b ≡ false
   and-no true b h = h
   and-no false b h = refl
 
   words : (ws : List ℕ) → Words ws
-  unfolding editsIn all namedIn
+  unfolding editsIn allIn namedIn
   words [] = inr (refl, refl)
   words (w ∷ ws) = go (editIn w) refl (words ws)
     where
       go : (o : Option Edit) → editIn w ≡ o → Words ws → Words (w ∷ ws)
-      go none e r = inl (ap (λ (o : Option Edit). inFrontOf o (editsIn ws)) e, ap (λ (o : Option Edit). and (namedIf t f most o) (all (namedIn t f most) ws)) e)
+      go none e r = inl (ap (λ (o : Option Edit). inFrontOf o (editsIn ws)) e, ap (λ (o : Option Edit). and (namedIf t f most o) (allIn (namedIn t f most) ws)) e)
       go (some x) e (inl r) = inl (ap₂ inFrontOf e (r .0), and-no (namedIf t f most (editIn w)) _ (r .1))
       go (some x) e (inr r) =
           let is : editAt w ≡ x = only-is (editOf w) w x e in
           inr (ap₂ inFrontOf e (r .0) ∙ ap (λ (y : Edit). some (y ∷ map editAt ws)) (sym is), ap₂ and (ap (namedIf t f most) e ∙ ap (named t f most) (sym is)) (r .1))
 
   module _ (p : Patch) (ws : List ℕ) where
-    pub answer-24 : all (namedIn t f most) ws ≡ false → examineWords t f p most ws ≡ rule.Refused 24
+    pub answer-24 : allIn (namedIn t f most) ws ≡ false → examineWords t f p most ws ≡ rule.Refused 24
     unfolding examineWords examine
     answer-24 h = ⊎-elim (λ r. ap (examineEdits t f p most) (r .0)) (λ r. ap (examineEdits t f p most) (r .0) ∙ rw (sym (r .1) ∙ h)) (words ws)
 
     -- all are named
-    module _ (h : all (namedIn t f most) ws ≡ true) where
+    module _ (h : allIn (namedIn t f most) ws ≡ true) where
       abbrev ms : List KeptMove
       ms = sorted t f p .moves
 
@@ -124,7 +124,7 @@ judged-yes t f p g start m none h = let z : _≡_ {A = ℕ} 0 1 = cc in absurd (
 judged-yes t f p g start m (some s) h = let e : s .memory ≡ m = cc in ap (λ (x : Memory). pick (endsRight t f p g start x) rule.Yes rule.No) e
 
 -- ---- the answers, by kept moves that are those of the patch
-module _ (t : RegInfo) (f : Function) (most : ℕ) (p : Patch) (ws : List ℕ) (h : all (namedIn t f most) ws ≡ true) (ms : List KeptMove) (q : ms ≡ sorted t f p .moves) where
+module _ (t : RegInfo) (f : Function) (most : ℕ) (p : Patch) (ws : List ℕ) (h : allIn (namedIn t f most) ws ≡ true) (ms : List KeptMove) (q : ms ≡ sorted t f p .moves) where
   abbrev content : ℕ → List ℕ
   content = genericContent t f ms
 
@@ -147,22 +147,22 @@ module _ (t : RegInfo) (f : Function) (most : ℕ) (p : Patch) (ws : List ℕ) (
       begun n ∙ judged-yes t f p content start m′ (steps t f content (map editAt ws) (begin start)) (ran-is t f content ws (begin start) ∙ ap (ran t f content ws) (sym e) ∙ r) ∙ ap (λ (x : Bool). pick x rule.Yes rule.No) k
 
 -- ---- how it ends
-all-any : {A : Type 0} (q : A → Bool) (l : List A) → all q l ≡ no (any (λ x. no (q x)) l)
-unfolding all any
+all-any : {A : Type 0} (q : A → Bool) (l : List A) → allIn q l ≡ no (anyIn (λ x. no (q x)) l)
+unfolding allIn anyIn
 all-any q [] = refl
-all-any q (x ∷ l) = ap (and (q x)) (all-any q l) ∙ turn (q x) (any (λ x. no (q x)) l)
+all-any q (x ∷ l) = ap (and (q x)) (all-any q l) ∙ turn (q x) (anyIn (λ x. no (q x)) l)
   where
     turn : (a b : Bool) → and a (no b) ≡ no (or (no a) b)
     turn true b = refl
     turn false b = refl
 
-all-below : (p q : ℕ → Bool) (i n : ℕ) → ((k : ℕ) → k < i + n → p k ≡ q k) → all p (indices i n) ≡ all q (indices i n)
-unfolding all indices
+all-below : (p q : ℕ → Bool) (i n : ℕ) → ((k : ℕ) → k < i + n → p k ≡ q k) → allIn p (indices i n) ≡ allIn q (indices i n)
+unfolding allIn indices
 all-below p q i zero h = refl
 all-below p q i (suc n) h = ap₂ and (h i (omega arith)) (all-below p q (i + 1) n (λ k l. h k (omega arith)))
 
-any-alike : {A : Type 0} (p q : A → Bool) (l : List A) → ((x : A) → p x ≡ q x) → any p l ≡ any q l
-unfolding any
+any-alike : {A : Type 0} (p q : A → Bool) (l : List A) → ((x : A) → p x ≡ q x) → anyIn p l ≡ anyIn q l
+unfolding anyIn
 any-alike p q [] h = refl
 any-alike p q (x ∷ l) h = ap₂ or (h x) (any-alike p q l h)
 
@@ -178,7 +178,7 @@ or-none true = refl
 or-none false = refl
 
 module _ (t : RegInfo) (f : Function) (ta : target.Accepted t) (p : Patch) (e w : List ℕ) (free : List Bool) (tr : Tracked t f (sorted t f p) e w) (fr : (u : ℕ) → has u (p .free) ≡ setOf free u) where
-  written : (u : ℕ) → isWritten w u ≡ any (λ (x : Entry). has u (placeUnits t (entryDest x))) (p .entries)
+  written : (u : ℕ) → isWritten w u ≡ anyIn (λ (x : Entry). has u (placeUnits t (entryDest x))) (p .entries)
   written u = ap (λ (g : ℕ → Option ℕ). known (g u)) (tr .map) ∙ writer-known t f (sorted t f p) u ∙ dests-are t f p (λ d. has u (placeUnits t d))
 
   unit-of : (u : ℕ) → u < 512 → (d : Place) → has u (placeUnits t d) ≡ has u (unitsOfReg t f d)
@@ -200,7 +200,7 @@ module _ (t : RegInfo) (f : Function) (ta : target.Accepted t) (p : Patch) (e w 
     slot-same : (x : ℕ) → slotStays start m w x ≡ or (isDestSlot t f p x) (sameWords (inSlot m x) (inSlot start x))
     slot-same x = ap (λ (a : Bool). or a (sameWords (inSlot m x) (inSlot start x))) (written (512 + x) ∙ any-alike _ _ (p .entries) (λ y. slot-of x (entryDest y)))
 
-    pub ends-so : and (no (someWrong t f g m (sorted t f p))) (and (all (unitStays start m w free) (indices 0 512)) (all (slotStays start m w) (indices 0 (f .slots)))) ≡ endsRight t f p g start m
+    pub ends-so : and (no (someWrong t f g m (sorted t f p))) (and (allIn (unitStays start m w free) (indices 0 512)) (allIn (slotStays start m w) (indices 0 (f .slots)))) ≡ endsRight t f p g start m
     unfolding endsRight
     ends-so =
         ap₂ and (ap no (ends-are t f (wrongly t f g m) p) ∙ sym (all-any (λ (x : Entry). sameWords (read t f m (entryDest x)) (g (entryValue x))) (p .entries)))
@@ -221,7 +221,7 @@ module _ (t : RegInfo) (f : Function) (p : Patch) (none-of : firstOf (entriesCon
   unfolding patchRefusal patchConditions
   refusal-is =
       first-none (entriesConditions t f (p .entries) nothingSorted) _ none-of
-      ∙ ap (λ (b : Bool). firstOf (cond 13 (freeDestination t f p (sorted t f p)) ∷ cond 14 (lastOverlaps t f (sorted t f p)) ∷ cond 16 b ∷ [])) (le-ltb (bound (sorted t f p)) (bound (sorted t f p)) (omega arith) ∙ sym (le-ltb 1024 (bound (sorted t f p)) few))
+      ∙ ap (λ (b : Bool). firstOf (refusedIf 13 (freeDestination t f p (sorted t f p)) ∷ refusedIf 14 (lastOverlaps t f (sorted t f p)) ∷ refusedIf 16 b ∷ [])) (le-ltb (bound (sorted t f p)) (bound (sorted t f p)) (omega arith) ∙ sym (le-ltb 1024 (bound (sorted t f p)) few))
 
   pub refused-as : (most n : ℕ) (ws : List ℕ) → some n ≡ firstOf (patchConditions t f p 1024 (sorted t f p)) → rule.Refused n ≡ examinePatch t f p most ws
   unfolding examinePatch

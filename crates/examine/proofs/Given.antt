@@ -8,7 +8,7 @@ use native.Mathlib.Omega.{arith}
 use lib.Dec.{ltb}
 use lib.ListN.{length, getD}
 use borrow.Author.Tests.{ltb-true}
-use Rattle.entity.specs.Logic.{pick, and, no, all, has, indices}
+use Rattle.entity.specs.Logic.{pick, and, no, allIn, has, indices}
 use Rattle.entity.specs.Place.{Place, reg, slot, codeOf, placeAt}
 use Rattle.entity.proofs.Laws.{code-there}
 use Rattle.reginfo.specs.RegInfo.{numRegs}
@@ -67,16 +67,16 @@ module _ (t f e w : List ℕ) where
 -- the start laid in two tables, the run done in one of them, and how it ended
 pub done-so :
     (t f : List ℕ) → Checked t f → (e w : List ℕ) (free : List Bool) → EntriesOk t f e w → (most : ℕ) (p : Patch) → ((u : ℕ) → has u (p .free) ≡ setOf free u)
-    → sortedOf e ≡ sorted (regInfoOf t) (functionOf f) p → (ws : List ℕ) → all (namedIn (regInfoOf t) (functionOf f) most) ws ≡ true
+    → sortedOf e ≡ sorted (regInfoOf t) (functionOf f) p → (ws : List ℕ) → allIn (namedIn (regInfoOf t) (functionOf f) most) ws ≡ true
     → noStart (regInfoOf t) (functionOf f) (sortedOf e .moves) ≡ false
     → (m s m′ : Memory) → m ≡ genericStart (regInfoOf t) (functionOf f) (sortedOf e .moves) → s ≡ genericStart (regInfoOf t) (functionOf f) (sortedOf e .moves)
     → ran (regInfoOf t) (functionOf f) (genericContent (regInfoOf t) (functionOf f) (sortedOf e .moves)) ws m ≡ some m′
     → (b : Bool)
     → and (no (someWrong (regInfoOf t) (functionOf f) (genericContent (regInfoOf t) (functionOf f) (sortedOf e .moves)) m′ (sortedOf e)))
-    (and (all (unitStays s m′ w free) (indices 0 512)) (all (slotStays s m′ w) (indices 0 (functionOf f .slots)))) ≡ b
+    (and (allIn (unitStays s m′ w free) (indices 0 512)) (allIn (slotStays s m′ w) (indices 0 (functionOf f .slots)))) ≡ b
     → examineWords (regInfoOf t) (functionOf f) p most ws ≡ pick b rule.Yes rule.No
 done-so t f ok e w free k most p fr so ws n ns m s m′ em es r b h =
     says-done (regInfoOf t) (functionOf f) most p ws n (sortedOf e .moves) (ap (λ (a : Sorted). a .moves) so) ns m m′ em r b
     (sym (ends-so (regInfoOf t) (functionOf f) (ok .target) p e w free (subst (λ (a : Sorted). Tracked (regInfoOf t) (functionOf f) a e w) so k) fr (genericContent (regInfoOf t) (functionOf f) (sortedOf e .moves)) (genericStart (regInfoOf t) (functionOf f) (sortedOf e .moves)) m′)
-    ∙ ap₂ (λ (a : Sorted) (x : Memory). and (no (someWrong (regInfoOf t) (functionOf f) (genericContent (regInfoOf t) (functionOf f) (sortedOf e .moves)) m′ a)) (and (all (unitStays x m′ w free) (indices 0 512)) (all (slotStays x m′ w) (indices 0 (functionOf f .slots))))) (sym so) (sym es)
+    ∙ ap₂ (λ (a : Sorted) (x : Memory). and (no (someWrong (regInfoOf t) (functionOf f) (genericContent (regInfoOf t) (functionOf f) (sortedOf e .moves)) m′ a)) (and (allIn (unitStays x m′ w free) (indices 0 512)) (allIn (slotStays x m′ w) (indices 0 (functionOf f .slots))))) (sym so) (sym es)
     ∙ h)

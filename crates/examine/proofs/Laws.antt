@@ -7,7 +7,7 @@ use native.Mathlib.Omega.{arith}
 use lib.Dec.{eqb, ltb}
 use lib.ListN.{length, getD, drop, drop-of-length-le, length-map}
 use borrow.Author.Tests.{eqb-true, eq-eqb, ne-eqb, ltb-true}
-use Rattle.entity.specs.Logic.{pick, and, or, no, any, all, has, cells, indices}
+use Rattle.entity.specs.Logic.{pick, and, or, no, anyIn, allIn, has, cells, indices}
 use Rattle.entity.specs.Place.{Place, placeAt}
 use Rattle.entity.proofs.Laws.{cells-step, indices-step, and-true, never-true, length-built, getD-built}
 use Rattle.reginfo.specs.RegInfo.{RegInfo, numRegs}
@@ -62,12 +62,12 @@ untouched-same c s at h q =
     let z = and-true (eqb (getD c at 0) 0) (eqb (getD s at 0) 0) q in
     ap₂ sameWords (list-at c at h ∙ no-mark c at (eqb-true _ _ (z .0))) (list-at s at h ∙ no-mark s at (eqb-true _ _ (z .1))) ∙ same-self (unknown at)
 
-pub all-index : (p : ℕ → Bool) (i n : ℕ) → 0 < n → all p (indices i n) ≡ and (p i) (all p (indices (i + 1) (n - 1)))
-unfolding all
+pub all-index : (p : ℕ → Bool) (i n : ℕ) → 0 < n → allIn p (indices i n) ≡ and (p i) (allIn p (indices (i + 1) (n - 1)))
+unfolding allIn
 all-index p i n h = rw (indices-step i n h)
 
-pub all-none : (p : ℕ → Bool) (i n : ℕ) → n ≡ 0 → all p (indices i n) ≡ true
-unfolding all indices
+pub all-none : (p : ℕ → Bool) (i n : ℕ) → n ≡ 0 → allIn p (indices i n) ≡ true
+unfolding allIn indices
 all-none p i n h = rw h
 
 pub or-last : (a b c : Bool) → c ≡ true → true ≡ or a (or b c)
@@ -109,7 +109,7 @@ module _ (t : RegInfo) (f : Function) (g : ℕ → List ℕ) (m : Memory) (e : L
       ∙ ap (λ (x : KeptMove). or (wrongly t f g m (x .dest) (x .value)) (keptWrong t f g m (drop (k + 1) (sortedOf e .moves)))) (kept-is e k l)
 
   pub kept-end : (k : ℕ) → kept e ≤ k → keptWrong t f g m (drop k (sortedOf e .moves)) ≡ false
-  unfolding any
+  unfolding anyIn
   kept-end k h = rw (drop-of-length-le (sortedOf e .moves) {i = k} (omega (arith, kept-count e)))
 
   module _ (base counter : ℕ) where
@@ -124,7 +124,7 @@ module _ (t : RegInfo) (f : Function) (g : ℕ → List ℕ) (m : Memory) (e : L
         ∙ ap (λ (x : Remat). or (wrongly t f g m (x .dest) (x .value)) (rematsWrong t f g m (drop (i + 1) (rematsAt e base counter)))) (getD-built (rematAt base e) 0 (getD e counter 0) i noRemat h ∙ ap (rematAt base e) (omega arith))
 
     pub remats-end : (i : ℕ) → getD e counter 0 ≤ i → rematsWrong t f g m (drop i (rematsAt e base counter)) ≡ false
-    unfolding any
+    unfolding anyIn
     remats-end i h = rw (drop-of-length-le (rematsAt e base counter) {i = i} (omega (arith, count-is)))
 
 -- ---- the destinations of an accepted patch

@@ -5,7 +5,7 @@ use mathlib.Core.Bool.{Bool}
 use mathlib.Core.List.{List, map}
 use lib.Dec.{eqb}
 use lib.ListN.{getD}
-use Rattle.entity.specs.Logic.{and, or, no, any, all, indices}
+use Rattle.entity.specs.Logic.{and, or, no, anyIn, allIn, indices}
 use Rattle.entity.specs.Place.{Place}
 use Rattle.reginfo.specs.RegInfo.{RegInfo}
 use Rattle.function.specs.Function.{Function, numValues}
@@ -24,10 +24,10 @@ module _ (t : RegInfo) (f : Function) (content : ℕ → List ℕ) (m : Memory) 
   wrongly d v = no (sameWords (read t f m d) (content v))
 
   abbrev pub keptWrong : List KeptMove → Bool
-  keptWrong l = any (λ (k : KeptMove). wrongly (k .dest) (k .value)) l
+  keptWrong l = anyIn (λ (k : KeptMove). wrongly (k .dest) (k .value)) l
 
   abbrev pub rematsWrong : List Remat → Bool
-  rematsWrong l = any (λ (r : Remat). wrongly (r .dest) (r .value)) l
+  rematsWrong l = anyIn (λ (r : Remat). wrongly (r .dest) (r .value)) l
 
   abbrev pub someWrong : Sorted → Bool
   someWrong a = or (keptWrong (a .moves)) (or (rematsWrong (a .remats)) (rematsWrong (a .rematsWithScratch)))

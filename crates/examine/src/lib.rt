@@ -20,7 +20,7 @@ ghost use mathlib.Core.Option.{none};
 ghost use Prim.Native.Nat.{ℕ, _+_, _*_, _<_, _≤_};
 ghost use lib.Dec.{eqb};
 ghost use lib.ListN.{getD};
-ghost use Rattle.entity.specs.Logic.{and, no, all, has, indices, Anything};
+ghost use Rattle.entity.specs.Logic.{and, no, allIn, has, indices, Anything};
 ghost use Rattle.entity.specs.Place.{placeAt};
 ghost use Rattle.reginfo.specs.Refused.{firstOf};
 ghost use Rattle.reginfo.specs.Table.{regInfoOf};
@@ -219,7 +219,7 @@ fn units_stay(
     d: &mut Words,
 ) -> bool
     requires { ⌜ Linked (now w) × Short (now c) × Short (now s) ⌝ }
-    ensures { λ r. ⌜ (r ≡ all (unitStays (memoryOf (now (s .entry))) (memoryOf (now (c .entry))) (now (w .entry)) (now (free .entry))) (indices 0 512)) × Anything (now (b .exit)) × Anything (now (d .exit)) ⌝ }
+    ensures { λ r. ⌜ (r ≡ allIn (unitStays (memoryOf (now (s .entry))) (memoryOf (now (c .entry))) (now (w .entry)) (now (free .entry))) (indices 0 512)) × Anything (now (b .exit)) × Anything (now (d .exit)) ⌝ }
 {
     let mut u: usize = 0;
     let mut left: usize = 512;
@@ -249,7 +249,7 @@ fn slot_stays(w: &SparseMap, c: &Cells, s: &Cells, x: usize, b: &mut Words, d: &
 
 fn slots_stay(w: &SparseMap, c: &Cells, s: &Cells, n: usize, b: &mut Words, d: &mut Words) -> bool
     requires { ⌜ Linked (now w) × Short (now c) × Short (now s) × (n ≤ 4096) ⌝ }
-    ensures { λ r. ⌜ (r ≡ all (slotStays (memoryOf (now (s .entry))) (memoryOf (now (c .entry))) (now (w .entry))) (indices 0 n)) × Anything (now (b .exit)) × Anything (now (d .exit)) ⌝ }
+    ensures { λ r. ⌜ (r ≡ allIn (slotStays (memoryOf (now (s .entry))) (memoryOf (now (c .entry))) (now (w .entry))) (indices 0 n)) × Anything (now (b .exit)) × Anything (now (d .exit)) ⌝ }
 {
     let mut x: usize = 0;
     let mut left = n;
@@ -300,7 +300,7 @@ fn ends_right(
     d: &mut Words,
 ) -> bool
     requires { ⌜ Checked (now t) (now f) × EntriesOk (now t) (now f) (now e) (now w) × Tied (now e) (now x) × Short (now c) × Short (now s) ⌝ }
-    ensures { λ r. ⌜ (r ≡ and (no (someWrong (regInfoOf (now (t .entry))) (functionOf (now (f .entry))) (genericContent (regInfoOf (now (t .entry))) (functionOf (now (f .entry))) (sortedOf (now (e .entry)) .moves)) (memoryOf (now (c .entry))) (sortedOf (now (e .entry))))) (and (all (unitStays (memoryOf (now (s .entry))) (memoryOf (now (c .entry))) (now (w .entry)) (now (free .entry))) (indices 0 512)) (all (slotStays (memoryOf (now (s .entry))) (memoryOf (now (c .entry))) (now (w .entry))) (indices 0 (functionOf (now (f .entry)) .slots))))) × Anything (now (b .exit)) × Anything (now (d .exit)) ⌝ }
+    ensures { λ r. ⌜ (r ≡ and (no (someWrong (regInfoOf (now (t .entry))) (functionOf (now (f .entry))) (genericContent (regInfoOf (now (t .entry))) (functionOf (now (f .entry))) (sortedOf (now (e .entry)) .moves)) (memoryOf (now (c .entry))) (sortedOf (now (e .entry))))) (and (allIn (unitStays (memoryOf (now (s .entry))) (memoryOf (now (c .entry))) (now (w .entry)) (now (free .entry))) (indices 0 512)) (allIn (slotStays (memoryOf (now (s .entry))) (memoryOf (now (c .entry))) (now (w .entry))) (indices 0 (functionOf (now (f .entry)) .slots))))) × Anything (now (b .exit)) × Anything (now (d .exit)) ⌝ }
 {
     if some_wrong(t, f, e, w, x, c, b, d) {
         return false;

@@ -1,6 +1,6 @@
 -- The trials of 02 m, by computation.
 use mathlib.Core.Path.{refl}
-use Rattle.entity.specs.Logic.{any, all, has, meets, twice, lastOr, indices}
+use Rattle.entity.specs.Logic.{anyIn, allIn, has, meets, twice, lastOr, indices}
 use Rattle.entity.specs.Place.{placeAt}
 use Rattle.reginfo.specs.RegInfo.{spillslotSize, topLevelClass, stackToStackClass, regMemory, bankForReg, regUnits, bankForClass, classSlots, classMembers, allocationOrder}
 use Rattle.reginfo.specs.Refused.{firstOf}
@@ -17,7 +17,7 @@ use Rattle.examine_rules.specs.Words.{onlyIf, editsIn, examineWords, exa
 use Rattle.examine_rules.specs.ExamineTrials.{withWord, ExamineTrials}
 
 pub examine-trials : ExamineTrials
-unfolding any all has meets twice lastOr indices placeAt spillslotSize topLevelClass stackToStackClass regMemory bankForReg regUnits bankForClass classSlots classMembers allocationOrder firstOf valueBank rematCost rematClass updated andThen filter destinations add sortedFrom entryConditions patchConditions entriesConditions three halves put read write fits step steps counted editOf join joinAll labelsFrom labels sameWords width numberIn genericContent laid noStart endsRight named examine patchRefusal onlyIf editsIn examineWords examinePatch withWord
+unfolding anyIn allIn has meets twice lastOr indices placeAt spillslotSize topLevelClass stackToStackClass regMemory bankForReg regUnits bankForClass classSlots classMembers allocationOrder firstOf valueBank rematCost rematClass updated andThen filter destinations add sortedFrom entryConditions patchConditions entriesConditions three halves put read write fits step steps counted editOf join joinAll labelsFrom labels sameWords width numberIn genericContent laid noStart endsRight named examine patchRefusal onlyIf editsIn examineWords examinePatch withWord
 examine-trials = record {
   ours = refl;
   merged = refl;

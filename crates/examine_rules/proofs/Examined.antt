@@ -9,7 +9,7 @@ use native.Mathlib.Omega.{arith}
 use lib.Dec.{eqb}
 use lib.ListN.{length, getD}
 use borrow.Author.Tests.{eqb-true, eq-eqb}
-use Rattle.entity.specs.Logic.{pick, and, or, no, all, has, indices}
+use Rattle.entity.specs.Logic.{pick, and, or, no, allIn, has, indices}
 use Rattle.entity.proofs.Laws.{and-true, never-true}
 use Rattle.reginfo.specs.RegInfo.{RegInfo}
 use Rattle.reginfo.specs.Refused as target
@@ -47,44 +47,44 @@ are-words l m e = rw (← e) (self-words l)
 both : (a b : Bool) → a ≡ true → b ≡ true → and a b ≡ true
 both a b h k = rw (h, k)
 
-pub all-mem : {A : Type 0} (p : A → Bool) (l : List A) → all p l ≡ true → (x : A) → List·Memᴰ x l → p x ≡ true
-unfolding all
-all-mem p (y ∷ l) h x (List·Memᴰ·head e) = rw e (and-true (p y) (all p l) h .0)
-all-mem p (y ∷ l) h x (List·Memᴰ·tail m) = all-mem p l (and-true (p y) (all p l) h .1) x m
+pub all-mem : {A : Type 0} (p : A → Bool) (l : List A) → allIn p l ≡ true → (x : A) → List·Memᴰ x l → p x ≡ true
+unfolding allIn
+all-mem p (y ∷ l) h x (List·Memᴰ·head e) = rw e (and-true (p y) (allIn p l) h .0)
+all-mem p (y ∷ l) h x (List·Memᴰ·tail m) = all-mem p l (and-true (p y) (allIn p l) h .1) x m
 
-pub mem-all : {A : Type 0} (p : A → Bool) (l : List A) → ((x : A) → List·Memᴰ x l → p x ≡ true) → all p l ≡ true
-unfolding all
+pub mem-all : {A : Type 0} (p : A → Bool) (l : List A) → ((x : A) → List·Memᴰ x l → p x ≡ true) → allIn p l ≡ true
+unfolding allIn
 mem-all p [] h = refl
-mem-all p (y ∷ l) h = both (p y) (all p l) (h y (List·Memᴰ·head refl)) (mem-all p l (λ x m. h x (List·Memᴰ·tail m)))
+mem-all p (y ∷ l) h = both (p y) (allIn p l) (h y (List·Memᴰ·head refl)) (mem-all p l (λ x m. h x (List·Memᴰ·tail m)))
 
-pub not-all : {A : Type 0} (p : A → Bool) (l : List A) → all p l ≡ false → (x : A) × List·Memᴰ x l × (p x ≡ false)
-unfolding all
+pub not-all : {A : Type 0} (p : A → Bool) (l : List A) → allIn p l ≡ false → (x : A) × List·Memᴰ x l × (p x ≡ false)
+unfolding allIn
 not-all p [] h = absurd (true≢false h)
 not-all {A} p (y ∷ l) h = go (p y) refl h (not-all p l)
   where
-    go : (b : Bool) → p y ≡ b → and b (all p l) ≡ false → (all p l ≡ false → (x : A) × List·Memᴰ x l × (p x ≡ false)) → (x : A) × List·Memᴰ x (y ∷ l) × (p x ≡ false)
+    go : (b : Bool) → p y ≡ b → and b (allIn p l) ≡ false → (allIn p l ≡ false → (x : A) × List·Memᴰ x l × (p x ≡ false)) → (x : A) × List·Memᴰ x (y ∷ l) × (p x ≡ false)
     go false e k on = (y, List·Memᴰ·head refl, e)
     go true e k on = let w = on k in (w .0, List·Memᴰ·tail (w .1), w .2)
 
-all-from : (p : ℕ → Bool) (a n : ℕ) → all p (indices a n) ≡ true → (i : ℕ) → i < n → p (a + i) ≡ true
-unfolding all indices
+all-from : (p : ℕ → Bool) (a n : ℕ) → allIn p (indices a n) ≡ true → (i : ℕ) → i < n → p (a + i) ≡ true
+unfolding allIn indices
 all-from p a zero h i k = absurd (omega arith)
-all-from p a (suc n) h zero k = let e : a + 0 ≡ a = omega arith in rw e (and-true (p a) (all p (indices (a + 1) n)) h .0)
+all-from p a (suc n) h zero k = let e : a + 0 ≡ a = omega arith in rw e (and-true (p a) (allIn p (indices (a + 1) n)) h .0)
 all-from p a (suc n) h (suc i) k =
     let e : a + suc i ≡ a + 1 + i = omega arith in
-    ap p e ∙ all-from p (a + 1) n (and-true (p a) (all p (indices (a + 1) n)) h .1) i (omega arith)
+    ap p e ∙ all-from p (a + 1) n (and-true (p a) (allIn p (indices (a + 1) n)) h .1) i (omega arith)
 
-from-all : (p : ℕ → Bool) (a n : ℕ) → ((i : ℕ) → i < n → p (a + i) ≡ true) → all p (indices a n) ≡ true
-unfolding all indices
+from-all : (p : ℕ → Bool) (a n : ℕ) → ((i : ℕ) → i < n → p (a + i) ≡ true) → allIn p (indices a n) ≡ true
+unfolding allIn indices
 from-all p a zero h = refl
 from-all p a (suc n) h =
     let e : a + 0 ≡ a = omega arith in
-    both (p a) (all p (indices (a + 1) n)) (ap p (sym e) ∙ h 0 (omega arith)) (from-all p (a + 1) n (λ i k. let q : a + 1 + i ≡ a + suc i = omega arith in ap p q ∙ h (suc i) (omega arith)))
+    both (p a) (allIn p (indices (a + 1) n)) (ap p (sym e) ∙ h 0 (omega arith)) (from-all p (a + 1) n (λ i k. let q : a + 1 + i ≡ a + suc i = omega arith in ap p q ∙ h (suc i) (omega arith)))
 
-all-below : (p : ℕ → Bool) (n : ℕ) → all p (indices 0 n) ≡ true → (i : ℕ) → i < n → p i ≡ true
+all-below : (p : ℕ → Bool) (n : ℕ) → allIn p (indices 0 n) ≡ true → (i : ℕ) → i < n → p i ≡ true
 all-below p n h i k = let e : 0 + i ≡ i = omega arith in ap p (sym e) ∙ all-from p 0 n h i k
 
-below-all : (p : ℕ → Bool) (n : ℕ) → ((i : ℕ) → i < n → p i ≡ true) → all p (indices 0 n) ≡ true
+below-all : (p : ℕ → Bool) (n : ℕ) → ((i : ℕ) → i < n → p i ≡ true) → allIn p (indices 0 n) ≡ true
 below-all p n h = from-all p 0 n (λ i k. let e : 0 + i ≡ i = omega arith in ap p e ∙ h i k)
 
 -- unless the one, the other
@@ -151,8 +151,8 @@ module _ (t : RegInfo) (f : Function) (p : Patch) where
   ends-of : (content : ℕ → List ℕ) (start m : Memory) → endsRight t f p content start m ≡ true → Ends t f p content start m
   unfolding endsRight
   ends-of content start m h =
-      let q = and-true (all (λ e. sameWords (read t f m (entryDest e)) (content (entryValue e))) (p .entries)) _ h in
-      let r = and-true (all (λ u. or (isDestUnit t f p u) (or (has u (p .free)) (and (eqb (m .word u) (start .word u)) (sameWords (m .lists u) (start .lists u))))) (indices 0 512)) _ (q .1) in
+      let q = and-true (allIn (λ e. sameWords (read t f m (entryDest e)) (content (entryValue e))) (p .entries)) _ h in
+      let r = and-true (allIn (λ u. or (isDestUnit t f p u) (or (has u (p .free)) (and (eqb (m .word u) (start .word u)) (sameWords (m .lists u) (start .lists u))))) (indices 0 512)) _ (q .1) in
       record {
         entries = λ e k. words-are _ _ (all-mem _ (p .entries) (q .0) e k);
         units = λ u k d n.
@@ -192,7 +192,7 @@ module _ (t : RegInfo) (f : Function) (p : Patch) where
         go (inr (inl w)) = rw (w .3) (ok .remats (w .0) (w .1) .value-named)
         go (inr (inr w)) = rw (w .3) (ok .rematsWithScratch (w .0) (w .1) .value-named)
 
-    module _ (most : ℕ) (es : List Edit) (al : all (named t f most) es ≡ true) where
+    module _ (most : ℕ) (es : List Edit) (al : allIn (named t f most) es ≡ true) where
       -- what is right from the generic start is right from every start
       from-generic : (s : Machine) → steps t f γ es (begin start₀) ≡ some s → Ends t f p γ start₀ (s .memory) → Does t f p es
       from-generic s ran ends content whole start hold =
@@ -226,7 +226,7 @@ module _ (t : RegInfo) (f : Function) (p : Patch) where
 
     module _ (most : ℕ) (es : List Edit) where
       abbrev are-named : Bool
-      are-named = all (named t f most) es
+      are-named = allIn (named t f most) es
 
       abbrev no-start : Bool
       no-start = noStart t f ms

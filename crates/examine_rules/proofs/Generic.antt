@@ -8,7 +8,7 @@ use native.Mathlib.Omega.{arith}
 use lib.Dec.{eqb, ltb}
 use lib.ListN.{length, getD}
 use borrow.Author.Tests.{eqb-true, eqb-false, eq-eqb, lt-ltb, le-ltb}
-use Rattle.entity.specs.Logic.{pick, and, or, no, any, indices}
+use Rattle.entity.specs.Logic.{pick, and, or, no, anyIn, indices}
 use Rattle.entity.specs.Place.{Place, reg, slot, samePlace}
 use Rattle.entity.proofs.Laws.{or-false, and-true, and-false, no-false, never-true, any-at, length-indices}
 use Rattle.reginfo.specs.RegInfo.{RegInfo, isMemory, placeUnits, overlap}
@@ -45,12 +45,12 @@ pub or-either : (a b : Bool) → or a b ≡ true → (a ≡ true) ⊎ (b ≡ tru
 or-either true b h = inl refl
 or-either false b h = inr h
 
-any-where : {A : Type 0} (p : A → Bool) (l : List A) (d : A) → any p l ≡ true → (i : ℕ) × (i < length l) × (p (getD l i d) ≡ true)
-unfolding any
+any-where : {A : Type 0} (p : A → Bool) (l : List A) (d : A) → anyIn p l ≡ true → (i : ℕ) × (i < length l) × (p (getD l i d) ≡ true)
+unfolding anyIn
 any-where p [] d h = absurd (false≢true h)
 any-where {A} p (y ∷ l) d h = go (any-where p l d) (p y) refl h
   where
-    go : (any p l ≡ true → (i : ℕ) × (i < length l) × (p (getD l i d) ≡ true)) → (b : Bool) → p y ≡ b → or b (any p l) ≡ true → (i : ℕ) × (i < length (y ∷ l)) × (p (getD (y ∷ l) i d) ≡ true)
+    go : (anyIn p l ≡ true → (i : ℕ) × (i < length l) × (p (getD l i d) ≡ true)) → (b : Bool) → p y ≡ b → or b (anyIn p l) ≡ true → (i : ℕ) × (i < length (y ∷ l)) × (p (getD (y ∷ l) i d) ≡ true)
     go later true e h = (0, omega arith, e)
     go later false e h = let w = later h in (suc (w .0), omega (arith, w .1), w .2)
 
@@ -94,11 +94,11 @@ number-found (x ∷ ls) (m ∷ l) v (suc i) e h k = go (eqb (m .value) v) refl (
     go true q w = (0, omega arith, eqb-true (m .value) v q, refl)
     go false q w = (suc (w .0), omega (arith, w .1), w .2, w .3)
 
-pub number-other : (ls : List ℕ) (l : List KeptMove) (v : ℕ) → any (λ (m : KeptMove). eqb (m .value) v) l ≡ false → numberIn ls l v ≡ 128 + v
-unfolding numberIn any
+pub number-other : (ls : List ℕ) (l : List KeptMove) (v : ℕ) → anyIn (λ (m : KeptMove). eqb (m .value) v) l ≡ false → numberIn ls l v ≡ 128 + v
+unfolding numberIn anyIn
 number-other ls [] v h = refl
 number-other [] (m ∷ l) v h = refl
-number-other (x ∷ ls) (m ∷ l) v h = let q = or-false (eqb (m .value) v) (any (λ (m : KeptMove). eqb (m .value) v) l) h in rw (q .0) (number-other ls l v (q .1))
+number-other (x ∷ ls) (m ∷ l) v h = let q = or-false (eqb (m .value) v) (anyIn (λ (m : KeptMove). eqb (m .value) v) l) h in rw (q .0) (number-other ls l v (q .1))
 
 pub tied-comm : (x y : KeptMove) → tied x y ≡ tied y x
 tied-comm x y = ap₂ or (same-comm (x .source) (y .source)) (eqb-comm (x .value) (y .value))
@@ -167,9 +167,9 @@ module _ (t : RegInfo) (f : Function) (ta : target.Accepted t) (fa : function.Ac
     group g = pick (ltb g 128) (content (kept ms g .value)) (content (g - 128))
 
     group-is : (v : ℕ) → group (numberOf ms v) ≡ content v
-    group-is v = go (any (λ (m : KeptMove). eqb (m .value) v) ms) refl
+    group-is v = go (anyIn (λ (m : KeptMove). eqb (m .value) v) ms) refl
       where
-        go : (b : Bool) → any (λ (m : KeptMove). eqb (m .value) v) ms ≡ b → group (numberOf ms v) ≡ content v
+        go : (b : Bool) → anyIn (λ (m : KeptMove). eqb (m .value) v) ms ≡ b → group (numberOf ms v) ≡ content v
         go true e =
             let w = any-where (λ (m : KeptMove). eqb (m .value) v) ms noMove e in
             let i : ℕ = w .0 in
@@ -294,7 +294,7 @@ module _ (t : RegInfo) (f : Function) (ta : target.Accepted t) (fa : function.Ac
     unfolding noStart
     same-widths n i k h l e =
         let q = any-at (λ (y : KeptMove). and (samePlace (kept ms i .source) (y .source)) (no (eqb (width t f (kept ms i .value)) (width t f (y .value))))) ms k noMove
-        (any-at (λ (x : KeptMove). any (λ (y : KeptMove). and (samePlace (x .source) (y .source)) (no (eqb (width t f (x .value)) (width t f (y .value))))) ms) ms i noMove n h) l in
+        (any-at (λ (x : KeptMove). anyIn (λ (y : KeptMove). and (samePlace (x .source) (y .source)) (no (eqb (width t f (x .value)) (width t f (y .value))))) ms) ms i noMove n h) l in
         eqb-true _ _ (no-false _ (and-false _ _ q e))
 
     clear : noStart t f ms ≡ false → (i k : ℕ) → i < length ms → k < length ms → Clear ms (kept ms i) (kept ms k)
@@ -316,7 +316,7 @@ module _ (t : RegInfo) (f : Function) (ta : target.Accepted t) (fa : function.Ac
         → ((i : ℕ) → i < length ms → read t f start (kept ms i .source) ≡ content (kept ms i .value)) → ⊥
     unfolding noStart
     none-starts e content whole start hold =
-        let x = any-where (λ (x : KeptMove). any (λ (y : KeptMove). and (samePlace (x .source) (y .source)) (no (eqb (width t f (x .value)) (width t f (y .value))))) ms) ms noMove e in
+        let x = any-where (λ (x : KeptMove). anyIn (λ (y : KeptMove). and (samePlace (x .source) (y .source)) (no (eqb (width t f (x .value)) (width t f (y .value))))) ms) ms noMove e in
         let i : ℕ = x .0 in
         let y = any-where (λ (y : KeptMove). and (samePlace (kept ms i .source) (y .source)) (no (eqb (width t f (kept ms i .value)) (width t f (y .value))))) ms noMove (x .2) in
         let k : ℕ = y .0 in

@@ -13,7 +13,7 @@ use Rattle.entity.specs.Logic.{has, twice}
 use Rattle.entity.specs.Place.{Place, reg, slot}
 use Rattle.reginfo.specs.RegInfo.{RegInfo, numRegs, bankForReg, regUnits, isMemoryReg, isMemory, placeUnits, overlap, lastInOrder, stackToStackClass}
 use Rattle.reginfo.specs.Refused as target
-use Rattle.reginfo.specs.Refused.{Condition, cond, firstOf}
+use Rattle.reginfo.specs.Refused.{Condition, refusedIf, firstOf}
 use Rattle.reginfo.specs.Given.{Given, NoneHolds, conditionAt}
 use Rattle.reginfo.proofs.First.{first-none, none-first}
 use Rattle.reginfo.proofs.Accepted.{width-fits, unit-low, stack-fits, stack-bank, stack-slots, same-width, order-member, member-fits, member-bank, last-memory, last-ordered}
@@ -50,7 +50,7 @@ module _ (t : RegInfo) (f : Function) where
   whole p = wholeConditions t f p (bound (sorted t f p))
 
   abbrev ending : Patch → Cache → List Condition
-  ending p c = cond 17 (ranOut (run t f p (sorted t f p) c)) ∷ []
+  ending p c = refusedIf 17 (ranOut (run t f p (sorted t f p) c)) ∷ []
 
   -- what stands in one list of conditions and then another
   at-end : (xs : List Condition) (x : Condition) (i : ℕ) → i < length (xs ++ (x ∷ [])) → (i < length xs → ⊥) → conditionAt (xs ++ (x ∷ [])) i ≡ x
@@ -60,7 +60,7 @@ module _ (t : RegInfo) (f : Function) where
   at-end (y ∷ xs) x (suc i) l d = at-end xs x i (omega arith) (λ k. d (omega arith))
 
   at-front : (xs ys : List Condition) (i : ℕ) → i < length xs → conditionAt (xs ++ ys) i ≡ conditionAt xs i
-  at-front xs ys i l = List·getD-append xs ys (cond 0 false) i l
+  at-front xs ys i l = List·getD-append xs ys (refusedIf 0 false) i l
 
   -- a call of it with a list long enough is refused with 17 or not at all
   late : (p : Patch) → NoneHolds (whole p) → (c : Cache) (n : ℕ) → Given (whole p ++ ending p c) n → n ≡ 17
@@ -68,7 +68,7 @@ module _ (t : RegInfo) (f : Function) where
     where
       go : Dec (g .at < length (whole p)) → n ≡ 17
       go (yes l) = absurd (false≢true (sym (h (g .at) l) ∙ ap (λ (c : Condition). c .holds) (sym (at-front (whole p) (ending p c) (g .at) l)) ∙ g .holds))
-      go (no l) = sym (g .number) ∙ ap (λ (c : Condition). c .number) (at-end (whole p) (cond 17 (ranOut (run t f p (sorted t f p) c))) (g .at) (g .is) l)
+      go (no l) = sym (g .number) ∙ ap (λ (c : Condition). c .number) (at-end (whole p) (refusedIf 17 (ranOut (run t f p (sorted t f p) c))) (g .at) (g .is) l)
 
   as-whole : (p : Patch) (n : ℕ) → Given (callConditions t f p (bound (sorted t f p)) emptyCache) n → Given (whole p ++ ending p emptyCache) n
   unfolding callConditions
@@ -85,7 +85,7 @@ module _ (t : RegInfo) (f : Function) where
       go (resolved es c m) q = tested t f p (bound (sorted t f p)) emptyCache (resolved es c m) tt q .0
       go (refused n) q = tested t f p (bound (sorted t f p)) emptyCache (refused n) (seventeen p e n q) q .0
 
-  none-there : firstOf (cond 13 false ∷ cond 14 false ∷ cond 16 false ∷ []) ≡ none
+  none-there : firstOf (refusedIf 13 false ∷ refusedIf 14 false ∷ refusedIf 16 false ∷ []) ≡ none
   unfolding firstOf
   none-there = refl
 

@@ -8,7 +8,7 @@ use native.Mathlib.Omega.{arith}
 use lib.Dec.{eqb, ltb}
 use lib.ListN.{length, take, drop}
 use borrow.Author.Tests.{ltb-true, lt-ltb}
-use Rattle.entity.specs.Logic.{and, or, no, any, has, indices}
+use Rattle.entity.specs.Logic.{and, or, no, anyIn, has, indices}
 use Rattle.entity.specs.Place.{Place, reg, slot, names}
 use Rattle.reginfo.specs.RegInfo.{RegInfo, numRegs, numBanks, numClasses, allocationOrder, classMembers, includesSpillslots, lastInOrder, spillslotSize, topLevelClass, stackToStackClass, bankForClass, isMemory}
 use Rattle.reginfo.specs.Refused as target
@@ -264,7 +264,7 @@ module _ (t : RegInfo) (f : Function) (ta : target.Accepted t) (banks : (v : ℕ
     lead-ok i il w g =
         let x = there i il in
         let c : Walking (carried t f ms i w) = record { good = g .good; alloc = g .alloc; scratch = g .scratch; values = carry-all (value t f ms i) (x .2) (w .state) (writers t f ms i) (w .diverted) (g .values) } in
-        branch (All Walking) (any (λ m. isPending (w .state m)) (writers t f ms i)) _ _
+        branch (All Walking) (anyIn (λ m. isPending (w .state m)) (writers t f ms i)) _ _
         (λ _. branch (All Walking) (eqb (w .diverted .refCount (value t f ms i)) 0) _ _ (λ _. divert-ok i il (carried t f ms i w) c) (λ _. emit-ok i il (w .scratch (value t f ms i)) (g .scratch (value t f ms i)) (carried t f ms i w) c))
         (λ _. emit-ok i il (source t f ms i) (x .0) w g)
 

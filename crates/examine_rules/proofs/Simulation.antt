@@ -8,7 +8,7 @@ use native.Mathlib.Omega.{arith}
 use lib.Dec.{eqb, ltb}
 use borrow.Author.Tests.{eqb-true, eq-eqb, ltb-true}
 use lib.ListN.{length, length-map}
-use Rattle.entity.specs.Logic.{pick, and, or, no, all, has}
+use Rattle.entity.specs.Logic.{pick, and, or, no, allIn, has}
 use Rattle.entity.specs.Place.{Place, reg, slot, names}
 use Rattle.entity.proofs.Laws.{and-true}
 use Rattle.reginfo.specs.RegInfo.{RegInfo, numRegs, placeUnits, isMemory, inClass}
@@ -159,11 +159,11 @@ module _ (t : RegInfo) (f : Function)
           (subst (λ (l : List ℕ). fits t f (reg r) (length l) ≡ true) (sym q) (fits-image (reg r) ws (h .0))) (h .1)
           (written (reg r) ws ws′ (without r (s .waiting)) (without r (s′ .waiting)) s s′ (sym q) (fits-short (reg r) ws (h .0)) i)
 
-      pub steps-image : (most : ℕ) (es : List Edit) (s s₁ s′ : Machine) → all (named t f most) es ≡ true → Like s s′ → steps t f γ es s ≡ some s₁ → Does s₁ (steps t f content es s′)
-      unfolding steps andThen all
+      pub steps-image : (most : ℕ) (es : List Edit) (s s₁ s′ : Machine) → allIn (named t f most) es ≡ true → Like s s′ → steps t f γ es s ≡ some s₁ → Does s₁ (steps t f content es s′)
+      unfolding steps andThen allIn
       steps-image most [] s s₁ s′ n i d = let e : s ≡ s₁ = cc in (s′, refl, subst (λ (z : Machine). Like z s′) e i)
       steps-image most (x ∷ es) s s₁ s′ n i d =
-          let k = and-true (named t f most x) (all (named t f most) es) n in
+          let k = and-true (named t f most x) (allIn (named t f most) es) n in
           let h = then-some (step t f γ x s) (steps t f γ es) s₁ d in
           let y = step-image most x s (h .0) s′ (k .0) i (h .1) in
           let z = steps-image most es (h .0) s₁ (y .0) (k .1) (y .2) (h .2) in

@@ -6,7 +6,7 @@ use mathlib.Core.List.{List, [], _∷_, List·Memᴰ}
 use mathlib.Core.Option.{Option, none, some}
 use lib.Dec.{eqb, ltb}
 use lib.ListN.{length, replicate}
-use Rattle.entity.specs.Logic.{pick, and, or, no, any, all, has, indices}
+use Rattle.entity.specs.Logic.{pick, and, or, no, anyIn, allIn, has, indices}
 use Rattle.entity.specs.Place.{slot, samePlace, names}
 use Rattle.reginfo.specs.RegInfo.{RegInfo, numRegs, regUnits, lastInOrder, stackToStackClass}
 use Rattle.reginfo.specs.Refused.{firstOf}
@@ -56,10 +56,10 @@ module _ (t : RegInfo) (f : Function) where
   -- ---- what is asked
   module _ (p : Patch) where
     abbrev pub isDestUnit : ℕ → Bool
-    isDestUnit u = any (λ e. has u (unitsOfReg t f (entryDest e))) (p .entries)
+    isDestUnit u = anyIn (λ e. has u (unitsOfReg t f (entryDest e))) (p .entries)
 
     abbrev pub isDestSlot : ℕ → Bool
-    isDestSlot x = any (λ e. samePlace (slot x) (entryDest e)) (p .entries)
+    isDestSlot x = anyIn (λ e. samePlace (slot x) (entryDest e)) (p .entries)
 
     -- "ends with all destinations right and all other words outside free units and the slots from N on as they began, a register left waiting
     -- counted by its own words": of what the memory itself holds, a unit's word and, as an argument word's (02 b), its list
@@ -100,16 +100,16 @@ module _ (t : RegInfo) (f : Function) where
 
     -- "With no such start the answer is yes": two values of different widths in one slot
     unfoldable pub noStart : Bool
-    noStart = any (λ x. any (λ y. and (samePlace (x .source) (y .source)) (no (eqb (width (x .value)) (width (y .value))))) ms) ms
+    noStart = anyIn (λ x. anyIn (λ y. and (samePlace (x .source) (y .source)) (no (eqb (width (x .value)) (width (y .value))))) ms) ms
 
   -- ---- the answer
   -- whether it `Ends`
   unfoldable pub endsRight : Patch → (ℕ → List ℕ) → Memory → Memory → Bool
   endsRight p content start m =
-      and (all (λ e. sameWords (read t f m (entryDest e)) (content (entryValue e))) (p .entries))
+      and (allIn (λ e. sameWords (read t f m (entryDest e)) (content (entryValue e))) (p .entries))
       (and
-      (all (λ u. or (isDestUnit p u) (or (has u (p .free)) (and (eqb (m .word u) (start .word u)) (sameWords (m .lists u) (start .lists u))))) (indices 0 512))
-      (all (λ x. or (isDestSlot p x) (sameWords (inSlot m x) (inSlot start x))) (indices 0 (f .slots))))
+      (allIn (λ u. or (isDestUnit p u) (or (has u (p .free)) (and (eqb (m .word u) (start .word u)) (sameWords (m .lists u) (start .lists u))))) (indices 0 512))
+      (allIn (λ x. or (isDestSlot p x) (sameWords (inSlot m x) (inSlot start x))) (indices 0 (f .slots))))
 
   abbrev pub judged : Patch → (ℕ → List ℕ) → Memory → Option Machine → Verdict
   judged p content start none = No
@@ -129,7 +129,7 @@ module _ (t : RegInfo) (f : Function) where
   -- "24 [..] tested before the yes or no", over the whole list
   unfoldable pub examine : Patch → ℕ → List Edit → Verdict
   examine p most es =
-      pick (no (all (named most) es)) (Refused 24)
+      pick (no (allIn (named most) es)) (Refused 24)
       (pick (noStart (sorted t f p .moves)) Yes (judgedFrom p es (genericContent (sorted t f p .moves)) (genericStart (sorted t f p .moves))))
 
   -- "Given an accepted patch": its conditions but 16 and 17, for neither a lent list nor a cache is given

@@ -8,7 +8,7 @@ use native.Mathlib.Omega.{arith}
 use lib.Dec.{eqb, ltb}
 use lib.ListN.{length, getD, drop, drop-of-length-le}
 use borrow.Author.Tests.{eqb-true, ltb-true, eq-eqb}
-use Rattle.entity.specs.Logic.{pick, and, or, no, has, all, indices}
+use Rattle.entity.specs.Logic.{pick, and, or, no, has, allIn, indices}
 use Rattle.entity.specs.Place.{Place, reg, slot, codeOf, placeAt, names}
 use Rattle.entity.proofs.Laws.{and-true, drop-step, has-where, all-at, place-there}
 use Rattle.reginfo.specs.RegInfo.{RegInfo, numRegs, placeUnits, isMemory, isMemoryReg, inClass, ofBank, regUnits, classMembers}

@@ -18,7 +18,7 @@ ghost use mathlib.Core.Bool.{true};
 ghost use mathlib.Core.List.{List};
 ghost use mathlib.Core.Option.{some};
 ghost use Prim.Native.Nat.{ℕ, _<_, _≤_};
-ghost use Rattle.entity.specs.Logic.{and, no, all, Anything};
+ghost use Rattle.entity.specs.Logic.{and, no, allIn, Anything};
 ghost use Rattle.entity.specs.Place.{reg, slot, placeAt};
 ghost use Rattle.reginfo.specs.RegInfo.{isMemory, inClass};
 ghost use Rattle.reginfo.specs.Known.{KnownPlace};
@@ -196,7 +196,7 @@ pub fn run(
     most: usize,
     list: &[u64],
 ) -> bool
-    requires { ⌜ Checked (now t) (now f) × Tied (now e) (now x) × Short (now c) × (most ≤ 2048) × (all (namedIn (regInfoOf (now t)) (functionOf (now f)) most) (now list) ≡ true) ⌝ }
+    requires { ⌜ Checked (now t) (now f) × Tied (now e) (now x) × Short (now c) × (most ≤ 2048) × (allIn (namedIn (regInfoOf (now t)) (functionOf (now f)) most) (now list) ≡ true) ⌝ }
     ensures { λ r. ⌜ (ran (regInfoOf (now (t .entry))) (functionOf (now (f .entry))) (genericContent (regInfoOf (now (t .entry))) (functionOf (now (f .entry))) (sortedOf (now (e .entry)) .moves)) (now (list .entry)) (memoryOf (now (c .entry))) ≡ if r (memoryOf (now (c .exit)))) × Short (now (c .exit)) × Anything (now (b .exit)) ⌝ }
 {
     let mut i = 0;

@@ -8,7 +8,7 @@ use native.Mathlib.Omega.{arith}
 use lib.Dec.{eqb, ltb}
 use lib.ListN.{length, getD, drop, drop-of-length-le}
 use borrow.Author.Tests.{ltb-true}
-use Rattle.entity.specs.Logic.{pick, and, all}
+use Rattle.entity.specs.Logic.{pick, and, allIn}
 use Rattle.entity.specs.Place.{Place, reg, slot, codeOf, placeAt, names, readPlace}
 use Rattle.entity.proofs.Laws.{code-there, drop-step}
 use Rattle.reginfo.specs.RegInfo.{RegInfo, numRegs}
@@ -78,10 +78,10 @@ module _ (t f : List ℕ) (ok : Checked t f) (most : ℕ) (few : most ≤ 2048) 
   pub code-low : (c : ℕ) → names (numRegs (regInfoOf t)) (functionOf f .slots + most) (placeAt c) ≡ true → c < 16384
   code-low c h = let l = of-place (placeAt c) h in let e = code-there c in omega arith
 
-pub all-next : {A : Type 0} (p : A → Bool) (l : List A) (i : ℕ) (d : A) → i < length l → all p (drop i l) ≡ and (p (getD l i d)) (all p (drop (i + 1) l))
-unfolding all
+pub all-next : {A : Type 0} (p : A → Bool) (l : List A) (i : ℕ) (d : A) → i < length l → allIn p (drop i l) ≡ and (p (getD l i d)) (allIn p (drop (i + 1) l))
+unfolding allIn
 all-next p l i d h = rw (drop-step l i d h)
 
-pub all-end : {A : Type 0} (p : A → Bool) (l : List A) (i : ℕ) → length l ≤ i → all p (drop i l) ≡ true
-unfolding all
+pub all-end : {A : Type 0} (p : A → Bool) (l : List A) (i : ℕ) → length l ≤ i → allIn p (drop i l) ≡ true
+unfolding allIn
 all-end p l i h = rw (drop-of-length-le l {i = i} h)

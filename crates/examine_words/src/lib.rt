@@ -12,7 +12,7 @@ use reginfo::RegInfo;
 ghost use mathlib.Core.Path.{_≡_};
 ghost use Prim.Native.Nat.{_+_, _<_, _≤_};
 ghost use lib.Dec.{eqb, ltb};
-ghost use Rattle.entity.specs.Logic.{and, all};
+ghost use Rattle.entity.specs.Logic.{and, allIn};
 ghost use Rattle.entity.specs.Place.{names, placeAt};
 ghost use Rattle.reginfo.specs.RegInfo.{numRegs};
 ghost use Rattle.reginfo.specs.Table.{regInfoOf};
@@ -130,7 +130,7 @@ pub fn is_named(t: &RegInfo, f: &Function, most: usize, word: u64) -> bool
 // Whether all words are, over the whole list.
 pub fn all_named(t: &RegInfo, f: &Function, most: usize, list: &[u64]) -> bool
     requires { ⌜ Checked (now t) (now f) × (most ≤ 2048) ⌝ }
-    ensures { λ r. ⌜ r ≡ all (namedIn (regInfoOf (now (t .entry))) (functionOf (now (f .entry))) most) (now (list .entry)) ⌝ }
+    ensures { λ r. ⌜ r ≡ allIn (namedIn (regInfoOf (now (t .entry))) (functionOf (now (f .entry))) most) (now (list .entry)) ⌝ }
 {
     let mut i = 0;
     while i < list.len() {

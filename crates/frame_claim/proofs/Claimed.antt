@@ -7,7 +7,7 @@ use mathlib.Core.Option.{Option, none, some}
 use mathlib.Core.Logic.{_⊎_, inl, inr, ⊎-elim}
 use native.Mathlib.Omega.{arith}
 use lib.ListN.{length, getD}
-use Rattle.entity.specs.Logic.{or, any}
+use Rattle.entity.specs.Logic.{or, anyIn}
 use Rattle.rules.specs.Edit.{updated}
 use Rattle.rules.specs.Scratch.{Cache}
 use Rattle.rules.specs.Patch.{Patch, Answer, refused, resolved, unlessRefused}
@@ -297,13 +297,13 @@ module _ (t f : ℕ → List ℕ) (limit : ℕ) (l : List Inlined) (frame₀ : L
   few-now : (calls : List FrameCall) (s : Frame) → FewAfter calls s → (i : ℕ) → i < length l → s .formulas i .count < 18446744073709551616
   few-now calls s h i g = omega (arith, h i g, count-calls i calls s)
 
-  claimed : (calls : List Made) (k : State) (s : Frame) → By k s → (any isTake calls ≡ true → FewAfter (callsOf t f calls) s) → Named t f (length l) calls → Called t f calls k → Claim t f calls k s
-  unfolding any
+  claimed : (calls : List Made) (k : State) (s : Frame) → By k s → (anyIn isTake calls ≡ true → FewAfter (callsOf t f calls) s) → Named t f (length l) calls → Called t f calls k → Claim t f calls k s
+  unfolding anyIn
   claimed [] k s b low n c = tt
   claimed (x ∷ xs) k s b low n c =
-      let low′ : (any isTake xs ≡ true → FewAfter (callsOf t f xs) (ruledAfter t f s x)) =
-      λ e. few-next (requestOf t f (x .formula) (x .kind)) (x .formula) (callsOf t f xs) s (low (later-of (isTake x) (any isTake xs) e)) in
-      let y = step k s b (x .formula) (n .0) (x .frame) (x .cache) (x .kind) (c .0) (λ e. few-now (callsOf t f (x ∷ xs)) s (low (first-of (isTake x) (any isTake xs) e)) (x .formula) (n .0)) in
+      let low′ : (anyIn isTake xs ≡ true → FewAfter (callsOf t f xs) (ruledAfter t f s x)) =
+      λ e. few-next (requestOf t f (x .formula) (x .kind)) (x .formula) (callsOf t f xs) s (low (later-of (isTake x) (anyIn isTake xs) e)) in
+      let y = step k s b (x .formula) (n .0) (x .frame) (x .cache) (x .kind) (c .0) (λ e. few-now (callsOf t f (x ∷ xs)) s (low (first-of (isTake x) (anyIn isTake xs) e)) (x .formula) (n .0)) in
       (y .0, same t f limit l (B .opens) (B .target) (B .function) starts (after t f k x) (ruledAfter t f s x) (y .1), claimed xs (after t f k x) (ruledAfter t f s x) (y .1) low′ (n .1) (c .1))
 
   begins : By (begun t f frame₀ cache₀) (opened limit l)

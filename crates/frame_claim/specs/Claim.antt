@@ -6,7 +6,7 @@ use mathlib.Core.Bool.{Bool, true, false}
 use mathlib.Core.List.{List, [], _∷_, _++_, map}
 use mathlib.Core.Option.{Option, none, some}
 use lib.ListN.{length, drop, getD}
-use Rattle.entity.specs.Logic.{any}
+use Rattle.entity.specs.Logic.{anyIn}
 use Rattle.reginfo.specs.Table.{regInfoOf}
 use Rattle.function.specs.Known.{Checked}
 use Rattle.function.specs.Table.{functionOf}
@@ -202,7 +202,7 @@ module _ (t f : ℕ → List ℕ) where
 
   -- asked for where a take stands among the calls, and nowhere else
   abbrev pub FewIfTaken : (limit : ℕ) (l : List Inlined) (calls : List Made) → Type 0
-  FewIfTaken limit l calls = any isTake calls ≡ true → FewPatches limit l calls
+  FewIfTaken limit l calls = anyIn isTake calls ≡ true → FewPatches limit l calls
 
   abbrev pub begun : (frame : List ℕ) (cache : ℕ → List ℕ) → State
   begun frame cache = record { frame = frame; cache = cache; asked = λ i. [] }

@@ -1,4 +1,4 @@
--- 02 k in a frame: what the rules answer to a call by groups of formula i. "one share for all": how far the counter may go stands still during a call.
+-- 02 k in a frame: what the rules answer to a call by groups of formula i. One share for all: how far the counter may go stands still during a call.
 use Prim.Native.Nat.{ℕ}
 use mathlib.Core.List.{List}
 use Rattle.reginfo.specs.Table.{regInfoOf}

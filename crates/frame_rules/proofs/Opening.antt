@@ -7,7 +7,7 @@ use mathlib.Core.Option.{Option, none, some}
 use lib.Dec.{eqb}
 use Rattle.entity.specs.Logic.{no, indices}
 use Rattle.reginfo.specs.RegInfo.{RegInfo}
-use Rattle.reginfo.specs.Refused.{Condition, cond, orElse, firstOf, targetRefusal}
+use Rattle.reginfo.specs.Refused.{Condition, refusedIf, orElse, firstOf, targetRefusal}
 use Rattle.reginfo.proofs.First.{first-none, none-first, given-first, first-given}
 use Rattle.function.specs.Function.{Function, numValues, isSetting}
 use Rattle.function.specs.Refused.{countsFit, valueFits, foreignClass, valuesRefusal, functionRefusal}
@@ -34,7 +34,7 @@ unfolding firstOf targetRefusal functionRefusal formulaConditions formulaRefusal
 formula-is n x = go (isSetting (x .function .kept))
   where
     rest : List Condition
-    rest = cond 2 (no (eqb (x .function .slots) n)) ∷ cond 2 (no (countsFit (x .function))) ∷ valuesConditions (x .target) (x .function) (indices 0 (numValues (x .function)))
+    rest = refusedIf 2 (no (eqb (x .function .slots) n)) ∷ refusedIf 2 (no (countsFit (x .function))) ∷ valuesConditions (x .target) (x .function) (indices 0 (numValues (x .function)))
 
     go : (b : Bool)
         → orElse (no b) 22 (firstOf (targetConditions (x .target) ++ rest))

@@ -9,7 +9,7 @@ use native.Mathlib.Omega.{arith}
 use lib.Dec.{eqb, ltb}
 use lib.ListN.{length, take, drop}
 use borrow.Author.Tests.{ltb-true, ltb-false, lt-ltb, le-ltb}
-use Rattle.entity.specs.Logic.{pick, and, or, no, any, has, indices}
+use Rattle.entity.specs.Logic.{pick, and, or, no, anyIn, has, indices}
 use Rattle.entity.specs.Place.{Place, reg, slot}
 use Rattle.reginfo.specs.RegInfo.{RegInfo, includesSpillslots, classMembers, allocationOrder, lastInOrder, spillslotSize, stackToStackClass, topLevelClass, isMemory, overlap, bankForClass}
 use Rattle.function.specs.Function.{Function, valueBank, rematClass}
@@ -302,7 +302,7 @@ module _ (t : RegInfo) (f : Function) (ρ : ℕ → ℕ) (m d : ℕ) where
         lead-like : (i : ℕ) → i < length ms → (w : ParallelMoves) → m ≤ ofMoves w → Like renMoves ofMoves (lead t f ms i w) (lead t f′ ms i (renMoves w))
         unfolding lead writers writersOf writerFrom Stays
         lead-like i l w h =
-            choose renMoves ofMoves (any (λ n. isPending (w .state n)) (writers t f ms i)) _ _ _ _
+            choose renMoves ofMoves (anyIn (λ n. isPending (w .state n)) (writers t f ms i)) _ _ _ _
             (choose renMoves ofMoves (eqb (w .diverted .refCount (value t f ms i)) 0) _ _ _ _ (divert-like i l (carried t f ms i w) h) (emit-like i l (w .scratch (value t f ms i)) (carried t f ms i w) h))
             (subst (λ p. Like renMoves ofMoves (emit t f ms i (source t f ms i) w) (emit t f′ ms i p (renMoves w))) (src-stays i l) (emit-like i l (source t f ms i) w h))
 

@@ -7,7 +7,7 @@ use lib.Dec.{eqb, ltb}
 use lib.ListN.{length, getD}
 use Rattle.entity.specs.Logic.{pick, or, no}
 use Rattle.reginfo.specs.RegInfo.{RegInfo}
-use Rattle.reginfo.specs.Refused.{Condition, cond, orElse, firstOf, targetRefusal}
+use Rattle.reginfo.specs.Refused.{Condition, refusedIf, orElse, firstOf, targetRefusal}
 use Rattle.function.specs.Function.{Function, isSetting}
 use Rattle.function.specs.Refused.{functionRefusal}
 use Rattle.rules.specs.Edit.{Edit, updated}
@@ -32,7 +32,7 @@ total (x ∷ l) = x .share + total l
 -- "We inline 1 to 16 formulas into one frame with a common limit of 0 to 2,048 slots (else 2 for either, tested first)"; "shares add up to at
 -- most the limit"; "23, shares above the limit, tested next, before the first job's setting"
 unfoldable pub frameConditions : ℕ → List Inlined → List Condition
-frameConditions limit l = cond 2 (or (eqb (length l) 0) (ltb 16 (length l))) ∷ cond 2 (ltb 2048 limit) ∷ cond 23 (ltb limit (total l)) ∷ []
+frameConditions limit l = refusedIf 2 (or (eqb (length l) 0) (ltb 16 (length l))) ∷ refusedIf 2 (ltb 2048 limit) ∷ refusedIf 23 (ltb limit (total l)) ∷ []
 
 abbrev pub orGiven : Option ℕ → Option ℕ → Option ℕ
 orGiven (some n) o = some n

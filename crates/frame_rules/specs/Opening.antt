@@ -7,7 +7,7 @@ use mathlib.Core.Logic.{_↔_}
 use lib.Dec.{eqb}
 use Rattle.entity.specs.Logic.{no, indices}
 use Rattle.reginfo.specs.RegInfo.{RegInfo}
-use Rattle.reginfo.specs.Refused.{Condition, cond, outsideLimits, listedTwice, unequalWidths, foreignMember, sharedMemory, unfitClass}
+use Rattle.reginfo.specs.Refused.{Condition, refusedIf, outsideLimits, listedTwice, unequalWidths, foreignMember, sharedMemory, unfitClass}
 use Rattle.reginfo.specs.Given.{Given, NoneHolds}
 use Rattle.function.specs.Function.{Function, numValues, isSetting}
 use Rattle.function.specs.Refused.{countsFit, valueFits, foreignClass}
@@ -16,27 +16,27 @@ use Rattle.frame_rules.specs.Frame.{Inlined, frameConditions, firstSlots
 -- 01: 2 and 3 as the target is read, "4 to 7 rising after the target"
 abbrev pub targetConditions : RegInfo → List Condition
 targetConditions t =
-    cond 2 (outsideLimits t)
-    ∷ cond 3 (listedTwice t)
-    ∷ cond 4 (unequalWidths t)
-    ∷ cond 5 (foreignMember t)
-    ∷ cond 6 (sharedMemory t)
-    ∷ cond 7 (unfitClass t)
+    refusedIf 2 (outsideLimits t)
+    ∷ refusedIf 3 (listedTwice t)
+    ∷ refusedIf 4 (unequalWidths t)
+    ∷ refusedIf 5 (foreignMember t)
+    ∷ refusedIf 6 (sharedMemory t)
+    ∷ refusedIf 7 (unfitClass t)
     ∷ []
 
 -- value by value; "9 for a rebuild class when the function is read"
 unfoldable pub valuesConditions : RegInfo → Function → List ℕ → List Condition
 valuesConditions t f [] = []
-valuesConditions t f (v ∷ l) = cond 2 (no (valueFits t f v)) ∷ cond 9 (foreignClass t f v) ∷ valuesConditions t f l
+valuesConditions t f (v ∷ l) = refusedIf 2 (no (valueFits t f v)) ∷ refusedIf 9 (foreignClass t f v) ∷ valuesConditions t f l
 
 -- of one formula: "22, a setting other than 1 or 2, tested before the job"; its target; "All have the first one's N (else 2, when that N is
 -- read)"; the counts of its function and its values
 unfoldable pub formulaConditions : ℕ → Inlined → List Condition
 formulaConditions n x =
-    cond 22 (no (isSetting (x .function .kept)))
+    refusedIf 22 (no (isSetting (x .function .kept)))
     ∷ (targetConditions (x .target)
-    ++ (cond 2 (no (eqb (x .function .slots) n))
-    ∷ cond 2 (no (countsFit (x .function)))
+    ++ (refusedIf 2 (no (eqb (x .function .slots) n))
+    ∷ refusedIf 2 (no (countsFit (x .function)))
     ∷ valuesConditions (x .target) (x .function) (indices 0 (numValues (x .function)))))
 
 -- one formula after the other

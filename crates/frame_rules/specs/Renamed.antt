@@ -36,7 +36,7 @@ pub record Renaming (n : ℕ) (ρ : ℕ → ℕ) : Type 0 where
   pub stays : (s : ℕ) → s < n → ρ s ≡ s
   pub rises : (s x : ℕ) → s < x → ρ s < ρ x
 
--- "such [a] 20": the formula took and resolved nothing since the asking, and the counter went on
+-- "such 20": the formula took and resolved nothing since the asking, and the counter went on
 abbrev pub suchOf : Option Asked → ℕ → ℕ → Bool
 suchOf none count counter = false
 suchOf (some a) count counter = and (eqb (a .preview .count) count) (no (eqb (a .counter) counter))

@@ -7,7 +7,7 @@ use mathlib.Core.Option.{Option, none, some}
 use lib.Dec.{eqb, ltb}
 use lib.ListN.{length, getD}
 use Rattle.entity.specs.Logic.{or}
-use Rattle.reginfo.specs.Refused.{Condition, cond, firstOf}
+use Rattle.reginfo.specs.Refused.{Condition, refusedIf, firstOf}
 use Rattle.frame_rules.specs.Frame.{Inlined, frameConditions}
 use Rattle.frame_table.specs.declared.FrameOpened.{FrameOpened}
 use Rattle.frame_table.specs.declared.FrameOpened.the-variants.{Yes, Refused}
@@ -20,7 +20,7 @@ sumOf (n ∷ l) = n + sumOf l
 -- of the shares alone
 unfoldable pub shareConditions : ℕ → List ℕ → List Condition
 shareConditions limit shares =
-    cond 2 (or (eqb (length shares) 0) (ltb 16 (length shares))) ∷ cond 2 (ltb 2048 limit) ∷ cond 23 (ltb limit (sumOf shares)) ∷ []
+    refusedIf 2 (or (eqb (length shares) 0) (ltb 16 (length shares))) ∷ refusedIf 2 (ltb 2048 limit) ∷ refusedIf 23 (ltb limit (sumOf shares)) ∷ []
 
 -- they are those of the formulas with these shares
 abbrev pub SameConditions : Type 0

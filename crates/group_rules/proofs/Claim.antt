@@ -5,7 +5,7 @@ use mathlib.Core.List.{List, [], _∷_, _++_, append-nil, List·Memᴰ·not-nil,
 use mathlib.Core.Option.{Option, none, some}
 use mathlib.Core.Logic.{⊎-elim}
 use native.Mathlib.Omega.{arith}
-use Rattle.entity.specs.Logic.{any}
+use Rattle.entity.specs.Logic.{anyIn}
 use Rattle.reginfo.specs.RegInfo.{RegInfo}
 use Rattle.reginfo.specs.Refused as target
 use Rattle.reginfo.specs.Refused.{firstOf}
@@ -102,7 +102,7 @@ module _ (t : RegInfo) (f : Function) (ta : target.Accepted t) (fa : function.Ac
         lies = λ x m s low h. ⊎-elim (λ q. st s (editSize t f x) (a .lies x q s low h)) (λ q. b .lies x q s low h) (List·Memᴰ·append-cases es m);
         named = λ s lo hi.
             any-append (namesSlot t f s) es fs
-            ∙ ⊎-elim (λ q. or-left (any (namesSlot t f s) es) (any (namesSlot t f s) fs) (a .named s lo q)) (λ q. or-right (any (namesSlot t f s) es) (any (namesSlot t f s) fs) (b .named s q hi))
+            ∙ ⊎-elim (λ q. or-left (anyIn (namesSlot t f s) es) (anyIn (namesSlot t f s) fs) (a .named s lo q)) (λ q. or-right (anyIn (namesSlot t f s) es) (anyIn (namesSlot t f s) fs) (b .named s q hi))
             (below? s (f .slots + d .made));
       }
 
@@ -156,7 +156,7 @@ module _ (t : RegInfo) (f : Function) (ta : target.Accepted t) (fa : function.Ac
         lies = λ x m s low h. ⊎-elim (λ q. st s (editSize t f x) (b .lies x q s low h)) (λ q. o .lies x q s low h) (List·Memᴰ·append-cases es m);
         named = λ s lo hi.
             any-append (namesSlot t f s) es fs
-            ∙ ⊎-elim (λ q. or-left (any (namesSlot t f s) es) (any (namesSlot t f s) fs) (b .named s lo q)) (λ q. or-right (any (namesSlot t f s) es) (any (namesSlot t f s) fs) (o .named s q hi))
+            ∙ ⊎-elim (λ q. or-left (anyIn (namesSlot t f s) es) (anyIn (namesSlot t f s) fs) (b .named s lo q)) (λ q. or-right (anyIn (namesSlot t f s) es) (anyIn (namesSlot t f s) fs) (o .named s q hi))
             (below? s (f .slots + c .made));
       }
 

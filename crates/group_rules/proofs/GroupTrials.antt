@@ -1,6 +1,6 @@
 -- The trials of 02 k, by computation.
 use mathlib.Core.Path.{refl}
-use Rattle.entity.specs.Logic.{any, all, has, meets, twice, lastOr, indices}
+use Rattle.entity.specs.Logic.{anyIn, allIn, has, meets, twice, lastOr, indices}
 use Rattle.reginfo.specs.RegInfo.{spillslotSize, topLevelClass, stackToStackClass, regMemory, bankForReg, regUnits, bankForClass, classSlots, classMembers, allocationOrder}
 use Rattle.reginfo.specs.Refused.{orderTotal, countsFit, bankFits, regFits, classFits, outsideLimits, listedTwice, unequalWidths, foreignMember, sharedMemory, unfitClass, firstOf, targetRefusal}
 use Rattle.function.specs.Function.{valueBank, rematCost, rematClass}
@@ -14,7 +14,7 @@ use Rattle.group_rules.specs.Groups.{join, joinAll, labelsFrom, labels, 
 use Rattle.group_rules.specs.GroupTrials.{four, GroupTrials}
 
 pub group-trials : GroupTrials
-unfolding any all has meets lastOr indices spillslotSize topLevelClass stackToStackClass regMemory bankForReg regUnits bankForClass classSlots classMembers allocationOrder firstOf valueBank rematCost rematClass updated andThen each find firstAt filter acquireFrom unevict unevictBut unevictForReg makeRoom slotScratch evictLast reuse orScratch getScratchReg moveEdits doMove carryOne carry remats rematWithScratch writerFrom writersOf writers cycleMoveSources divert lead undivert undivertAll close visit visitUnlessMemory start moves destinations add sortedFrom entryConditions patchConditions run resolveSorted resolveFrom resolve entriesConditions three four join joinAll labelsFrom labels chosen part firsts parts resolveParts resolveByGroups orderTotal countsFit bankFits regFits classFits outsideLimits listedTwice unequalWidths foreignMember sharedMemory unfitClass targetRefusal twice
+unfolding anyIn allIn has meets lastOr indices spillslotSize topLevelClass stackToStackClass regMemory bankForReg regUnits bankForClass classSlots classMembers allocationOrder firstOf valueBank rematCost rematClass updated andThen each find firstAt filter acquireFrom unevict unevictBut unevictForReg makeRoom slotScratch evictLast reuse orScratch getScratchReg moveEdits doMove carryOne carry remats rematWithScratch writerFrom writersOf writers cycleMoveSources divert lead undivert undivertAll close visit visitUnlessMemory start moves destinations add sortedFrom entryConditions patchConditions run resolveSorted resolveFrom resolve entriesConditions three four join joinAll labelsFrom labels chosen part firsts parts resolveParts resolveByGroups orderTotal countsFit bankFits regFits classFits outsideLimits listedTwice unequalWidths foreignMember sharedMemory unfitClass targetRefusal twice
 group-trials =
     record {
       accepted = refl;

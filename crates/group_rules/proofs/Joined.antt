@@ -10,7 +10,7 @@ use native.Mathlib.Omega.{arith}
 use lib.Dec.{eqb, ltb}
 use lib.ListN.{length, getD, take, length-append}
 use borrow.Author.Tests.{eqb-true, eq-eqb, ne-eqb}
-use Rattle.entity.specs.Logic.{pick, or, no, any, has, meets, twice}
+use Rattle.entity.specs.Logic.{pick, or, no, anyIn, has, meets, twice}
 use Rattle.entity.specs.Place.{Place, reg, slot, samePlace}
 use Rattle.entity.proofs.Laws.{or-false, no-false, never-true}
 use Rattle.reginfo.specs.RegInfo.{RegInfo, placeUnits}
@@ -209,9 +209,9 @@ module _ (t : RegInfo) (f : Function) (ta : target.Accepted t) (fa : function.Ac
     -- before the groups `rest`: those that `Done` names have run, and nothing waits
     record Begun (Done : ℕ → Type 0) (rest : List ℕ) (m : Memory) : Type 0 where
       units :
-          (u : ℕ) → u < 512 → any (λ e. has u (unitsOfReg t f (entryDest e))) (p .entries) ≡ false → has u (p .free) ≡ false
+          (u : ℕ) → u < 512 → anyIn (λ e. has u (unitsOfReg t f (entryDest e))) (p .entries) ≡ false → has u (p .free) ≡ false
           → (m .word u ≡ start .word u) × (m .lists u ≡ start .lists u)
-      slots : (x : ℕ) → x < f .slots → any (λ e. samePlace (slot x) (entryDest e)) (p .entries) ≡ false → inSlot m x ≡ inSlot start x
+      slots : (x : ℕ) → x < f .slots → anyIn (λ e. samePlace (slot x) (entryDest e)) (p .entries) ≡ false → inSlot m x ≡ inSlot start x
       holds : (g : ℕ) → has g rest ≡ true → Holding t f (piece g) content m
       done : (g : ℕ) → Done g → (e : Entry) → Of g e → read t f m (entryDest e) ≡ content (entryValue e)
       all : (g : ℕ) → has g gs ≡ true → Done g ⊎ (has g rest ≡ true)
@@ -305,20 +305,20 @@ module _ (t : RegInfo) (f : Function) (ta : target.Accepted t) (fa : function.Ac
       lives w i il x k (inr (inr h)) = let y = kept t f p content i in (y .source, source-stands x h y k, inl (i, il, refl, inl refl))
 
       -- nothing of the group, nothing of the patch
-      no-dest : (q : Place → Bool) → any (λ e. q (entryDest e)) (p .entries) ≡ false → any (λ e. q (entryDest e)) (piece g .entries) ≡ false
-      no-dest q = not-then (any (λ e. q (entryDest e)) (p .entries)) (any (λ e. q (entryDest e)) (piece g .entries)) (any-sub (λ e. q (entryDest e)) (piece g .entries) (p .entries) (piece-sub g))
+      no-dest : (q : Place → Bool) → anyIn (λ e. q (entryDest e)) (p .entries) ≡ false → anyIn (λ e. q (entryDest e)) (piece g .entries) ≡ false
+      no-dest q = not-then (anyIn (λ e. q (entryDest e)) (p .entries)) (anyIn (λ e. q (entryDest e)) (piece g .entries)) (any-sub (λ e. q (entryDest e)) (piece g .entries) (p .entries) (piece-sub g))
 
       no-free : (u : ℕ) → has u (p .free) ≡ false → has u (piece g .free) ≡ false
       no-free u = not-then (has u (p .free)) (has u (piece g .free)) (λ h. free-sub g u h .0)
 
-      frame-units : (u : ℕ) → u < 512 → any (λ e. has u (unitsOfReg t f (entryDest e))) (p .entries) ≡ false → has u (p .free) ≡ false
+      frame-units : (u : ℕ) → u < 512 → anyIn (λ e. has u (unitsOfReg t f (entryDest e))) (p .entries) ≡ false → has u (p .free) ≡ false
           → (seen t f s .word u ≡ start .word u) × (seen t f s .lists u ≡ start .lists u)
       frame-units u l nd nf =
           let y = st .units u l (no-dest (λ d. has u (unitsOfReg t f d)) nd) (no-free u nf) in
           let z = b .units u l nd nf in
           (y .0 ∙ z .0, y .1 ∙ z .1)
 
-      frame-slots : (x : ℕ) → x < f .slots → any (λ e. samePlace (slot x) (entryDest e)) (p .entries) ≡ false → inSlot (seen t f s) x ≡ inSlot start x
+      frame-slots : (x : ℕ) → x < f .slots → anyIn (λ e. samePlace (slot x) (entryDest e)) (p .entries) ≡ false → inSlot (seen t f s) x ≡ inSlot start x
       frame-slots x l nd = st .slots x l (no-dest (samePlace (slot x)) nd) ∙ b .slots x l nd
 
       stopped-in : (w : List Written) → Stopped t f p content start (extended w s)

@@ -9,7 +9,7 @@ use native.Mathlib.Omega.{arith}
 use lib.Dec.{eqb, ltb}
 use lib.ListN.{length, getD}
 use borrow.Author.Tests.{eqb-true, eq-eqb, ltb-true, ltb-false}
-use Rattle.entity.specs.Logic.{pick, and, or, any, has, meets, twice}
+use Rattle.entity.specs.Logic.{pick, and, or, anyIn, has, meets, twice}
 use Rattle.entity.proofs.Laws.{or-false, never-true}
 use Rattle.reginfo.specs.Refused.{Condition, orElse, firstOf}
 use Rattle.rules.specs.Edit.{filter}
@@ -59,17 +59,17 @@ below? a b = go (ltb a b) refl
 abbrev pub Sub : {A : Type 0} → List A → List A → Type 0
 Sub {A} l m = (x : A) → List·Memᴰ x l → List·Memᴰ x m
 
-pub any-mem : {A : Type 0} (p : A → Bool) (l : List A) → any p l ≡ true → (x : A) × List·Memᴰ x l × (p x ≡ true)
-unfolding any
+pub any-mem : {A : Type 0} (p : A → Bool) (l : List A) → anyIn p l ≡ true → (x : A) × List·Memᴰ x l × (p x ≡ true)
+unfolding anyIn
 any-mem p [] e = absurd (false≢true e)
-any-mem {A} p (y ∷ l) e = ⊎-elim (λ h. (y, List·Memᴰ·head refl, h)) (λ h. let z = any-mem p l h in (z .0, List·Memᴰ·tail (z .1), z .2)) (or-case (p y) (any p l) e)
+any-mem {A} p (y ∷ l) e = ⊎-elim (λ h. (y, List·Memᴰ·head refl, h)) (λ h. let z = any-mem p l h in (z .0, List·Memᴰ·tail (z .1), z .2)) (or-case (p y) (anyIn p l) e)
 
-pub mem-any : {A : Type 0} (p : A → Bool) (l : List A) (x : A) → List·Memᴰ x l → p x ≡ true → any p l ≡ true
-unfolding any
-mem-any p (y ∷ l) x (List·Memᴰ·head e) h = or-left (p y) (any p l) (ap p (sym e) ∙ h)
-mem-any p (y ∷ l) x (List·Memᴰ·tail m) h = or-right (p y) (any p l) (mem-any p l x m h)
+pub mem-any : {A : Type 0} (p : A → Bool) (l : List A) (x : A) → List·Memᴰ x l → p x ≡ true → anyIn p l ≡ true
+unfolding anyIn
+mem-any p (y ∷ l) x (List·Memᴰ·head e) h = or-left (p y) (anyIn p l) (ap p (sym e) ∙ h)
+mem-any p (y ∷ l) x (List·Memᴰ·tail m) h = or-right (p y) (anyIn p l) (mem-any p l x m h)
 
-pub any-sub : {A : Type 0} (p : A → Bool) (l m : List A) → Sub l m → any p l ≡ true → any p m ≡ true
+pub any-sub : {A : Type 0} (p : A → Bool) (l m : List A) → Sub l m → anyIn p l ≡ true → anyIn p m ≡ true
 any-sub p l m s e = let z = any-mem p l e in mem-any p m (z .0) (s (z .0) (z .1)) (z .2)
 
 pub mem-at : {A : Type 0} (d : A) (l : List A) (x : A) → List·Memᴰ x l → (i : ℕ) × (i < length l) × (getD l i d ≡ x)
@@ -81,17 +81,17 @@ at-mem d [] i h = absurd (omega arith)
 at-mem d (y ∷ l) zero h = List·Memᴰ·head refl
 at-mem d (y ∷ l) (suc i) h = List·Memᴰ·tail (at-mem d l i (omega arith))
 
-pub any-append : {A : Type 0} (p : A → Bool) (l m : List A) → any p (l ++ m) ≡ or (any p l) (any p m)
-unfolding any
+pub any-append : {A : Type 0} (p : A → Bool) (l m : List A) → anyIn p (l ++ m) ≡ or (anyIn p l) (anyIn p m)
+unfolding anyIn
 any-append p [] m = refl
 any-append p (x ∷ l) m = go (p x) (any-append p l m)
   where
-    go : (b : Bool) → any p (l ++ m) ≡ or (any p l) (any p m) → or b (any p (l ++ m)) ≡ or (or b (any p l)) (any p m)
+    go : (b : Bool) → anyIn p (l ++ m) ≡ or (anyIn p l) (anyIn p m) → or b (anyIn p (l ++ m)) ≡ or (or b (anyIn p l)) (anyIn p m)
     go true e = refl
     go false e = e
 
-pub any-map : {A B : Type 0} (p : B → Bool) (g : A → B) (l : List A) → any p (map g l) ≡ any (λ x. p (g x)) l
-unfolding any
+pub any-map : {A B : Type 0} (p : B → Bool) (g : A → B) (l : List A) → anyIn p (map g l) ≡ anyIn (λ x. p (g x)) l
+unfolding anyIn
 any-map p g [] = refl
 any-map p g (x ∷ l) = ap (or (p (g x))) (any-map p g l)
 

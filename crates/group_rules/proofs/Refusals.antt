@@ -9,10 +9,10 @@ use native.Mathlib.Omega.{arith}
 use lib.Dec.{eqb}
 use lib.ListN.{length, getD}
 use borrow.Author.Tests.{eq-eqb, ne-eqb, le-ltb}
-use Rattle.entity.specs.Logic.{no, any, indices}
+use Rattle.entity.specs.Logic.{no, anyIn, indices}
 use Rattle.reginfo.specs.RegInfo.{RegInfo}
 use Rattle.reginfo.specs.Refused as target
-use Rattle.reginfo.specs.Refused.{cond, firstOf}
+use Rattle.reginfo.specs.Refused.{refusedIf, firstOf}
 use Rattle.reginfo.proofs.First.{first-none, none-first, given-first, first-given}
 use Rattle.function.specs.Function.{Function}
 use Rattle.rules.specs.Edit.{Edit, filter, andThen, each}
@@ -50,8 +50,8 @@ module _ (t : RegInfo) (f : Function) where
     by-number n h =
         rules.refusals t f p room c .given n .1
         (first-given (callConditions t f p room c) n
-        (ap firstOf (sym (append-assoc (entriesConditions t f (p .entries) nothingSorted) (patchConditions t f p room (sorted t f p)) (cond 17 (ranOut (run t f p (sorted t f p) c)) ∷ [])))
-        ∙ first-some (wholeConditions t f p room) (cond 17 (ranOut (run t f p (sorted t f p) c)) ∷ []) n h))
+        (ap firstOf (sym (append-assoc (entriesConditions t f (p .entries) nothingSorted) (patchConditions t f p room (sorted t f p)) (refusedIf 17 (ranOut (run t f p (sorted t f p) c)) ∷ [])))
+        ∙ first-some (wholeConditions t f p room) (refusedIf 17 (ranOut (run t f p (sorted t f p) c)) ∷ []) n h))
 
   -- ---- groups one after the other, each of which passes its tests
   abbrev pub Passing : ℕ → List Patch → Type 0
@@ -105,10 +105,10 @@ module _ (t : RegInfo) (f : Function) where
   agree ta p room c = go (firstOf (wholeConditions t f p room)) refl
     where
       go : (o : Option ℕ) → firstOf (wholeConditions t f p room) ≡ o
-          → Agree (unlessRefused (firstOf (wholeConditions t f p room)) (resolveParts t f (parts t p) room c)) (firstOf (wholeConditions t f p room ++ (cond 17 (someOut t f (parts t p) c) ∷ [])))
+          → Agree (unlessRefused (firstOf (wholeConditions t f p room)) (resolveParts t f (parts t p) room c)) (firstOf (wholeConditions t f p room ++ (refusedIf 17 (someOut t f (parts t p) c) ∷ [])))
       go (some n) e = inl (n, rw e, first-some (wholeConditions t f p room) _ n e)
       go none e =
-          let j = first-join (wholeConditions t f p room) (cond 17 (someOut t f (parts t p) c) ∷ []) e in
+          let j = first-join (wholeConditions t f p room) (refusedIf 17 (someOut t f (parts t p) c) ∷ []) e in
           ⊎-elim (λ h. inl (17, rw (e, h .1), j ∙ rw (h .0))) (λ h. inr ((h .1 .0, h .1 .1, h .1 .2, rw e (h .1 .3)), j ∙ rw (h .0))) (parts-end (parts t p) room c (parts-pass ta p room e))
 
   agree-given : (r : Answer) (o : Option ℕ) (n : ℕ) → Agree r o → (r ≡ refused n) ↔ (o ≡ some n)
@@ -182,7 +182,7 @@ module _ (t : RegInfo) (f : Function) where
   tested-first p room c none e = refl
 
   part-all : (p : Patch) → length (labelsOf t p) ≡ length (p .entries) → Zeros (labelsOf t p) → part t p (labelsOf t p) 0 ≡ p
-  unfolding part any
+  unfolding part anyIn
   part-all p n z =
       rw (chosen-all (labelsOf t p) (p .entries) n z, chosen-none (labelsOf t p) (p .entries) z) (ap (λ (l : List ℕ). record { free = l; entries = p .entries }) (filter-all (λ u. true) (p .free) (λ u. refl)))
 
@@ -206,7 +206,7 @@ module _ (t : RegInfo) (f : Function) where
 
   -- none: there is nothing to do
   no-group : (free : List ℕ) (room : ℕ) (c : Cache) → resolveByGroups t f (record { free = free; entries = [] }) room c ≡ resolve t f (record { free = free; entries = [] }) room c
-  unfolding resolveByGroups parts resolveParts entriesConditions patchConditions destinations firsts filter indices resolve resolveFrom resolveSorted run each andThen remats moves start unevict any labels labelsFrom sortedFrom
+  unfolding resolveByGroups parts resolveParts entriesConditions patchConditions destinations firsts filter indices resolve resolveFrom resolveSorted run each andThen remats moves start unevict anyIn labels labelsFrom sortedFrom
   no-group free room c = refl
 
   pub one-group : OneGroup t f

@@ -1,6 +1,6 @@
 -- The trials of 02 k among other calls, by computation.
 use mathlib.Core.Path.{refl}
-use Rattle.entity.specs.Logic.{any, all, has, meets, lastOr, indices}
+use Rattle.entity.specs.Logic.{anyIn, allIn, has, meets, lastOr, indices}
 use Rattle.reginfo.specs.RegInfo.{spillslotSize, topLevelClass, stackToStackClass, regMemory, bankForReg, regUnits, bankForClass, classSlots, classMembers, allocationOrder}
 use Rattle.reginfo.specs.Refused.{firstOf}
 use Rattle.function.specs.Function.{valueBank, rematCost, rematClass}
@@ -21,5 +21,5 @@ use Rattle.group_rules.specs.GroupTrials.{four}
 use Rattle.group_rules.specs.RequestTrials.{RequestTrials}
 
 pub request-trials : RequestTrials
-unfolding any all has meets lastOr indices spillslotSize topLevelClass stackToStackClass regMemory bankForReg regUnits bankForClass classSlots classMembers allocationOrder firstOf valueBank rematCost rematClass updated andThen each find firstAt filter acquireFrom unevict unevictBut unevictForReg makeRoom slotScratch evictLast reuse orScratch getScratchReg moveEdits doMove carryOne carry remats rematWithScratch writerFrom writersOf writers cycleMoveSources divert lead undivert undivertAll close visit visitUnlessMemory start moves destinations add sortedFrom entryConditions patchConditions run resolveSorted resolveFrom resolve entriesConditions sum takeAnswer take.standing take.answered take.askedAfter othersLack reach resolveIn takeIn frame.standingIn frame.answeredIn frame.askedIn join joinAll labelsFrom labels chosen part firsts parts resolveParts resolveByGroups standing answered askedAfter afterAll groupsIn standingIn answeredIn askedIn four
+unfolding anyIn allIn has meets lastOr indices spillslotSize topLevelClass stackToStackClass regMemory bankForReg regUnits bankForClass classSlots classMembers allocationOrder firstOf valueBank rematCost rematClass updated andThen each find firstAt filter acquireFrom unevict unevictBut unevictForReg makeRoom slotScratch evictLast reuse orScratch getScratchReg moveEdits doMove carryOne carry remats rematWithScratch writerFrom writersOf writers cycleMoveSources divert lead undivert undivertAll close visit visitUnlessMemory start moves destinations add sortedFrom entryConditions patchConditions run resolveSorted resolveFrom resolve entriesConditions sum takeAnswer take.standing take.answered take.askedAfter othersLack reach resolveIn takeIn frame.standingIn frame.answeredIn frame.askedIn join joinAll labelsFrom labels chosen part firsts parts resolveParts resolveByGroups standing answered askedAfter afterAll groupsIn standingIn answeredIn askedIn four
 request-trials = record { none-told = refl; counted = refl; refused-told = refl; one-share = refl; slot-between = refl }

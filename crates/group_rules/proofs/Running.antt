@@ -8,7 +8,7 @@ use native.Mathlib.Omega.{arith}
 use lib.Dec.{eqb}
 use lib.ListN.{length, getD, take}
 use borrow.Author.Tests.{eqb-true, eq-eqb, ltb-true}
-use Rattle.entity.specs.Logic.{pick, and, no, any, has}
+use Rattle.entity.specs.Logic.{pick, and, no, anyIn, has}
 use Rattle.entity.specs.Place.{Place, reg, slot, samePlace}
 use Rattle.entity.proofs.Laws.{never-true, has-getD}
 use Rattle.reginfo.specs.RegInfo.{RegInfo, numRegs, placeUnits, regUnits, isMemory, isMemoryReg, inClass}
@@ -42,8 +42,8 @@ pub take-all : {A : Type 0} (l : List A) → take (length l) l ≡ l
 take-all [] = refl
 take-all (x ∷ l) = ap (x ∷_) (take-all l)
 
-pub none-any : {A : Type 0} (p : A → Bool) (l : List A) → ((x : A) → List·Memᴰ x l → p x ≡ true → ⊥) → any p l ≡ false
-none-any p l h = never-true (any p l) (λ e. let w = any-mem p l e in h (w .0) (w .1) (w .2))
+pub none-any : {A : Type 0} (p : A → Bool) (l : List A) → ((x : A) → List·Memᴰ x l → p x ≡ true → ⊥) → anyIn p l ≡ false
+none-any p l h = never-true (anyIn p l) (λ e. let w = any-mem p l e in h (w .0) (w .1) (w .2))
 
 module _ (t : RegInfo) (f : Function) (content : ℕ → List ℕ) where
   pub steps-then : (es fs : List Edit) (s s′ : Machine) → steps t f content es s ≡ some s′ → steps t f content (es ++ fs) s ≡ steps t f content fs s′

@@ -10,7 +10,7 @@ use native.Mathlib.Omega.{arith}
 use lib.Dec.{eqb, leb}
 use lib.ListN.{length-append}
 use borrow.Author.Tests.{eqb-true, eq-eqb, ne-eqb, leb-false, lt-leb}
-use Rattle.entity.specs.Logic.{pick, and, or, no, any, has, twice}
+use Rattle.entity.specs.Logic.{pick, and, or, no, anyIn, has, twice}
 use Rattle.entity.specs.Place.{Place, samePlace}
 use Rattle.entity.proofs.Laws.{and-true}
 use Rattle.reginfo.specs.RegInfo.{RegInfo, placeUnits, overlap}
@@ -87,7 +87,7 @@ module _ (t : RegInfo) (f : Function) where
   add-grown (remat d v) a = grown-remat (record { dest = d; value = v }) a (needsScratch t f d v)
 
   any-dests : (q : Place → Bool) (a : Sorted)
-      → any q (destinations a) ≡ or (any (λ (m : KeptMove). q (m .dest)) (a .moves)) (or (any (λ (r : Remat). q (r .dest)) (a .remats)) (any (λ (r : Remat). q (r .dest)) (a .rematsWithScratch)))
+      → anyIn q (destinations a) ≡ or (anyIn (λ (m : KeptMove). q (m .dest)) (a .moves)) (or (anyIn (λ (r : Remat). q (r .dest)) (a .remats)) (anyIn (λ (r : Remat). q (r .dest)) (a .rematsWithScratch)))
   unfolding destinations
   any-dests q a =
       any-append q (map (λ (m : KeptMove). m .dest) (a .moves)) _
@@ -187,7 +187,7 @@ module _ (t : RegInfo) (f : Function) where
       same-dropped : (s d : Place) (v : ℕ) → Own x (move s d v) → Solid (move s d v) → dropped t f a s d v ≡ dropped t f (b x) s d v
       same-dropped s d v o so =
           ap (and (no (becomesRemat t f s d v)))
-          (same-test (any (sameMove t f s d v) (a .moves)) (any (sameMove t f s d v) (b x .moves))
+          (same-test (anyIn (sameMove t f s d v) (a .moves)) (anyIn (sameMove t f s d v) (b x .moves))
           (λ h. let w = any-mem (sameMove t f s d v) (a .moves) h in
           let p = and-true (samePlace (w .0 .source) s) _ (w .2) in
           let q = and-true (samePlace (w .0 .dest) d) (eqb (w .0 .value) v) (p .1) in
@@ -241,12 +241,12 @@ module _ (t : RegInfo) (f : Function) where
               (λ y. subst (λ (z : Sorted). List·Memᴰ m (z .moves)) (sym (add-grown e (b g))) (moves-keep (becomes e (isDropped e (b g))) (b g) m h)) (λ y. h)
 
       -- the tests that an entry passes in the whole patch it passes in its group
-      pub dests-less : (q : Place → Bool) → any q (destinations (b x)) ≡ true → any q (destinations a) ≡ true
+      pub dests-less : (q : Place → Bool) → anyIn q (destinations (b x)) ≡ true → anyIn q (destinations a) ≡ true
       dests-less q h =
           any-dests q a
-          ∙ or-more (any (λ (m : KeptMove). q (m .dest)) (b x .moves)) (or (any (λ (r : Remat). q (r .dest)) (b x .remats)) (any (λ (r : Remat). q (r .dest)) (b x .rematsWithScratch))) _ _
+          ∙ or-more (anyIn (λ (m : KeptMove). q (m .dest)) (b x .moves)) (or (anyIn (λ (r : Remat). q (r .dest)) (b x .remats)) (anyIn (λ (r : Remat). q (r .dest)) (b x .rematsWithScratch))) _ _
           (any-sub (λ (m : KeptMove). q (m .dest)) (b x .moves) (a .moves) (sp .piece x .moves))
-          (or-more (any (λ (r : Remat). q (r .dest)) (b x .remats)) (any (λ (r : Remat). q (r .dest)) (b x .rematsWithScratch)) _ _
+          (or-more (anyIn (λ (r : Remat). q (r .dest)) (b x .remats)) (anyIn (λ (r : Remat). q (r .dest)) (b x .rematsWithScratch)) _ _
           (any-sub (λ (r : Remat). q (r .dest)) (b x .remats) (a .remats) (sp .piece x .remats))
           (any-sub (λ (r : Remat). q (r .dest)) (b x .rematsWithScratch) (a .rematsWithScratch) (sp .piece x .scratched)))
           (sym (any-dests q (b x)) ∙ h)

@@ -5,7 +5,7 @@ use mathlib.Core.Bool.{Bool, true}
 use mathlib.Core.List.{List, [], _∷_, _++_, map}
 use lib.Dec.{eqb, ltb}
 use lib.ListN.{length, getD}
-use Rattle.entity.specs.Logic.{pick, or, no, any, has, meets, indices}
+use Rattle.entity.specs.Logic.{pick, or, no, anyIn, has, meets, indices}
 use Rattle.reginfo.specs.RegInfo.{RegInfo, placeUnits}
 use Rattle.reginfo.specs.Refused.{Condition, firstOf}
 use Rattle.function.specs.Function.{Function}
@@ -65,7 +65,7 @@ module _ (t : RegInfo) where
 
   -- a source of an entry labelled otherwise holds the unit
   abbrev pub heldByAnother : List ℕ → List Entry → ℕ → ℕ → Bool
-  heldByAnother ls es g u = any (λ e. has u (sourceUnits e)) (chosen (λ x. no (eqb x g)) ls es)
+  heldByAnother ls es g u = anyIn (λ e. has u (sourceUnits e)) (chosen (λ x. no (eqb x g)) ls es)
 
   -- the group labelled g, "as a patch of its entries alone, whose free units are those of the whole patch that no source of another group holds"
   unfoldable pub part : Patch → List ℕ → ℕ → Patch

@@ -9,7 +9,7 @@ use lib.ListN.{length}
 use Rattle.entity.specs.Place.{slot}
 use Rattle.reginfo.specs.RegInfo.{RegInfo}
 use Rattle.reginfo.specs.Refused as target
-use Rattle.reginfo.specs.Refused.{Condition, cond}
+use Rattle.reginfo.specs.Refused.{Condition, refusedIf}
 use Rattle.reginfo.specs.Given.{Given, NoneHolds}
 use Rattle.function.specs.Function.{Function}
 use Rattle.rules.specs.Edit.{Edit}
@@ -33,7 +33,7 @@ module _ (t : RegInfo) (f : Function) where
 
   -- all conditions of a call by groups in their order: the whole patch's, then "a 17 in one refuses them all"
   unfoldable pub groupConditions : Patch → ℕ → Cache → List Condition
-  groupConditions p room c = wholeConditions t f p room ++ (cond 17 (someOut (parts t p) c) ∷ [])
+  groupConditions p room c = wholeConditions t f p room ++ (refusedIf 17 (someOut (parts t p) c) ∷ [])
 
   -- once the whole patch has passed its tests, each group passes all of them: it can get 17 alone
   abbrev pub OnlySlots : Type 0

@@ -13,7 +13,7 @@ use Rattle.frame_rules.specs.Renamed.{renTold, Renaming}
 use Rattle.group_rules.specs.Requests.{Request, single, grouping}
 use Rattle.group_rules.specs.Frame.{FrameCall, afterCall, Named, told}
 
--- "such [a] 20"
+-- "such 20"
 abbrev pub such : Frame → ℕ → Request → Bool
 such s i (single x) = frame.such s i x
 such s i (grouping p room) = false

@@ -32,7 +32,7 @@ use Rattle.grouping.specs.Copied.{Written}
 abbrev pub within : List ℕ → List ℕ → ℕ → Function
 within t f limit = withLimit (T t) (functionOf f) limit
 
--- "the whole patch's tests first": the number that the whole patch gets, and what is known of the entries where it gets none
+-- the whole patch's tests first: the number that the whole patch gets, and what is known of the entries where it gets none
 pub record TestedAs (t f : List ℕ) (free : List Bool) (numbers : List ℕ) (room : ℕ) (r : Option ℕ) : Type 0 where
   pub is : (p : Patch) → Numbered free numbers p → r ≡ firstOf (wholeConditions (T t) (functionOf f) p room)
   pub known : r ≡ none → KnownEntries (T t) numbers

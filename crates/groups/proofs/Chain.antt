@@ -8,7 +8,7 @@ use native.Mathlib.Omega.{arith}
 use lib.Dec.{eqb}
 use lib.ListN.{length, getD, drop, drop-of-length-le}
 use borrow.Author.Tests.{eqb-true, eqb-false, eq-eqb, ne-eqb}
-use Rattle.entity.specs.Logic.{pick, and, or, no, any, has}
+use Rattle.entity.specs.Logic.{pick, and, or, no, anyIn, has}
 use Rattle.entity.proofs.Laws.{drop-step, and-true}
 use Rattle.reginfo.specs.RegInfo.{RegInfo}
 use Rattle.rules.specs.Edit.{filter}
@@ -100,7 +100,7 @@ module _ (ls : List ℕ) (es : List Entry) (n : ℕ) (g : ℕ) (ln : length ls �
 
 -- ---- the units of sources
 abbrev pub held : RegInfo → ℕ → List Entry → Bool
-held t u l = any (λ e. has u (sourceUnits t e)) l
+held t u l = anyIn (λ e. has u (sourceUnits t e)) l
 
 module _ (t : RegInfo) where
   -- the entries of l are still to be closed
@@ -113,7 +113,7 @@ module _ (t : RegInfo) where
   without false b s = refl
 
   pub common-more : (es : List Entry) (free out out′ : List Bool) (e : Entry) (l : List Entry) → Closed (sourceUnits t e) out out′ → CommonTo es free out (e ∷ l) → CommonTo es free out′ l
-  unfolding any
+  unfolding anyIn
   common-more es free out out′ e l c k u = ap (λ (b : Bool). and (no (held t u l)) b) (c u) ∙ without (has u (sourceUnits t e)) (held t u l) (setOf out u) ∙ k u
 
   -- those of l are still to be reopened
@@ -128,13 +128,13 @@ module _ (t : RegInfo) where
   with-them false b f s = refl
 
   pub free-more : (own : List Entry) (free common out out′ : List Bool) (e : Entry) (l : List Entry) → Reopened (sourceUnits t e) free out out′ → FreeTo own free common out (e ∷ l) → FreeTo own free common out′ l
-  unfolding any
+  unfolding anyIn
   free-more own free common out out′ e l c k u =
       ap (λ (b : Bool). or (and (held t u l) (setOf free u)) b) (c u) ∙ with-them (has u (sourceUnits t e)) (held t u l) (setOf free u) (setOf out u) ∙ k u
 
 -- of all entries those chosen and those not
 held-split : (t : RegInfo) (u : ℕ) (q : ℕ → Bool) (ls : List ℕ) (es : List Entry) → length ls ≡ length es → held t u es ≡ or (held t u (chosen q ls es)) (held t u (chosen (λ x. no (q x)) ls es))
-unfolding any chosen
+unfolding anyIn chosen
 held-split t u q [] [] n = refl
 held-split t u q [] (e ∷ es) n = absurd (omega arith)
 held-split t u q (x ∷ ls) [] n = absurd (omega arith)
@@ -183,7 +183,7 @@ apart t es g u a b =
 -- "those of the whole patch that no source of another group holds"
 pub free-end : (t : RegInfo) (numbers : List ℕ) (free common out : List Bool) (g : ℕ) → CommonAs t numbers free common
     → FreeTo t (chosen (λ x. eqb x g) (labelsIn t numbers) (entriesOf numbers)) free common out [] → FreeAs t numbers free g out
-unfolding any part
+unfolding anyIn part
 free-end t numbers free common out g co k p num u =
     let es : List Entry = entriesOf numbers in
     let ls : List ℕ = labelsIn t numbers in
@@ -206,7 +206,7 @@ free-end t numbers free common out g co k p num u =
     law false b f h = refl
 
 pub common-end : (t : RegInfo) (numbers : List ℕ) (free out : List Bool) → CommonTo t (entriesOf numbers) free out [] → CommonAs t numbers free out
-unfolding any
+unfolding anyIn
 common-end t numbers free out k u = k u
 
 pub closed-none : (out : List Bool) → Closed [] out out

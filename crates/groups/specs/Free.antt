@@ -3,7 +3,7 @@ use Prim.Native.Nat.{ℕ}
 use mathlib.Core.Path.{_≡_}
 use mathlib.Core.Bool.{Bool}
 use mathlib.Core.List.{List}
-use Rattle.entity.specs.Logic.{and, or, no, any, has}
+use Rattle.entity.specs.Logic.{and, or, no, anyIn, has}
 use Rattle.reginfo.specs.RegInfo.{RegInfo}
 use Rattle.rules.specs.Patch.{Patch}
 use Rattle.small_set.specs.Set.{setOf}
@@ -19,7 +19,7 @@ Reopened us free out out′ = (u : ℕ) → setOf out′ u ≡ or (and (has u us
 
 -- the free units that no source has
 abbrev pub CommonAs : RegInfo → List ℕ → List Bool → List Bool → Type 0
-CommonAs t numbers free out = (u : ℕ) → setOf out u ≡ and (no (any (λ e. has u (sourceUnits t e)) (entriesOf numbers))) (setOf free u)
+CommonAs t numbers free out = (u : ℕ) → setOf out u ≡ and (no (anyIn (λ e. has u (sourceUnits t e)) (entriesOf numbers))) (setOf free u)
 
 -- the free units of the group labelled g
 abbrev pub FreeAs : RegInfo → List ℕ → List Bool → ℕ → List Bool → Type 0

@@ -9,7 +9,7 @@ use native.Mathlib.Omega.{arith}
 use lib.Dec.{eqb, ltb, leb}
 use lib.ListN.{length}
 use borrow.Author.Tests.{eqb-true, leb-true, lt-ltb, le-ltb, ltb-true}
-use Rattle.entity.specs.Logic.{pick, and, or, all, has}
+use Rattle.entity.specs.Logic.{pick, and, or, allIn, has}
 use Rattle.entity.specs.Place.{placeAt}
 use Rattle.entity.proofs.Laws.{and-true}
 use Rattle.reginfo.specs.RegInfo.{RegInfo, bankForClass}
@@ -57,12 +57,12 @@ either : {A : Type 0} (b : Bool) (d e : Read A) → Only d → Only e → Only (
 either true d e h k = h
 either false d e h k = k
 
-given : {A : Type 0} (cs : List Condition) (d : Read A) → all (λ (c : Condition). readings (c .number)) cs ≡ true → Only d
+given : {A : Type 0} (cs : List Condition) (d : Read A) → allIn (λ (c : Condition). readings (c .number)) cs ≡ true → Only d
     → Only (unlessGiven (firstOf cs) d)
-unfolding all firstOf
+unfolding allIn firstOf
 given [] d z h = h
 given (c ∷ cs) d z h =
-    let w = and-true (readings (c .number)) (all (λ (c : Condition). readings (c .number)) cs) z in
+    let w = and-true (readings (c .number)) (allIn (λ (c : Condition). readings (c .number)) cs) z in
     go (c .holds) (w .0) (given cs d (w .1) h)
   where
     go : (b : Bool) → readings (c .number) ≡ true → Only (unlessGiven (firstOf cs) d) → Only (unlessGiven (orElse b (c .number) (firstOf cs)) d)
@@ -173,8 +173,8 @@ module _ (t : RegInfo) (f : Function) where
       (λ s q e. after (place t f q) _ (place-only q) (λ d p e. made (below (numValues f) p) _ (tested-only _ p))))
       (after (place t f r) _ (place-only r) (λ d q e. made (below (numValues f) q) _ (tested-only _ q))))
 
-  entry-numbers : (a : Sorted) (e : Entry) → all (λ (c : Condition). readings (c .number)) (entryConditions t f a e) ≡ true
-  unfolding entryConditions all
+  entry-numbers : (a : Sorted) (e : Entry) → allIn (λ (c : Condition). readings (c .number)) (entryConditions t f a e) ≡ true
+  unfolding entryConditions allIn
   entry-numbers a (move s d v) = refl
   entry-numbers a (remat d v) = refl
 
@@ -215,7 +215,7 @@ module _ (t : RegInfo) (f : Function) where
 
 -- ---- the job
 target-numbers : {A : Type 0} (t : RegInfo) (d : Read A) → Only d → Only (unlessGiven (targetRefusal t) d)
-unfolding targetRefusal all
+unfolding targetRefusal allIn
 target-numbers t d h = given _ d refl h
 
 opening-only : (l : List ℕ) → Only (opening 1 l)

@@ -7,7 +7,7 @@ use native.Mathlib.Omega.{arith}
 use lib.Dec.{ltb}
 use lib.ListN.{length}
 use borrow.Author.Tests.{ltb-true, le-ltb}
-use Rattle.entity.specs.Logic.{pick, all}
+use Rattle.entity.specs.Logic.{pick, allIn}
 use Rattle.entity.proofs.Laws.{and-true}
 use Rattle.number.specs.Read.{Read, got, refused}
 use Rattle.number.specs.Number.{groups, number, groupsOf, Bytes}
@@ -37,9 +37,9 @@ all-bytes (n ∷ ns) = groups-bytes 5 n (bytesOf ns) (all-bytes ns)
 
 -- ---- and of one list of numbers
 first-back : (n : ℕ) (ns : List ℕ) → Numbers (n ∷ ns) → (number (bytesOf (n ∷ ns)) ≡ got n (bytesOf ns)) × Numbers ns
-unfolding bytesOf eachOf all
+unfolding bytesOf eachOf allIn
 first-back n ns h =
-    let w = and-true (ltb n 4294967296) (all (λ n. ltb n 4294967296) ns) h in
+    let w = and-true (ltb n 4294967296) (allIn (λ n. ltb n 4294967296) ns) h in
     (read-back n (bytesOf ns) (ltb-true n 4294967296 (w .0)), w .1)
 
 none-there : number (bytesOf []) ≡ refused 1

@@ -7,7 +7,7 @@ use native.Mathlib.Omega.{arith}
 use lib.Dec.{ltb}
 use lib.ListN.{length}
 use borrow.Author.Tests.{lt-ltb}
-use Rattle.entity.specs.Logic.{pick, and, all, has}
+use Rattle.entity.specs.Logic.{pick, and, allIn, has}
 use Rattle.number.specs.Read.{Read, got, refused, then}
 use Rattle.number.specs.Number.{number, encoded, Bytes}
 use Rattle.number.proofs.Laws.{only-form}
@@ -28,12 +28,12 @@ bytes-append [] ms = refl
 bytes-append (n ∷ ns) ms = rw (append-assoc (encoded n) (bytesOf ns) (bytesOf ms)) (ap (λ (l : List ℕ). encoded n ++ l) (bytes-append ns ms))
 
 numbers-append : (ns ms : List ℕ) → Numbers ns → Numbers ms → Numbers (ns ++ ms)
-unfolding all
+unfolding allIn
 numbers-append [] ms h k = k
 numbers-append (n ∷ ns) ms h k = go (ltb n 4294967296) h (numbers-append ns ms)
   where
-    go : (b : Bool) → and b (all (λ n. ltb n 4294967296) ns) ≡ true → (Numbers ns → Numbers ms → Numbers (ns ++ ms))
-        → and b (all (λ n. ltb n 4294967296) (ns ++ ms)) ≡ true
+    go : (b : Bool) → and b (allIn (λ n. ltb n 4294967296) ns) ≡ true → (Numbers ns → Numbers ms → Numbers (ns ++ ms))
+        → and b (allIn (λ n. ltb n 4294967296) (ns ++ ms)) ≡ true
     go true h on = on h k
     go false h on = h
 
@@ -50,12 +50,12 @@ join {ns} {ms} {l} {r} {q} a b = record {
 }
 
 pub nothing : (l : List ℕ) → Bytes l → Stands [] l l
-unfolding bytesOf eachOf all
+unfolding bytesOf eachOf allIn
 nothing l h = record { is = refl; numbers = refl; rest = h }
 
 -- ---- a number
 pub number-stands : (l : List ℕ) (n : ℕ) (r : List ℕ) → Bytes l → number l ≡ got n r → Stands (n ∷ []) l r
-unfolding bytesOf eachOf all
+unfolding bytesOf eachOf allIn
 number-stands l n r h e =
     let w = only-form l n r h e in
     record { is = go (w .1); numbers = rw (lt-ltb n 4294967296 (w .0)); rest = bytes-after (encoded n) r (subst Bytes (w .1) h) }

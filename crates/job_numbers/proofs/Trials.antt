@@ -1,6 +1,6 @@
 -- The trials of written jobs, computed.
 use mathlib.Core.Path.{refl}
-use Rattle.entity.specs.Logic.{any, all, has, meets, twice, lastOr, indices}
+use Rattle.entity.specs.Logic.{anyIn, allIn, has, meets, twice, lastOr, indices}
 use Rattle.entity.specs.Place.{placeAt}
 use Rattle.reginfo.specs.RegInfo.{spillslotSize, topLevelClass, stackToStackClass, regMemory, bankForReg, regUnits, bankForClass, classSlots, classMembers, allocationOrder}
 use Rattle.reginfo.specs.Refused.{orderTotal, countsFit, bankFits, regFits, classFits, outsideLimits, listedTwice, unequalWidths, foreignMember, sharedMemory, unfitClass, firstOf, targetRefusal}
@@ -20,7 +20,7 @@ use Rattle.job_numbers.specs.Numbers.{eachOf, targetNumbers, functionNum
 use Rattle.job_numbers.specs.Trials.{Trials}
 
 pub trials : Trials
-unfolding placeAt any all has meets twice lastOr indices spillslotSize topLevelClass stackToStackClass regMemory bankForReg regUnits bankForClass classSlots classMembers allocationOrder orderTotal countsFit bankFits regFits classFits outsideLimits listedTwice unequalWidths foreignMember sharedMemory unfitClass firstOf targetRefusal valueBank rematCost rematClass isSetting updated andThen each find firstAt filter acquireFrom unevict unevictBut unevictForReg makeRoom slotScratch evictLast reuse orScratch getScratchReg moveEdits doMove carryOne carry remats rematWithScratch writerFrom writersOf writers cycleMoveSources divert lead undivert undivertAll close visit visitUnlessMemory start moves destinations add sortedFrom entryConditions patchConditions run resolveSorted resolveFrom resolve groups number groupsOf tested times distinct bank reg class classes target rematValue value valued function rising place entry entries patch afterTarget header patchesBy opening jobBy doubled eachOf targetNumbers functionNumbers patchesNumbers bytesOf readPatches readJob written
+unfolding placeAt anyIn allIn has meets twice lastOr indices spillslotSize topLevelClass stackToStackClass regMemory bankForReg regUnits bankForClass classSlots classMembers allocationOrder orderTotal countsFit bankFits regFits classFits outsideLimits listedTwice unequalWidths foreignMember sharedMemory unfitClass firstOf targetRefusal valueBank rematCost rematClass isSetting updated andThen each find firstAt filter acquireFrom unevict unevictBut unevictForReg makeRoom slotScratch evictLast reuse orScratch getScratchReg moveEdits doMove carryOne carry remats rematWithScratch writerFrom writersOf writers cycleMoveSources divert lead undivert undivertAll close visit visitUnlessMemory start moves destinations add sortedFrom entryConditions patchConditions run resolveSorted resolveFrom resolve groups number groupsOf tested times distinct bank reg class classes target rematValue value valued function rising place entry entries patch afterTarget header patchesBy opening jobBy doubled eachOf targetNumbers functionNumbers patchesNumbers bytesOf readPatches readJob written
 trials = record {
   just-room = refl;
   one-byte-short = refl;

@@ -7,7 +7,7 @@ use mathlib.Core.Option.{some}
 use mathlib.Core.Logic.{_↔_, _⊎_}
 use lib.Dec.{eqb, ltb}
 use lib.ListN.{length}
-use Rattle.entity.specs.Logic.{pick, all}
+use Rattle.entity.specs.Logic.{pick, allIn}
 use Rattle.reginfo.specs.RegInfo.{RegInfo}
 use Rattle.function.specs.Function.{ValueData, Function}
 use Rattle.number.specs.Read.{got, refused}
@@ -17,7 +17,7 @@ use Rattle.job_numbers.specs.Numbers.{Job, targetNumbers, functionNumber
 
 -- every number fits 01's form
 abbrev pub Numbers : List ℕ → Type 0
-Numbers ns = all (λ n. ltb n 4294967296) ns ≡ true
+Numbers ns = allIn (λ n. ltb n 4294967296) ns ≡ true
 
 -- "any accepted job read and written again has its old bytes"
 abbrev pub OldBytes : Type 0

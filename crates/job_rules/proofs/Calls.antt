@@ -4,7 +4,7 @@ use mathlib.Core.Path.{_≡_, refl}
 use mathlib.Core.List.{List, [], _∷_, _++_}
 use mathlib.Core.Option.{Option, none, some}
 use Rattle.reginfo.specs.RegInfo.{RegInfo}
-use Rattle.reginfo.specs.Refused.{Condition, cond, firstOf}
+use Rattle.reginfo.specs.Refused.{Condition, refusedIf, firstOf}
 use Rattle.reginfo.specs.Given.{Given, NoneHolds}
 use Rattle.reginfo.proofs.First.{none-first, given-first}
 use Rattle.function.specs.Function.{Function}
@@ -29,7 +29,7 @@ first-is cs (resolved es c n) given taken = none-first cs (taken (es, c, n, refl
 abbrev pub ExactCalls : Resolver → Out → RegInfo → Function → Type 0
 ExactCalls by out t f =
     (p : Patch) (room : ℕ) (c : Cache)
-    → firstOf (entriesConditions t f (p .entries) nothingSorted ++ (patchConditions t f p room (sorted t f p) ++ (cond 17 (out t f p c) ∷ []))) ≡ numberOf (by t f p room c)
+    → firstOf (entriesConditions t f (p .entries) nothingSorted ++ (patchConditions t f p room (sorted t f p) ++ (refusedIf 17 (out t f p c) ∷ []))) ≡ numberOf (by t f p room c)
 
 pub resolve-exact : (t : RegInfo) (f : Function) → ExactCalls resolve runsOut t f
 unfolding callConditions

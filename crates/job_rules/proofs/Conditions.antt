@@ -12,7 +12,7 @@ use Rattle.entity.specs.Logic.{and, no}
 use Rattle.entity.specs.Place.{Place, placeAt}
 use Rattle.reginfo.specs.RegInfo.{RegInfo, bankForClass}
 use Rattle.reginfo.specs.Refused as target
-use Rattle.reginfo.specs.Refused.{Condition, cond, outsideLimits, listedTwice, firstOf, targetRefusal}
+use Rattle.reginfo.specs.Refused.{Condition, refusedIf, outsideLimits, listedTwice, firstOf, targetRefusal}
 use Rattle.reginfo.proofs.First.{first-none, none-first, given-first, first-given}
 use Rattle.function.specs.Function.{Function, numValues, isSetting}
 use Rattle.rules.specs.Scratch.{Cache, emptyCache}
@@ -163,7 +163,7 @@ answered {A = A} d cs next ns e on = first-append cs (afterGot d ns) ∙ rw e (g
     go (got x r) on = on x r refl
     go (refused k) on = refl
 
-left-exactly : (l : List ℕ) → firstOf (cond 8 (ltb 0 (length l)) ∷ []) ≡ leftOver l .refusal
+left-exactly : (l : List ℕ) → firstOf (refusedIf 8 (ltb 0 (length l)) ∷ []) ≡ leftOver l .refusal
 unfolding firstOf
 left-exactly [] = refl
 left-exactly (b ∷ l) = rw (lt-ltb 0 (length (b ∷ l)) (omega arith))
@@ -223,7 +223,7 @@ priced-exactly p kept l =
     unless (no (isSetting kept)) 22 _ _
     (λ _. unless (ltb 65536 (length l)) 2 _ _
     (λ _. after (target l) (inTarget l) _ _ (target-exactly l)
-    (λ t r e. rules-exactly l t r e (unlessOutside (inRange p) (afterTarget t kept r)) (cond 19 (no (inRange p)) ∷ behindRules t kept r)
+    (λ t r e. rules-exactly l t r e (unlessOutside (inRange p) (afterTarget t kept r)) (refusedIf 19 (no (inRange p)) ∷ behindRules t kept r)
     (within (inRange p) 19 (afterTarget t kept r) (behindRules t kept r) (behind-exactly t kept r)))))
 
 -- whatever answers the calls, over every accepted target

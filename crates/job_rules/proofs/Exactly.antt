@@ -6,7 +6,7 @@ use mathlib.Core.List.{List, [], _∷_, _++_}
 use mathlib.Core.Option.{Option, none, some}
 use lib.Dec.{ltb}
 use Rattle.entity.specs.Logic.{pick, no, has}
-use Rattle.reginfo.specs.Refused.{Condition, cond, firstOf}
+use Rattle.reginfo.specs.Refused.{Condition, refusedIf, firstOf}
 use Rattle.parallel_moves.proofs.First.{orThen, first-append}
 use Rattle.number.specs.Read.{Read, got, refused, then}
 use Rattle.number.specs.Number.{number}
@@ -49,19 +49,19 @@ made {A = A} d cs g e = e ∙ go d
 
 -- a condition before a part
 pub unless : {A : Type 0} (b : Bool) (k : ℕ) (d : Read A) (cs : List Condition)
-    → (b ≡ false → Exactly d cs) → Exactly (pick b (refused k) d) (cond k b ∷ cs)
+    → (b ≡ false → Exactly d cs) → Exactly (pick b (refused k) d) (refusedIf k b ∷ cs)
 unfolding firstOf
 unless true k d cs e = refl
 unless false k d cs e = e refl
 
 -- a test before a part
-pub within : {A : Type 0} (b : Bool) (k : ℕ) (d : Read A) (cs : List Condition) → Exactly d cs → Exactly (pick b d (refused k)) (cond k (no b) ∷ cs)
+pub within : {A : Type 0} (b : Bool) (k : ℕ) (d : Read A) (cs : List Condition) → Exactly d cs → Exactly (pick b d (refused k)) (refusedIf k (no b) ∷ cs)
 unfolding firstOf
 within true k d cs e = e
 within false k d cs e = refl
 
 -- a test of what was read
-pub passing : {A : Type 0} (b : Bool) (k : ℕ) (x : A) (r : List ℕ) → Exactly (pick b (got x r) (refused k)) (cond k (no b) ∷ [])
+pub passing : {A : Type 0} (b : Bool) (k : ℕ) (x : A) (r : List ℕ) → Exactly (pick b (got x r) (refused k)) (refusedIf k (no b) ∷ [])
 unfolding firstOf
 passing true k x r = refl
 passing false k x r = refl
@@ -84,7 +84,7 @@ pub number-exactly : (l : List ℕ) → Exactly (number l) (inNumber l)
 unfolding inNumber firstOf
 number-exactly l = go (number l) (one-refusal l)
   where
-    go : (d : Read ℕ) → ((k : ℕ) → d ≡ refused k → k ≡ 1) → Exactly d (cond 1 (unread d) ∷ [])
+    go : (d : Read ℕ) → ((k : ℕ) → d ≡ refused k → k ≡ 1) → Exactly d (refusedIf 1 (unread d) ∷ [])
     go (got n r) h = refl
     go (refused k) h = let e : k ≡ 1 = h k refl in rw e
 

@@ -7,7 +7,7 @@ use native.Mathlib.Omega.{arith}
 use lib.Dec.{eqb, ltb, leb}
 use lib.ListN.{length, getD}
 use borrow.Author.Tests.{ltb-true, leb-true, leb-false, eqb-true, lt-ltb, le-ltb, le-leb, eq-eqb, not-true}
-use Rattle.entity.specs.Logic.{and, or, no, any, all, has, twice, indices}
+use Rattle.entity.specs.Logic.{and, or, no, anyIn, allIn, has, twice, indices}
 use Rattle.entity.proofs.Laws.{or-false, and-true, all-has, any-at}
 use Rattle.reginfo.specs.RegInfo.{Bank, Reg, Class, RegInfo, noBank, noReg, noClass, numBanks, numRegs, numClasses, spillslotSize, topLevelClass, stackToStackClass, regMemory, bankForReg, regUnits, bankForClass, classSlots, classMembers, allocationOrder}
 use Rattle.reginfo.specs.Refused.{some-below, within, allBelow, orderTotal, countsFit, bankFits, regFits, classFits, outsideLimits, listedTwice}
@@ -33,7 +33,7 @@ or-right false b h = h
 
 fresh-more : (n limit x : ℕ) (before xs : List ℕ) → ltb x limit ≡ true → has x before ≡ false
     → Fresh n limit (x ∷ before) xs → Fresh (suc n) limit before (x ∷ xs)
-unfolding all has twice
+unfolding allIn has twice
 fresh-more n limit x before xs b h i = record {
   long = ap suc (i .long);
   low = rw (b, i .low);
@@ -50,7 +50,7 @@ fresh-more n limit x before xs b h i = record {
     other false y q e z = z
 
 fresh : (n limit : ℕ) (before l xs r : List ℕ) → distinct n limit before l ≡ got xs r → Fresh n limit before xs
-unfolding distinct all has twice
+unfolding distinct allIn has twice
 fresh zero limit before l xs r e =
     let is : [] ≡ xs = cc in
     subst (λ (xs : List ℕ). Fresh 0 limit before xs) is record { long = refl; low = refl; once = refl; new = λ y h. refl }
@@ -191,13 +191,13 @@ record Right (t : RegInfo) : Type 0 where
   regs : within 1 512 (numRegs t) ≡ true
   classes : within 1 64 (numClasses t) ≡ true
   bank : (b : ℕ) → b < numBanks t → bankRight (getD (t .banks) b noBank)
-  known : any (unknownClass (numClasses t)) (t .banks) ≡ false
+  known : anyIn (unknownClass (numClasses t)) (t .banks) ≡ false
   reg : (r : ℕ) → r < numRegs t → RegRight (t .units) (numBanks t) (getD (t .regs) r noReg)
   class : (c : ℕ) → c < numClasses t → ClassRight (numBanks t) (numRegs t) (getD (t .classes) c noClass)
   few : orderTotal (t .classes) ≤ 4096
 
-none-from : (p : ℕ → Bool) (a n : ℕ) → ((i : ℕ) → a ≤ i → i < a + n → p i ≡ false) → any p (indices a n) ≡ false
-unfolding any indices
+none-from : (p : ℕ → Bool) (a n : ℕ) → ((i : ℕ) → a ≤ i → i < a + n → p i ≡ false) → anyIn p (indices a n) ≡ false
+unfolding anyIn indices
 none-from p a zero h = refl
 none-from p a (suc n) h = rw (h a (omega arith) (omega arith)) (none-from p (a + 1) n (λ i x y. h i (omega arith) (omega arith)))
 
@@ -254,26 +254,26 @@ target-right l t r e =
     let c = then-got (times (b .0) bank (b .1)) _ t r (b .3) in
     let d = then-got (between 1 512 (c .1)) _ t r (c .3) in
     let p = then-got (times (d .0) (reg (a .0) (b .0)) (d .1)) _ t r (d .3) in
-    let q = then-got (tested (λ n. and (and (leb 1 n) (leb n 64)) (no (any (unknownClass n) (c .0)))) (p .1)) _ t r (p .3) in
+    let q = then-got (tested (λ n. and (and (leb 1 n) (leb n 64)) (no (anyIn (unknownClass n) (c .0)))) (p .1)) _ t r (p .3) in
     let s = then-got (classes (q .0) (b .0) (d .0) 0 (q .1)) _ t r (q .3) in
     go (a .0) (b .0) (d .0) (q .0) (c .0) (p .0) (s .0) (s .1)
     (tested-got (λ x. and (leb 1 x) (leb x 512)) l (a .0) (a .1) (a .2))
     (tested-got (λ x. and (leb 1 x) (leb x 8)) (a .1) (b .0) (b .1) (b .2))
     (tested-got (λ x. and (leb 1 x) (leb x 512)) (c .1) (d .0) (d .1) (d .2))
-    (tested-got (λ n. and (and (leb 1 n) (leb n 64)) (no (any (unknownClass n) (c .0)))) (p .1) (q .0) (q .1) (q .2))
+    (tested-got (λ n. and (and (leb 1 n) (leb n 64)) (no (anyIn (unknownClass n) (c .0)))) (p .1) (q .0) (q .1) (q .2))
     (times-got bank bankRight noBank bank-right (b .0) (b .1) (c .0) (c .1) (c .2))
     (times-got (reg (a .0) (b .0)) (RegRight (a .0) (b .0)) noReg (reg-right (a .0) (b .0)) (d .0) (d .1) (p .0) (p .1) (p .2))
     (classes-right (b .0) (d .0) (q .0) 0 (q .1) (s .0) (s .1) (omega arith) (s .2))
     (s .3)
   where
     go : (units n m c : ℕ) (banks : List Bank) (regs : List Reg) (cs : List Class) (k : List ℕ)
-        → within 1 512 units ≡ true → within 1 8 n ≡ true → within 1 512 m ≡ true → and (within 1 64 c) (no (any (unknownClass c) banks)) ≡ true
+        → within 1 512 units ≡ true → within 1 8 n ≡ true → within 1 512 m ≡ true → and (within 1 64 c) (no (anyIn (unknownClass c) banks)) ≡ true
         → (length banks ≡ n) × ((i : ℕ) → i < n → bankRight (getD banks i noBank))
         → (length regs ≡ m) × ((i : ℕ) → i < m → RegRight units n (getD regs i noReg))
         → ClassesRight n m c 0 cs → got (record { units = units; banks = banks; regs = regs; classes = cs }) k ≡ got t r → Right t
     go units n m c banks regs cs k hu hn hm hc b g i e =
         let is : record { units = units; banks = banks; regs = regs; classes = cs } ≡ t = cc in
-        let w = and-true (within 1 64 c) (no (any (unknownClass c) banks)) hc in
+        let w = and-true (within 1 64 c) (no (anyIn (unknownClass c) banks)) hc in
         subst (λ (t : RegInfo). Right t) is
         record {
           units = hu;
@@ -281,7 +281,7 @@ target-right l t r e =
           regs = rw (g .0) hm;
           classes = rw (i .long) (w .0);
           bank = λ x h. b .1 x (omega (arith, b .0));
-          known = rw (i .long) (not-true (any (unknownClass c) banks) (w .1));
+          known = rw (i .long) (not-true (anyIn (unknownClass c) banks) (w .1));
           reg = λ x h. rw (b .0) (g .1 x (omega (arith, g .0)));
           class = λ x h. rw (b .0, g .0) (i .right x (omega (arith, i .long)));
           few = omega (arith, i .few);

@@ -1,6 +1,6 @@
 -- The trials of jobs, computed.
 use mathlib.Core.Path.{refl}
-use Rattle.entity.specs.Logic.{any, all, has, meets, twice, lastOr, indices}
+use Rattle.entity.specs.Logic.{anyIn, allIn, has, meets, twice, lastOr, indices}
 use Rattle.entity.specs.Place.{placeAt}
 use Rattle.reginfo.specs.RegInfo.{spillslotSize, topLevelClass, stackToStackClass, regMemory, bankForReg, regUnits, bankForClass, classSlots, classMembers, allocationOrder}
 use Rattle.reginfo.specs.Refused.{orderTotal, countsFit, bankFits, regFits, classFits, outsideLimits, listedTwice, unequalWidths, foreignMember, sharedMemory, unfitClass, firstOf, targetRefusal}
@@ -21,7 +21,7 @@ use Rattle.job_rules.specs.Priced.{openingIf, jobPriced}
 use Rattle.job_rules.specs.Trials.{sameMoves, Trials, PricedTrials}
 
 pub trials : Trials
-unfolding placeAt any all has meets twice lastOr indices spillslotSize topLevelClass stackToStackClass regMemory bankForReg regUnits bankForClass classSlots classMembers allocationOrder orderTotal countsFit bankFits regFits classFits outsideLimits listedTwice unequalWidths foreignMember sharedMemory unfitClass firstOf targetRefusal valueBank rematCost rematClass isSetting updated andThen each find firstAt filter acquireFrom unevict unevictBut unevictForReg makeRoom slotScratch evictLast reuse orScratch getScratchReg moveEdits doMove carryOne carry remats rematWithScratch writerFrom writersOf writers cycleMoveSources divert lead undivert undivertAll close visit visitUnlessMemory start moves destinations add sortedFrom entryConditions patchConditions run resolveSorted resolveFrom resolve groups number tested times distinct bank reg class classes target rematValue value valued function rising place entry entries patch afterTarget header patchesBy opening jobBy inNumber inTested inTimes inDistinct inBank inReg inClass inClasses inTarget ofTarget inRematValue inValue inFunction inRising inPlace inEntry inEntries inPatch ofCall inPatchesBy inOpening jobConditionsBy sameMoves
+unfolding placeAt anyIn allIn has meets twice lastOr indices spillslotSize topLevelClass stackToStackClass regMemory bankForReg regUnits bankForClass classSlots classMembers allocationOrder orderTotal countsFit bankFits regFits classFits outsideLimits listedTwice unequalWidths foreignMember sharedMemory unfitClass firstOf targetRefusal valueBank rematCost rematClass isSetting updated andThen each find firstAt filter acquireFrom unevict unevictBut unevictForReg makeRoom slotScratch evictLast reuse orScratch getScratchReg moveEdits doMove carryOne carry remats rematWithScratch writerFrom writersOf writers cycleMoveSources divert lead undivert undivertAll close visit visitUnlessMemory start moves destinations add sortedFrom entryConditions patchConditions run resolveSorted resolveFrom resolve groups number tested times distinct bank reg class classes target rematValue value valued function rising place entry entries patch afterTarget header patchesBy opening jobBy inNumber inTested inTimes inDistinct inBank inReg inClass inClasses inTarget ofTarget inRematValue inValue inFunction inRising inPlace inEntry inEntries inPatch ofCall inPatchesBy inOpening jobConditionsBy sameMoves
 trials = record {
   swap-full = refl;
   in-order = refl;
@@ -56,5 +56,5 @@ trials = record {
 }
 
 pub priced-trials : PricedTrials
-unfolding placeAt any all has meets twice lastOr indices spillslotSize topLevelClass stackToStackClass regMemory bankForReg regUnits bankForClass classSlots classMembers allocationOrder orderTotal countsFit bankFits regFits classFits outsideLimits listedTwice unequalWidths foreignMember sharedMemory unfitClass firstOf targetRefusal isSetting inRange groups number tested times distinct bank reg class classes target valued function afterTarget openingIf jobPriced
+unfolding placeAt anyIn allIn has meets twice lastOr indices spillslotSize topLevelClass stackToStackClass regMemory bankForReg regUnits bankForClass classSlots classMembers allocationOrder orderTotal countsFit bankFits regFits classFits outsideLimits listedTwice unequalWidths foreignMember sharedMemory unfitClass firstOf targetRefusal isSetting inRange groups number tested times distinct bank reg class classes target valued function afterTarget openingIf jobPriced
 priced-trials = record { rule-first = refl; price-then = refl; in-range = refl }

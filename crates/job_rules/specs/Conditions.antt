@@ -10,10 +10,10 @@ use mathlib.Core.Option.{none, some}
 use mathlib.Core.Logic.{_↔_}
 use lib.Dec.{eqb, ltb, leb}
 use lib.ListN.{length, drop}
-use Rattle.entity.specs.Logic.{pick, and, no, any, has}
+use Rattle.entity.specs.Logic.{pick, and, no, anyIn, has}
 use Rattle.entity.specs.Place.{placeAt}
 use Rattle.reginfo.specs.RegInfo.{RegInfo, numBanks, numClasses, bankForClass}
-use Rattle.reginfo.specs.Refused.{Condition, cond, outsideLimits, listedTwice, unequalWidths, foreignMember, sharedMemory, unfitClass}
+use Rattle.reginfo.specs.Refused.{Condition, refusedIf, outsideLimits, listedTwice, unequalWidths, foreignMember, sharedMemory, unfitClass}
 use Rattle.reginfo.specs.Given.{Given, NoneHolds}
 use Rattle.function.specs.Function.{Function, numValues, isSetting}
 use Rattle.rules.specs.Scratch.{Cache, emptyCache}
@@ -40,14 +40,14 @@ unread (refused k) = true
 
 -- 1: no number stands there
 unfoldable pub inNumber : List ℕ → List Condition
-inNumber l = cond 1 (unread (number l)) ∷ []
+inNumber l = refusedIf 1 (unread (number l)) ∷ []
 
 abbrev pub afterNumber : List ℕ → (ℕ → List ℕ → List Condition) → List Condition
 afterNumber l next = inNumber l ++ afterGot (number l) next
 
 -- 2: a number that does not pass its test
 unfoldable pub inTested : (ℕ → Bool) → List ℕ → List Condition
-inTested ok l = afterNumber l (λ n r. cond 2 (no (ok n)) ∷ [])
+inTested ok l = afterNumber l (λ n r. refusedIf 2 (no (ok n)) ∷ [])
 
 abbrev pub afterTested : (ℕ → Bool) → List ℕ → (ℕ → List ℕ → List Condition) → List Condition
 afterTested ok l next = inTested ok l ++ afterGot (tested ok l) next
@@ -66,7 +66,7 @@ inTimes (suc n) one of l = of l ++ afterGot (one l) (λ x r. inTimes n one of r)
 -- 3: listed `before` already
 unfoldable pub inDistinct : ℕ → ℕ → List ℕ → List ℕ → List Condition
 inDistinct zero limit before l = []
-inDistinct (suc n) limit before l = afterBelow limit l (λ x r. cond 3 (has x before) ∷ inDistinct n limit (x ∷ before) r)
+inDistinct (suc n) limit before l = afterBelow limit l (λ x r. refusedIf 3 (has x before) ∷ inDistinct n limit (x ∷ before) r)
 
 -- ---- the target
 unfoldable pub inBank : List ℕ → List Condition
@@ -97,16 +97,16 @@ inTarget l =
     (λ n q. inTimes n bank inBank q ++ afterGot (times n bank q)
     (λ banks p. afterBetween 1 512 p
     (λ m o. inTimes m (reg units n) (inReg units n) o ++ afterGot (times m (reg units n) o)
-    (λ regs k. afterTested (λ c. and (and (leb 1 c) (leb c 64)) (no (any (unknownClass c) banks))) k
+    (λ regs k. afterTested (λ c. and (and (leb 1 c) (leb c 64)) (no (anyIn (unknownClass c) banks))) k
     (λ c j. inClasses c n m 0 j))))))
 
 -- "4 to 7 rising after the target"
 unfoldable pub ofTarget : RegInfo → List Condition
-ofTarget t = cond 4 (unequalWidths t) ∷ cond 5 (foreignMember t) ∷ cond 6 (sharedMemory t) ∷ cond 7 (unfitClass t) ∷ []
+ofTarget t = refusedIf 4 (unequalWidths t) ∷ refusedIf 5 (foreignMember t) ∷ refusedIf 6 (sharedMemory t) ∷ refusedIf 7 (unfitClass t) ∷ []
 
 -- ---- the function: "9 for a rebuild class when the function is read"
 unfoldable pub inRematValue : RegInfo → ℕ → List ℕ → List Condition
-inRematValue t b l = afterBelow (numClasses t) l (λ c r. cond 9 (no (eqb (bankForClass t c) b)) ∷ [])
+inRematValue t b l = afterBelow (numClasses t) l (λ c r. refusedIf 9 (no (eqb (bankForClass t c) b)) ∷ [])
 
 unfoldable pub inValue : RegInfo → List ℕ → List Condition
 inValue t l = afterBelow (numBanks t) l (λ b r. afterBelow 3 r (λ cost q. pick (eqb cost 0) [] (inRematValue t b q)))
@@ -122,7 +122,7 @@ inFunction t l =
 -- 3: "free units not rising"
 unfoldable pub inRising : ℕ → ℕ → ℕ → List ℕ → List Condition
 inRising zero limit least l = []
-inRising (suc n) limit least l = afterBelow limit l (λ u r. cond 3 (ltb u least) ∷ inRising n limit (u + 1) r)
+inRising (suc n) limit least l = afterBelow limit l (λ u r. refusedIf 3 (ltb u least) ∷ inRising n limit (u + 1) r)
 
 -- the conditions of what follows a call, where it was not refused
 abbrev pub afterResolved : Answer → (Cache → List Condition) → List Condition
@@ -131,7 +131,7 @@ afterResolved (rules.resolved es c n) next = next c
 
 module _ (t : RegInfo) (f : Function) where
   unfoldable pub inPlace : List ℕ → List Condition
-  inPlace l = afterNumber l (λ c r. cond 2 (no (namesPlace t f (placeAt c))) ∷ [])
+  inPlace l = afterNumber l (λ c r. refusedIf 2 (no (namesPlace t f (placeAt c))) ∷ [])
 
   unfoldable pub inEntry : List ℕ → List Condition
   inEntry l =
@@ -144,7 +144,7 @@ module _ (t : RegInfo) (f : Function) where
   unfoldable pub inEntries : ℕ → Sorted → List ℕ → List Condition
   inEntries zero a l = []
   inEntries (suc n) a l =
-      cond 15 (leb 128 (a .count))
+      refusedIf 15 (leb 128 (a .count))
       ∷ (inEntry l ++ afterGot (entry t f l)
       (λ e r. drop 2 (entryConditions t f a e) ++ inEntries n (add t f e a) r))
 
@@ -164,11 +164,11 @@ runsOut t f p c = ranOut (run t f p (sorted t f p) c)
 
 -- "then 13, 14, 16, 17"
 unfoldable pub ofCall : Out → RegInfo → Function → Patch → Cache → List Condition
-ofCall out t f p c = patchConditions t f p 1024 (sorted t f p) ++ (cond 17 (out t f p c) ∷ [])
+ofCall out t f p c = patchConditions t f p 1024 (sorted t f p) ++ (refusedIf 17 (out t f p c) ∷ [])
 
 -- one patch after the other, "8 last"
 unfoldable pub inPatchesBy : Resolver → Out → RegInfo → Function → ℕ → Cache → List ℕ → List Condition
-inPatchesBy by out t f zero c l = cond 8 (ltb 0 (length l)) ∷ []
+inPatchesBy by out t f zero c l = refusedIf 8 (ltb 0 (length l)) ∷ []
 inPatchesBy by out t f (suc n) c l =
     inPatch t f l ++ afterGot (patch t f l) (λ p r. ofCall out t f p c ++ afterResolved (by t f p 1024 c) (λ c′. inPatchesBy by out t f n c′ r))
 
@@ -179,8 +179,8 @@ inPatches t f n c l = inPatchesBy resolve runsOut t f n c l
 -- 22: "a setting other than 1 or 2, tested before the job"; 2: "a job over 65,536 bytes, tested first"
 unfoldable pub inOpening : (kept : ℕ) → List ℕ → List Condition
 inOpening kept l =
-    cond 22 (no (isSetting kept))
-    ∷ cond 2 (ltb 65536 (length l))
+    refusedIf 22 (no (isSetting kept))
+    ∷ refusedIf 2 (ltb 65536 (length l))
     ∷ (inTarget l ++ afterGot (target l)
     (λ t r. ofTarget t ++ (inFunction t r ++ afterGot (function t kept r)
     (λ f q. inTested (λ x. and (leb 1 x) (leb x 1024)) q))))

@@ -10,7 +10,7 @@ use lib.Dec.{ltb, leb}
 use lib.ListN.{length}
 use Rattle.entity.specs.Logic.{pick, and, no}
 use Rattle.reginfo.specs.RegInfo.{RegInfo}
-use Rattle.reginfo.specs.Refused.{Condition, cond, targetRefusal}
+use Rattle.reginfo.specs.Refused.{Condition, refusedIf, targetRefusal}
 use Rattle.reginfo.specs.Refused as target
 use Rattle.reginfo.specs.Given.{Given, NoneHolds}
 use Rattle.function.specs.Function.{Function, isSetting}
@@ -52,10 +52,10 @@ jobPriced p kept l = afterRead (openingPriced p kept l) (λ h r. patches (h .tar
 -- ---- its conditions: 4 to 7, then 19, then the function's
 unfoldable pub inOpeningPriced : Prices → (kept : ℕ) → List ℕ → List Condition
 inOpeningPriced p kept l =
-    cond 22 (no (isSetting kept))
-    ∷ cond 2 (ltb 65536 (length l))
+    refusedIf 22 (no (isSetting kept))
+    ∷ refusedIf 2 (ltb 65536 (length l))
     ∷ (inTarget l ++ afterGot (given.target l)
-    (λ t r. ofTarget t ++ (cond 19 (no (inRange p)) ∷ (inFunction t r ++ afterGot (reads.function t kept r)
+    (λ t r. ofTarget t ++ (refusedIf 19 (no (inRange p)) ∷ (inFunction t r ++ afterGot (reads.function t kept r)
     (λ f q. inTested (λ x. and (leb 1 x) (leb x 1024)) q)))))
 
 unfoldable pub conditionsPriced : Prices → (kept : ℕ) → List ℕ → List Condition

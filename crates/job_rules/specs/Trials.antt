@@ -6,7 +6,7 @@ use mathlib.Core.Bool.{true, false}
 use mathlib.Core.List.{List, [], _∷_, _++_, map}
 use mathlib.Core.Option.{none, some}
 use Rattle.entity.specs.Place.{reg, slot}
-use Rattle.reginfo.specs.Refused.{Condition, cond}
+use Rattle.reginfo.specs.Refused.{Condition, refusedIf}
 use Rattle.rules.specs.Edit.{Move, EmergencySpill}
 use Rattle.rules.specs.ChangeTrials.{r0Edits, r1Edits}
 use Rattle.job_target.specs.Trials.{swapGiven}
@@ -82,7 +82,7 @@ pub record Trials : Type 0 where
       numbers swapFull
       ≡ 22 ∷ 2 ∷ 1 ∷ 2 ∷ 1 ∷ 2 ∷ 1 ∷ 2 ∷ 1 ∷ 1 ∷ 1 ∷ 2 ∷ (aReg ++ (aReg ++ (aReg ++ (1 ∷ 2 ∷ (aClass ++ (aClass ++ (4 ∷ 5 ∷ 6 ∷ 7
       ∷ 1 ∷ 2 ∷ 1 ∷ 2 ∷ 1 ∷ 2 ∷ 1 ∷ 2 ∷ 1 ∷ 2 ∷ 1 ∷ 2 ∷ 1 ∷ 2 ∷ 1 ∷ 2 ∷ 1 ∷ 1 ∷ (anEntry ++ (anEntry ++ (13 ∷ 14 ∷ 16 ∷ 17 ∷ 8 ∷ []))))))))))
-  pub no-byte : jobConditions 1 [] ≡ cond 22 false ∷ cond 2 false ∷ cond 1 true ∷ []
+  pub no-byte : jobConditions 1 [] ≡ refusedIf 22 false ∷ refusedIf 2 false ∷ refusedIf 1 true ∷ []
   -- 02 i: another setting is refused before the job, whatever its bytes and however many
   pub none-kept : (l : List ℕ) → job 0 l ≡ endsWith (some 22)
   pub three-kept : (l : List ℕ) → job 3 l ≡ endsWith (some 22)

@@ -7,7 +7,7 @@ use native.Mathlib.Omega.{arith}
 use lib.Dec.{leb}
 use lib.ListN.{getD}
 use borrow.Author.Tests.{le-leb, lt-leb}
-use Rattle.entity.specs.Logic.{or, any, indices}
+use Rattle.entity.specs.Logic.{or, anyIn, indices}
 use Rattle.entity.proofs.Laws.{indices-step}
 use Rattle.reginfo.specs.RegInfo.{Bank}
 use Rattle.reginfo.specs.Table.{bankAt}
@@ -88,12 +88,12 @@ module _ (t : List ℕ) (b n x : ℕ) (top : x ≡ getD t (8705 + b * 4) 0) wher
   unfolding bankAt
   stack-unknown h y e = rw (← top, ← e, lt-leb n x h)
 
-any-step : (p : Bank → Bool) (t : List ℕ) (b left : ℕ) → 0 < left → any p (map (bankAt t) (indices b left)) ≡ or (p (bankAt t b)) (any p (map (bankAt t) (indices (b + 1) (left - 1))))
-unfolding any
-any-step p t b left h = ap (λ (l : List ℕ). any p (map (bankAt t) l)) (indices-step b left h)
+any-step : (p : Bank → Bool) (t : List ℕ) (b left : ℕ) → 0 < left → anyIn p (map (bankAt t) (indices b left)) ≡ or (p (bankAt t b)) (anyIn p (map (bankAt t) (indices (b + 1) (left - 1))))
+unfolding anyIn
+any-step p t b left h = ap (λ (l : List ℕ). anyIn p (map (bankAt t) l)) (indices-step b left h)
 
 pub record Searched (t : List ℕ) (banks n b left : ℕ) : Type 0 where
-  pub same : any (unknownClass n) (map (bankAt t) (indices b left)) ≡ any (unknownClass n) (map (bankAt t) (indices 0 banks))
+  pub same : anyIn (unknownClass n) (map (bankAt t) (indices b left)) ≡ anyIn (unknownClass n) (map (bankAt t) (indices 0 banks))
   pub sum : b + left ≡ banks
 
 module _ (t : List ℕ) (banks n : ℕ) where
@@ -101,7 +101,7 @@ module _ (t : List ℕ) (banks n : ℕ) where
   search-start = record { same = refl; sum = omega arith }
 
   module _ (b left : ℕ) (h : Searched t banks n b left) where
-    pub search-found : (x : Bool) → 0 < left → x ≡ unknownClass n (bankAt t b) → x ≡ true → true ≡ any (unknownClass n) (map (bankAt t) (indices 0 banks))
+    pub search-found : (x : Bool) → 0 < left → x ≡ unknownClass n (bankAt t b) → x ≡ true → true ≡ anyIn (unknownClass n) (map (bankAt t) (indices 0 banks))
     search-found x l e z = let u : unknownClass n (bankAt t b) ≡ true = sym e ∙ z in rw u at (sym (any-step (unknownClass n) t b left l)) ∙ h .same
 
     pub search-on : (x : Bool) → 0 < left → x ≡ unknownClass n (bankAt t b) → x ≡ false → Searched t banks n (b + 1) (left - 1)
@@ -109,6 +109,6 @@ module _ (t : List ℕ) (banks n : ℕ) where
         let u : unknownClass n (bankAt t b) ≡ false = sym e ∙ z in
         record { same = rw u at (sym (any-step (unknownClass n) t b left l)) ∙ h .same; sum = omega (arith, h .sum) }
 
-    pub search-end : left ≤ 0 → false ≡ any (unknownClass n) (map (bankAt t) (indices 0 banks))
-    unfolding any indices
+    pub search-end : left ≤ 0 → false ≡ anyIn (unknownClass n) (map (bankAt t) (indices 0 banks))
+    unfolding anyIn indices
     search-end z = let e : left ≡ 0 = omega arith in rw e at (h .same)

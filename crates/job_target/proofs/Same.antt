@@ -6,7 +6,7 @@ use mathlib.Core.List.{List, [], _∷_, map}
 use native.Mathlib.Omega.{arith}
 use lib.Dec.{ltb, leb}
 use borrow.Author.Tests.{le-leb, ltb-false, leb-true, leb-false}
-use Rattle.entity.specs.Logic.{pick, and, no, any}
+use Rattle.entity.specs.Logic.{pick, and, no, anyIn}
 use Rattle.entity.proofs.Laws.{or-false, and-true}
 use Rattle.reginfo.specs.RegInfo.{Bank, Reg, RegInfo}
 use Rattle.number.specs.Read.{Read, got, refused, then}
@@ -62,16 +62,16 @@ held-is n x h e = go (ltb x 65535) refl
     go true f = refl
     go false f = let l : 65535 ≤ x = ltb-false x 65535 f in let k : x < n = leb-false n x e in absurd (omega arith)
 
-held-unknown : (n : ℕ) (bs : List Bank) → n ≤ 64 → any (unknownClass n) (map heldBank bs) ≡ any (unknownClass n) bs
-unfolding any heldBank
+held-unknown : (n : ℕ) (bs : List Bank) → n ≤ 64 → anyIn (unknownClass n) (map heldBank bs) ≡ anyIn (unknownClass n) bs
+unfolding anyIn heldBank
 held-unknown n [] h = refl
 held-unknown n (b ∷ bs) h = rw (held-leb n (b .top) h, held-leb n (b .stack) h, held-unknown n bs h)
 
-held-same : (n : ℕ) (bs : List Bank) → n ≤ 64 → any (unknownClass n) bs ≡ false → map heldBank bs ≡ bs
-unfolding any heldBank
+held-same : (n : ℕ) (bs : List Bank) → n ≤ 64 → anyIn (unknownClass n) bs ≡ false → map heldBank bs ≡ bs
+unfolding anyIn heldBank
 held-same n [] h e = refl
 held-same n (b ∷ bs) h e =
-    let w = or-false (unknownClass n b) (any (unknownClass n) bs) e in
+    let w = or-false (unknownClass n b) (anyIn (unknownClass n) bs) e in
     let v = or-false (leb n (b .top)) (leb n (b .stack)) (w .0) in
     rw (held-is n (b .top) h (v .0), held-is n (b .stack) h (v .1), held-same n bs h (w .1))
 
@@ -83,15 +83,15 @@ classes-same units n bs m regs l = go (number l)
     end : List Bank → ℕ → List ℕ → Read RegInfo
     end banks c j = then (classes c n m 0 j) (λ cs i. got (record { units = units; banks = banks; regs = regs; classes = cs }) i)
 
-    pass : (c : ℕ) (r : List ℕ) (a : Bool) → c ≤ 64 → any (unknownClass c) bs ≡ a → then (pick (no a) (got c r) (refused 2)) (end (map heldBank bs)) ≡ then (pick (no a) (got c r) (refused 2)) (end bs)
+    pass : (c : ℕ) (r : List ℕ) (a : Bool) → c ≤ 64 → anyIn (unknownClass c) bs ≡ a → then (pick (no a) (got c r) (refused 2)) (end (map heldBank bs)) ≡ then (pick (no a) (got c r) (refused 2)) (end bs)
     pass c r true h e = refl
     pass c r false h e = rw (held-same c bs h e)
 
-    count : (c : ℕ) (r : List ℕ) (b : Bool) → and (leb 1 c) (leb c 64) ≡ b → then (pick (and b (no (any (unknownClass c) (map heldBank bs)))) (got c r) (refused 2)) (end (map heldBank bs)) ≡ then (pick (and b (no (any (unknownClass c) bs))) (got c r) (refused 2)) (end bs)
-    count c r true e = let h : c ≤ 64 = leb-true c 64 (and-true (leb 1 c) (leb c 64) e .1) in rw (held-unknown c bs h) (pass c r (any (unknownClass c) bs) h refl)
+    count : (c : ℕ) (r : List ℕ) (b : Bool) → and (leb 1 c) (leb c 64) ≡ b → then (pick (and b (no (anyIn (unknownClass c) (map heldBank bs)))) (got c r) (refused 2)) (end (map heldBank bs)) ≡ then (pick (and b (no (anyIn (unknownClass c) bs))) (got c r) (refused 2)) (end bs)
+    count c r true e = let h : c ≤ 64 = leb-true c 64 (and-true (leb 1 c) (leb c 64) e .1) in rw (held-unknown c bs h) (pass c r (anyIn (unknownClass c) bs) h refl)
     count c r false e = refl
 
-    go : (x : Read ℕ) → then (then x (λ c r. pick (and (and (leb 1 c) (leb c 64)) (no (any (unknownClass c) (map heldBank bs)))) (got c r) (refused 2))) (end (map heldBank bs)) ≡ then (then x (λ c r. pick (and (and (leb 1 c) (leb c 64)) (no (any (unknownClass c) bs))) (got c r) (refused 2))) (end bs)
+    go : (x : Read ℕ) → then (then x (λ c r. pick (and (and (leb 1 c) (leb c 64)) (no (anyIn (unknownClass c) (map heldBank bs)))) (got c r) (refused 2))) (end (map heldBank bs)) ≡ then (then x (λ c r. pick (and (and (leb 1 c) (leb c 64)) (no (anyIn (unknownClass c) bs))) (got c r) (refused 2))) (end bs)
     go (got c r) = count c r (and (leb 1 c) (leb c 64)) refl
     go (refused k) = refl
 

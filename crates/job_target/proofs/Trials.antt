@@ -1,13 +1,13 @@
 -- The trials of targets, computed.
 use mathlib.Core.Path.{refl}
-use Rattle.entity.specs.Logic.{any, has}
+use Rattle.entity.specs.Logic.{anyIn, has}
 use Rattle.number.specs.Number.{groups, number}
 use Rattle.reading.specs.Reading.{tested, times, distinct}
 use Rattle.job_target.specs.Target.{bank, reg, class, classes, target}
 use Rattle.job_target.specs.Trials.{Trials}
 
 pub trials : Trials
-unfolding any has groups number tested times distinct bank reg class classes target
+unfolding anyIn has groups number tested times distinct bank reg class classes target
 trials = record {
   swap-full = refl;
   nothing = refl;

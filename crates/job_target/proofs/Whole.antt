@@ -6,7 +6,7 @@ use mathlib.Core.List.{List, map}
 use native.Mathlib.Omega.{arith}
 use lib.Dec.{leb}
 use lib.ListN.{getD, drop}
-use Rattle.entity.specs.Logic.{pick, and, no, any, indices, cells}
+use Rattle.entity.specs.Logic.{pick, and, no, anyIn, indices, cells}
 use Rattle.reginfo.specs.RegInfo.{Bank, Reg, Class, RegInfo}
 use Rattle.reginfo.specs.Table.{bankAt, regAt, classAt, regInfoOf}
 use Rattle.number.specs.Read.{Read, got, refused, then}
@@ -45,19 +45,19 @@ same-regs t u n few short h = same-rows (regAt t) (regAt u) n one
 
 -- ---- the class count
 abbrev counted : List Bank → ℕ → Bool
-counted banks c = and (and (leb 1 c) (leb c 64)) (no (any (unknownClass c) banks))
+counted banks c = and (and (leb 1 c) (leb c 64)) (no (anyIn (unknownClass c) banks))
 
 module _ (banks : List Bank) (s : List ℕ) (at : ℕ) where
-  both : tested (counted banks) (drop at s) ≡ then (between 1 64 (drop at s)) (λ c r. pick (no (any (unknownClass c) banks)) (got c r) (refused 2))
-  both = tested-both (λ c. and (leb 1 c) (leb c 64)) (λ c. no (any (unknownClass c) banks)) (drop at s)
+  both : tested (counted banks) (drop at s) ≡ then (between 1 64 (drop at s)) (λ c r. pick (no (anyIn (unknownClass c) banks)) (got c r) (refused 2))
+  both = tested-both (λ c. and (leb 1 c) (leb c 64)) (λ c. no (anyIn (unknownClass c) banks)) (drop at s)
 
   count-refused : (k : ℕ) → ReadAt (between 1 64) s at (Refused k) → ReadAt (tested (counted banks)) s at (Refused k)
   count-refused k h = record { reads = rw (both, ← h .reads); onward = tt }
 
-  count-unknown : (n a : ℕ) → ReadAt (between 1 64) s at (Is n a) → any (unknownClass n) banks ≡ true → ReadAt (tested (counted banks)) s at (Refused 2)
+  count-unknown : (n a : ℕ) → ReadAt (between 1 64) s at (Is n a) → anyIn (unknownClass n) banks ≡ true → ReadAt (tested (counted banks)) s at (Refused 2)
   count-unknown n a h e = record { reads = rw (both, ← h .reads, e); onward = tt }
 
-  count-known : (n a : ℕ) → ReadAt (between 1 64) s at (Is n a) → any (unknownClass n) banks ≡ false → ReadAt (tested (counted banks)) s at (Is n a)
+  count-known : (n a : ℕ) → ReadAt (between 1 64) s at (Is n a) → anyIn (unknownClass n) banks ≡ false → ReadAt (tested (counted banks)) s at (Is n a)
   count-known n a h e = record { reads = rw (both, ← h .reads, e); onward = h .onward }
 
 -- ---- the classes
@@ -69,11 +69,11 @@ module _ (units n : ℕ) (banks : List Bank) (m : ℕ) (regs : List Reg) (s : Li
   unfolding withClasses
   no-classes x kept k h = number-refused (tested (counted banks)) (classesOf units n banks m regs) s at x kept k (count-refused banks s at k h)
 
-  pub unknown-classes : (x : RegInfo) (kept : Type 0) (c a : ℕ) (b : Bool) → ReadAt (between 1 64) s at (Is c a) → b ≡ any (unknownClass c) banks → b ≡ true → NextAt (withClasses units n banks m regs) s at x kept (X.the-variants.Refused 2)
+  pub unknown-classes : (x : RegInfo) (kept : Type 0) (c a : ℕ) (b : Bool) → ReadAt (between 1 64) s at (Is c a) → b ≡ anyIn (unknownClass c) banks → b ≡ true → NextAt (withClasses units n banks m regs) s at x kept (X.the-variants.Refused 2)
   unfolding withClasses
   unknown-classes x kept c a b h e z = number-refused (tested (counted banks)) (classesOf units n banks m regs) s at x kept 2 (count-unknown banks s at c a h (sym e ∙ z))
 
-  known-classes : (x : RegInfo) (kept : Type 0) (c a : ℕ) (b : Bool) (r : X.Next) → ReadAt (between 1 64) s at (Is c a) → b ≡ any (unknownClass c) banks → b ≡ false → NextAt (classesOf units n banks m regs c) s a x kept r → NextAt (withClasses units n banks m regs) s at x kept r
+  known-classes : (x : RegInfo) (kept : Type 0) (c a : ℕ) (b : Bool) (r : X.Next) → ReadAt (between 1 64) s at (Is c a) → b ≡ anyIn (unknownClass c) banks → b ≡ false → NextAt (classesOf units n banks m regs c) s a x kept r → NextAt (withClasses units n banks m regs) s at x kept r
   unfolding withClasses
   known-classes x kept c a b r h e z g = number-then (tested (counted banks)) (classesOf units n banks m regs) s at x kept c a r (count-known banks s at c a h (sym e ∙ z)) g
 
@@ -90,7 +90,7 @@ module _ (t u v : List ℕ) (n m c : ℕ) (banks : getD t 8737 0 ≡ n) (regs : 
       let g : map (regAt v) (indices 0 m) ≡ map (regAt t) (indices 0 m) = same-regs t v m few short (λ j x. k .heads j (omega arith) ∙ put .other j (λ e. omega arith)) in
       rw (a, b, d, e, f, g)
 
-  pub classes-read : (s : List ℕ) (at a : ℕ) (b : Bool) (r : X.Next) → ReadAt (between 1 64) s at (Is c a) → b ≡ any (unknownClass c) (map (bankAt t) (indices 0 n)) → b ≡ false
+  pub classes-read : (s : List ℕ) (at a : ℕ) (b : Bool) (r : X.Next) → ReadAt (between 1 64) s at (Is c a) → b ≡ anyIn (unknownClass c) (map (bankAt t) (indices 0 n)) → b ≡ false
       → NextAt (classes c n m 0) s a (map (classAt v) (indices 0 c)) (Earlier u v 0) r → NextAt (withClasses (getD t 8736 0) n (map (bankAt t) (indices 0 n)) m (map (regAt t) (indices 0 m))) s at (regInfoOf v) Unit r
   classes-read s at a b r h e z g =
       known-classes (getD t 8736 0) n (map (bankAt t) (indices 0 n)) m (map (regAt t) (indices 0 m)) s at (regInfoOf v) Unit c a b r h e z

@@ -5,7 +5,7 @@ use mathlib.Core.Bool.{Bool, true, false}
 use mathlib.Core.List.{List, []}
 use lib.Dec.{eqb, leb}
 use lib.ListN.{getD}
-use Rattle.entity.specs.Logic.{pick, and, no, any}
+use Rattle.entity.specs.Logic.{pick, and, no, anyIn}
 use Rattle.reginfo.specs.RegInfo.{Bank, Reg, RegInfo}
 use Rattle.reginfo.specs.Table.{classAt}
 use Rattle.number.specs.Read.{Read, got, then}
@@ -28,7 +28,7 @@ withMembers regs total b slots l = then (number l) (λ n p. then (distinct n reg
 -- ---- a target
 unfoldable pub withClasses : ℕ → ℕ → List Bank → ℕ → List Reg → List ℕ → Read RegInfo
 withClasses units n banks m regs l =
-    then (tested (λ c. and (and (leb 1 c) (leb c 64)) (no (any (unknownClass c) banks))) l)
+    then (tested (λ c. and (and (leb 1 c) (leb c 64)) (no (anyIn (unknownClass c) banks))) l)
     (λ c j. then (classes c n m 0 j)
     (λ cs i. got (record { units = units; banks = banks; regs = regs; classes = cs }) i))
 

@@ -3,7 +3,7 @@ use Prim.Native.Nat.{ℕ, zero, suc, _+_}
 use mathlib.Core.Bool.{Bool}
 use mathlib.Core.List.{List, [], _∷_}
 use lib.Dec.{leb}
-use Rattle.entity.specs.Logic.{and, or, no, any}
+use Rattle.entity.specs.Logic.{and, or, no, anyIn}
 use Rattle.reginfo.specs.RegInfo.{Bank, Reg, Class, RegInfo}
 use Rattle.number.specs.Read.{Read, got, then}
 use Rattle.number.specs.Number.{number}
@@ -49,6 +49,6 @@ target l =
     (λ n q. then (times n bank q)
     (λ banks p. then (between 1 512 p)
     (λ m o. then (times m (reg units n) o)
-    (λ regs k. then (tested (λ c. and (and (leb 1 c) (leb c 64)) (no (any (unknownClass c) banks))) k)
+    (λ regs k. then (tested (λ c. and (and (leb 1 c) (leb c 64)) (no (anyIn (unknownClass c) banks))) k)
     (λ c j. then (classes c n m 0 j)
     (λ cs i. got (record { units = units; banks = banks; regs = regs; classes = cs }) i)))))))

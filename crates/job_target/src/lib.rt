@@ -9,7 +9,7 @@ ghost use mathlib.Core.Path.{_≡_};
 ghost use mathlib.Core.List.{[], map};
 ghost use Prim.Native.Nat.{_+_, _*_, _<_, _≤_};
 ghost use lib.ListN.{length, getD};
-ghost use Rattle.entity.specs.Logic.{any, cells, indices};
+ghost use Rattle.entity.specs.Logic.{anyIn, cells, indices};
 ghost use Rattle.reginfo.specs.Table.{bankAt, regAt, classAt, regInfoOf};
 ghost use Rattle.reading.specs.Reading.{times, distinct, fresh};
 ghost use Rattle.reading.specs.Answer.{ReadAt, NextAt};
@@ -308,7 +308,7 @@ fn bank_unknown(t: &RegInfo, b: usize, n: u32) -> bool
 // Whether one of the banks does.
 fn unknown_class(t: &RegInfo, banks: u32, n: u32) -> bool
     requires { ⌜ banks ≤ 8 ⌝ }
-    ensures { λ r. ⌜ r ≡ any (unknownClass n) (map (bankAt (now (t .entry))) (indices 0 banks)) ⌝ }
+    ensures { λ r. ⌜ r ≡ anyIn (unknownClass n) (map (bankAt (now (t .entry))) (indices 0 banks)) ⌝ }
 {
     let mut b: usize = 0;
     let mut left = banks;

@@ -6,7 +6,7 @@ use Rattle.job_rules.specs.Job.{job}
 use Rattle.answer.specs.Room.{mostWords}
 use Rattle.answer.specs.Words.{wordsOf, jobText, AllPacked}
 
--- "the line of an edit has at most 19, each other line at most 36"
+-- the line of an edit has at most 19, each other line at most 36
 abbrev pub mostText : ℕ
 mostText = 19 * (2 * 65536) + 36 * 1025
 

@@ -9,7 +9,7 @@ use native.Mathlib.Omega.{arith}
 use lib.Dec.{eqb}
 use borrow.Author.Tests.{eqb-true}
 use lib.ListN.{length, getD, take, drop}
-use Rattle.entity.specs.Logic.{and, or, no, any, has, indices}
+use Rattle.entity.specs.Logic.{and, or, no, anyIn, has, indices}
 use Rattle.entity.proofs.Laws.{and-true}
 use Rattle.entity.specs.Place.{Place, reg, slot}
 use Rattle.reginfo.specs.RegInfo.{bankForClass, RegInfo, numBanks, numClasses, allocationOrder, classMembers, includesSpillslots, isMemory, lastInOrder, spillslotSize, topLevelClass, stackToStackClass}
@@ -240,7 +240,7 @@ module _ (t : RegInfo) (f : Function) where
         pub lead-paid : (a b : ℕ) (w : ParallelMoves) → Paid t f ms a w → a + 8 ≤ b → All (Paid t f ms b) (lead t f ms i w)
         unfolding lead
         lead-paid a b w p h =
-            branch (All (Paid t f ms b)) (any (λ m. isPending (w .state m)) (writers t f ms i)) _ _
+            branch (All (Paid t f ms b)) (anyIn (λ m. isPending (w .state m)) (writers t f ms i)) _ _
             (λ _. branch (All (Paid t f ms b)) (eqb (w .diverted .refCount (value t f ms i)) 0) _ _
             (λ _. divert-paid (a + 4) b (carried t f ms i w) (carried-paid a w p) (omega arith))
             (λ _. emit-paid (a + 4) b i (w .scratch (value t f ms i)) (carried t f ms i w) (carried-paid a w p) (omega arith)))

@@ -10,7 +10,7 @@ use native.Mathlib.Nat.{add-left-cancel}
 use native.Mathlib.Decide.{decLt}
 use lib.Dec.{T, T-not, eqb→eq, eqb-refl}
 use lib.ListN.{length, getD, take, replicate, length-replicate}
-use Rattle.entity.specs.Logic.{has, any, twice}
+use Rattle.entity.specs.Logic.{has, anyIn, twice}
 use Rattle.entity.specs.Place.{Place, reg, slot, samePlace}
 use Rattle.reginfo.specs.RegInfo.{RegInfo, numClasses, numBanks, regUnits, bankForClass, classMembers, includesSpillslots, lastInOrder, topLevelClass, stackToStackClass, overlap}
 use Rattle.reginfo.specs.Refused as target
@@ -148,10 +148,10 @@ module _ (t : RegInfo) (f : Function) (ta : target.Accepted t) (fa : function.Ac
 
     -- a destination's, free, or an emergency slot
     abbrev isDestUnit : ℕ → Bool
-    isDestUnit u = any (λ d. has u (unitsOfReg t f d)) (destinations a)
+    isDestUnit u = anyIn (λ d. has u (unitsOfReg t f d)) (destinations a)
 
     abbrev isDestSlot : ℕ → Bool
-    isDestSlot s = any (samePlace (slot s)) (destinations a)
+    isDestSlot s = anyIn (samePlace (slot s)) (destinations a)
 
     abbrev May : ℕ → Type 0
     May u = ((u < 512) × (T (isDestUnit u) ⊎ T (has u (p .free)))) ⊎ ((s : ℕ) × (u ≡ 512 + s) × ((f .slots ≤ s) ⊎ T (isDestSlot s)))
@@ -173,7 +173,7 @@ module _ (t : RegInfo) (f : Function) (ta : target.Accepted t) (fa : function.Ac
     em s h = inr (s, refl, inl h)
 
     -- a destination may change
-    dest-may : (d : Place) → ((q : Place → Bool) → q d ≡ true → any q (destinations a) ≡ true) → Within t f targetOk job (covers t f targetOk d)
+    dest-may : (d : Place) → ((q : Place → Bool) → q d ≡ true → anyIn q (destinations a) ≡ true) → Within t f targetOk job (covers t f targetOk d)
     unfolding covers
     dest-may (reg r) pass u h = inl (below r u h, inl (yes-of _ (pass (λ d. has u (unitsOfReg t f d)) (of-yes _ h))))
     dest-may (slot s) pass u h = inr (s, eqb→eq u (512 + s) h, inr (yes-of _ (pass (samePlace (slot s)) (of-yes _ (eqb-refl s)))))
@@ -201,7 +201,7 @@ module _ (t : RegInfo) (f : Function) (ta : target.Accepted t) (fa : function.Ac
     -- the rebuilds from the one at n on
     entry-ok : (d : Bool) (r : Remat) (rest : List Remat) → RematOk t f d r → ((i : ℕ) → i < length ms → overlap t (dest t f ms i) (r .dest) ≡ false)
         → ((q : Place) (x : ℕ) → In rest q x → overlap t (r .dest) q ≡ false) → fits t f (r .dest) (length (content (r .value))) ≡ true
-        → ((q : Place → Bool) → q (r .dest) ≡ true → any q (destinations a) ≡ true) → EntryOk t f targetOk job em ms moves-ok r rest
+        → ((q : Place → Bool) → q (r .dest) ≡ true → anyIn q (destinations a) ≡ true) → EntryOk t f targetOk job em ms moves-ok r rest
     entry-ok d r rest o k x w pass =
         record {
           kept-apart = λ i il. apart-of (dest t f ms i) (r .dest) (disjoint t f (dest t f ms i) (r .dest) (k i il));

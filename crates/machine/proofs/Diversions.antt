@@ -7,7 +7,7 @@ use native.Mathlib.Omega.{arith}
 use lib.Dec.{eqb}
 use lib.ListN.{length}
 use borrow.Author.Tests.{eq-eqb, ne-eqb}
-use Rattle.entity.specs.Logic.{pick, and, or, no, any, has}
+use Rattle.entity.specs.Logic.{pick, and, or, no, anyIn, has}
 use Rattle.reginfo.specs.RegInfo.{RegInfo}
 use Rattle.function.specs.Function.{Function, numValues}
 use Rattle.rules.specs.Edit.{updated}
@@ -95,8 +95,8 @@ module _ (t : RegInfo) (f : Function) (ms : List KeptMove) where
 
   pub carry-grown :
       (v : ℕ) → v < numValues f → (state : ℕ → State) (l : List ℕ) → Every (λ m. m < n) l → (d : Diverted) → Counted t f ms d
-      → Grown v state d (carry v state l d) × (any (λ m. isPending (state m)) l ≡ true → 0 < carry v state l d .refCount v)
-  unfolding carry any
+      → Grown v state d (carry v state l d) × (anyIn (λ m. isPending (state m)) l ≡ true → 0 < carry v state l d .refCount v)
+  unfolding carry anyIn
   carry-grown v vl state [] q d o = (record { counted = o; others = λ x q. refl; more = omega arith; only = λ k h. refl }, λ e. absurd (false≢true e))
   carry-grown v vl state (m ∷ l) q d o =
       let one = carryOne-grown v vl m (q .0) d o state in
@@ -110,9 +110,9 @@ module _ (t : RegInfo) (f : Function) (ms : List KeptMove) where
         go (isPending (state m)) (one .1) (rest .1) (rest .0 .more),
       )
     where
-      go : (a : Bool) → (a ≡ true → 0 < carryOne v state m d .refCount v) → (any (λ m. isPending (state m)) l ≡ true → 0 < carry v state l (carryOne v state m d) .refCount v)
+      go : (a : Bool) → (a ≡ true → 0 < carryOne v state m d .refCount v) → (anyIn (λ m. isPending (state m)) l ≡ true → 0 < carry v state l (carryOne v state m d) .refCount v)
           → carryOne v state m d .refCount v ≤ carry v state l (carryOne v state m d) .refCount v
-          → or a (any (λ m. isPending (state m)) l) ≡ true → 0 < carry v state l (carryOne v state m d) .refCount v
+          → or a (anyIn (λ m. isPending (state m)) l) ≡ true → 0 < carry v state l (carryOne v state m d) .refCount v
       go true x y z e = omega (arith, x refl)
       go false x y z e = y e
 

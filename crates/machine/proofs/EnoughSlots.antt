@@ -8,7 +8,7 @@ use mathlib.Core.Logic.{_⊎_, inl, inr, ⊎-elim}
 use native.Mathlib.Omega.{arith}
 use lib.Dec.{eqb}
 use borrow.Author.Tests.{ne-eqb, eqb-true, le-leb}
-use Rattle.entity.specs.Logic.{or, any, indices}
+use Rattle.entity.specs.Logic.{or, anyIn, indices}
 use Rattle.reginfo.specs.RegInfo.{RegInfo, numBanks, spillslotSize}
 use Rattle.reginfo.specs.Refused as target
 use Rattle.reginfo.proofs.Accepted.{banks-fit, size-fits}
@@ -39,17 +39,17 @@ use Rattle.machine.proofs.OwnSize.{any-index, Names, Fair, Ended}
 use Rattle.machine.proofs.SizeWalk.{run-ended}
 
 -- a number that passes the test
-any-found : (p : ℕ → Bool) (i n : ℕ) → any p (indices i n) ≡ true → (k : ℕ) × (i ≤ k) × (k < i + n) × (p k ≡ true)
-unfolding any indices
+any-found : (p : ℕ → Bool) (i n : ℕ) → anyIn p (indices i n) ≡ true → (k : ℕ) × (i ≤ k) × (k < i + n) × (p k ≡ true)
+unfolding anyIn indices
 any-found p i zero h = absurd (false≢true h)
 any-found p i (suc n) h = go (p i) refl h (any-found p (i + 1) n)
   where
-    go : (b : Bool) → p i ≡ b → or b (any p (indices (i + 1) n)) ≡ true → (any p (indices (i + 1) n) ≡ true → (k : ℕ) × (i + 1 ≤ k) × (k < i + 1 + n) × (p k ≡ true))
+    go : (b : Bool) → p i ≡ b → or b (anyIn p (indices (i + 1) n)) ≡ true → (anyIn p (indices (i + 1) n) ≡ true → (k : ℕ) × (i + 1 ≤ k) × (k < i + 1 + n) × (p k ≡ true))
         → (k : ℕ) × (i ≤ k) × (k < i + suc n) × (p k ≡ true)
     go true e h r = (i, omega arith, omega arith, e)
     go false e h r = let q = r h in (q .0, omega (arith, q .1), omega (arith, q .2), q .3)
 
-any-some : (p : ℕ → Bool) (n : ℕ) → any p (indices 0 n) ≡ true → (k : ℕ) × (k < n) × (p k ≡ true)
+any-some : (p : ℕ → Bool) (n : ℕ) → anyIn p (indices 0 n) ≡ true → (k : ℕ) × (k < n) × (p k ≡ true)
 any-some p n h = let q = any-found p 0 n h in (q .0, omega (arith, q .2), q .3)
 
 sum-from : (g : ℕ → ℕ) (a n : ℕ) → sum (λ k. g (a + k)) n ≤ sum g (a + n)
@@ -70,17 +70,17 @@ in-either [] m x h = inr h
 in-either (y ∷ l) m x (List·Memᴰ·head e) = inl (List·Memᴰ·head e)
 in-either (y ∷ l) m x (List·Memᴰ·tail h) = ⊎-elim (λ q. inl (List·Memᴰ·tail q)) (λ q. inr q) (in-either l m x h)
 
-any-left : {A : Type 0} (p : A → Bool) (l m : List A) → any p l ≡ true → any p (l ++ m) ≡ true
-unfolding any
+any-left : {A : Type 0} (p : A → Bool) (l m : List A) → anyIn p l ≡ true → anyIn p (l ++ m) ≡ true
+unfolding anyIn
 any-left p [] m h = absurd (false≢true h)
 any-left p (x ∷ l) m h = go (p x) h (any-left p l m)
   where
-    go : (b : Bool) → or b (any p l) ≡ true → (any p l ≡ true → any p (l ++ m) ≡ true) → or b (any p (l ++ m)) ≡ true
+    go : (b : Bool) → or b (anyIn p l) ≡ true → (anyIn p l ≡ true → anyIn p (l ++ m) ≡ true) → or b (anyIn p (l ++ m)) ≡ true
     go true h r = refl
     go false h r = r h
 
-any-right : {A : Type 0} (p : A → Bool) (l m : List A) → any p m ≡ true → any p (l ++ m) ≡ true
-unfolding any
+any-right : {A : Type 0} (p : A → Bool) (l m : List A) → anyIn p m ≡ true → anyIn p (l ++ m) ≡ true
+unfolding anyIn
 any-right p [] m h = h
 any-right p (x ∷ l) m h = rw (any-right p l m h) (or-true (p x))
 
@@ -209,7 +209,7 @@ module _ (t : RegInfo) (f : Function) (at : target.Accepted t) (af : function.Ac
                 (every-in (Names t f (stacked (r .allocator .cache))) (r .allocator .edits) x (d .1 .fair .lies) (subst (List·Memᴰ x) (r .edits) m) s low h));
             named = λ s lo hi.
                 let k : s < f .slots + r .allocator .cache .made = subst (λ (y : Cache). s < f .slots + y .made) (r .cache) hi in
-                subst (λ (y : List Edit). any (namesSlot t f s) y ≡ true) (sym (r .edits)) (⊎-elim (λ w. w) (λ w. absurd w) (d .1 .named s lo k));
+                subst (λ (y : List Edit). anyIn (namesSlot t f s) y ≡ true) (sym (r .edits)) (⊎-elim (λ w. w) (λ w. absurd w) (d .1 .named s lo k));
           },
         )
 

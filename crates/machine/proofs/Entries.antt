@@ -8,7 +8,7 @@ use native.Mathlib.Omega.{arith}
 use lib.Dec.{eqb, eqb-refl}
 use lib.ListN.{length, getD}
 use borrow.Author.Tests.{eqb-true}
-use Rattle.entity.specs.Logic.{pick, and, or, no, any}
+use Rattle.entity.specs.Logic.{pick, and, or, no, anyIn}
 use Rattle.entity.specs.Place.{Place, reg, slot, samePlace}
 use Rattle.reginfo.specs.RegInfo.{RegInfo}
 use Rattle.function.specs.Function.{Function}
@@ -72,60 +72,60 @@ itself : (p : Place) → samePlace p p ≡ true
 itself (reg a) = of-yes _ (eqb-refl a)
 itself (slot a) = of-yes _ (eqb-refl a)
 
-any-end : {A : Type 0} (p : A → Bool) (l : List A) (x : A) → any p (l ++ (x ∷ [])) ≡ or (any p l) (p x)
-unfolding any
+any-end : {A : Type 0} (p : A → Bool) (l : List A) (x : A) → anyIn p (l ++ (x ∷ [])) ≡ or (anyIn p l) (p x)
+unfolding anyIn
 any-end p [] x = or-false (p x)
-any-end p (y ∷ l) x = ap (or (p y)) (any-end p l x) ∙ or-assoc (p y) (any p l) (p x)
+any-end p (y ∷ l) x = ap (or (p y)) (any-end p l x) ∙ or-assoc (p y) (anyIn p l) (p x)
 
-any-join : {A B : Type 0} (p : B → Bool) (g : A → B) (l : List A) (m : List B) → any p (map g l ++ m) ≡ or (any (λ x. p (g x)) l) (any p m)
-unfolding any
+any-join : {A B : Type 0} (p : B → Bool) (g : A → B) (l : List A) (m : List B) → anyIn p (map g l ++ m) ≡ or (anyIn (λ x. p (g x)) l) (anyIn p m)
+unfolding anyIn
 any-join p g [] m = refl
-any-join p g (x ∷ l) m = ap (or (p (g x))) (any-join p g l m) ∙ or-assoc (p (g x)) (any (λ x. p (g x)) l) (any p m)
+any-join p g (x ∷ l) m = ap (or (p (g x))) (any-join p g l m) ∙ or-assoc (p (g x)) (anyIn (λ x. p (g x)) l) (anyIn p m)
 
-any-map : {A B : Type 0} (p : B → Bool) (g : A → B) (l : List A) → any p (map g l) ≡ any (λ x. p (g x)) l
-unfolding any
+any-map : {A B : Type 0} (p : B → Bool) (g : A → B) (l : List A) → anyIn p (map g l) ≡ anyIn (λ x. p (g x)) l
+unfolding anyIn
 any-map p g [] = refl
 any-map p g (x ∷ l) = ap (or (p (g x))) (any-map p g l)
 
-any-in : {A : Type 0} (p : A → Bool) (l : List A) (x : A) → List·Memᴰ x l → p x ≡ true → any p l ≡ true
-unfolding any
+any-in : {A : Type 0} (p : A → Bool) (l : List A) (x : A) → List·Memᴰ x l → p x ≡ true → anyIn p l ≡ true
+unfolding anyIn
 any-in p (y ∷ l) x (List·Memᴰ·head e) h = rw (← e, h)
 any-in p (y ∷ l) x (List·Memᴰ·tail m) h = rw (any-in p l x m h) (or-true (p y))
 
-any-where : {A : Type 0} (p : A → Bool) (l : List A) (d : A) → any p l ≡ true → (i : ℕ) × (i < length l) × (p (getD l i d) ≡ true)
-unfolding any
+any-where : {A : Type 0} (p : A → Bool) (l : List A) (d : A) → anyIn p l ≡ true → (i : ℕ) × (i < length l) × (p (getD l i d) ≡ true)
+unfolding anyIn
 any-where p [] d h = absurd (false≢true h)
 any-where {A} p (y ∷ l) d h = go (any-where p l d) (p y) refl h
   where
-    go : (any p l ≡ true → (i : ℕ) × (i < length l) × (p (getD l i d) ≡ true)) → (b : Bool) → p y ≡ b → or b (any p l) ≡ true → (i : ℕ) × (i < length (y ∷ l)) × (p (getD (y ∷ l) i d) ≡ true)
+    go : (anyIn p l ≡ true → (i : ℕ) × (i < length l) × (p (getD l i d) ≡ true)) → (b : Bool) → p y ≡ b → or b (anyIn p l) ≡ true → (i : ℕ) × (i < length (y ∷ l)) × (p (getD (y ∷ l) i d) ≡ true)
     go later true e h = (0, omega arith, e)
     go later false e h = let w = later h in (suc (w .0), omega (arith, w .1), w .2)
 
 module _ (t : RegInfo) (f : Function) (q : Place → ℕ → Bool) where
   -- a kept move or a rebuild passes, by its destination and value
   abbrev pub ends : Sorted → Bool
-  ends a = or (any (λ (m : KeptMove). q (m .dest) (m .value)) (a .moves)) (or (any (λ (r : Remat). q (r .dest) (r .value)) (a .remats)) (any (λ (r : Remat). q (r .dest) (r .value)) (a .rematsWithScratch)))
+  ends a = or (anyIn (λ (m : KeptMove). q (m .dest) (m .value)) (a .moves)) (or (anyIn (λ (r : Remat). q (r .dest) (r .value)) (a .remats)) (anyIn (λ (r : Remat). q (r .dest) (r .value)) (a .rematsWithScratch)))
 
   ends-remat : (b : Bool) (d : Place) (v : ℕ) (a : Sorted) → ends (addRemat t f b d v a) ≡ or (ends a) (q d v)
-  ends-remat true d v a = rw any-end (last (any _ (a .moves)) (any _ (a .remats)) (any _ (a .rematsWithScratch)) (q d v))
-  ends-remat false d v a = rw any-end (middle (any _ (a .moves)) (any _ (a .remats)) (any _ (a .rematsWithScratch)) (q d v))
+  ends-remat true d v a = rw any-end (last (anyIn _ (a .moves)) (anyIn _ (a .remats)) (anyIn _ (a .rematsWithScratch)) (q d v))
+  ends-remat false d v a = rw any-end (middle (anyIn _ (a .moves)) (anyIn _ (a .remats)) (anyIn _ (a .rematsWithScratch)) (q d v))
 
   -- a dropped move is one that is kept, in destination and value
-  passes : (s d : Place) (v : ℕ) (l : List KeptMove) → any (sameMove t f s d v) l ≡ true → q d v ≡ true → any (λ (m : KeptMove). q (m .dest) (m .value)) l ≡ true
-  unfolding any
+  passes : (s d : Place) (v : ℕ) (l : List KeptMove) → anyIn (sameMove t f s d v) l ≡ true → q d v ≡ true → anyIn (λ (m : KeptMove). q (m .dest) (m .value)) l ≡ true
+  unfolding anyIn
   passes s d v [] h e = absurd (false≢true h)
   passes s d v (m ∷ l) h e = go (λ x. passes s d v l x e) (sameMove t f s d v m) refl h
     where
-      go : (any (sameMove t f s d v) l ≡ true → any (λ (m : KeptMove). q (m .dest) (m .value)) l ≡ true) → (b : Bool) → sameMove t f s d v m ≡ b → or b (any (sameMove t f s d v) l) ≡ true → or (q (m .dest) (m .value)) (any (λ (m : KeptMove). q (m .dest) (m .value)) l) ≡ true
+      go : (anyIn (sameMove t f s d v) l ≡ true → anyIn (λ (m : KeptMove). q (m .dest) (m .value)) l ≡ true) → (b : Bool) → sameMove t f s d v m ≡ b → or b (anyIn (sameMove t f s d v) l) ≡ true → or (q (m .dest) (m .value)) (anyIn (λ (m : KeptMove). q (m .dest) (m .value)) l) ≡ true
       go later true w h =
           let x = and-parts (samePlace (m .source) s) _ w .1 in
           let y = and-parts (samePlace (m .dest) d) (eqb (m .value) v) x in
           rw (same-place (m .dest) d (y .0), eqb-true (m .value) v (y .1), e)
       go later false w h = rw (later h) (or-true (q (m .dest) (m .value)))
 
-  ends-kept : (b : Bool) (s d : Place) (v : ℕ) (a : Sorted) → (b ≡ true → any (sameMove t f s d v) (a .moves) ≡ true) → ends (addKept t f b s d v a) ≡ or (ends a) (q d v)
+  ends-kept : (b : Bool) (s d : Place) (v : ℕ) (a : Sorted) → (b ≡ true → anyIn (sameMove t f s d v) (a .moves) ≡ true) → ends (addKept t f b s d v a) ≡ or (ends a) (q d v)
   ends-kept true s d v a h = or-both (ends a) (q d v) (λ e. rw (passes s d v (a .moves) (h refl) e))
-  ends-kept false s d v a h = rw any-end (across (any _ (a .moves)) (any _ (a .remats)) (any _ (a .rematsWithScratch)) (q d v))
+  ends-kept false s d v a h = rw any-end (across (anyIn _ (a .moves)) (anyIn _ (a .remats)) (anyIn _ (a .rematsWithScratch)) (q d v))
 
   ends-add : (e : Entry) (a : Sorted) → ends (add t f e a) ≡ or (ends a) (q (entryDest e) (entryValue e))
   unfolding add
@@ -134,15 +134,15 @@ module _ (t : RegInfo) (f : Function) (q : Place → ℕ → Bool) where
     where
       go : (b : Bool) → becomesRemat t f s d v ≡ b → ends (pick b (addRemat t f (needsScratch t f d v) d v a) (addKept t f (dropped t f a s d v) s d v a)) ≡ or (ends a) (q d v)
       go true e = ends-remat (needsScratch t f d v) d v a
-      go false e = ends-kept (dropped t f a s d v) s d v a (λ h. and-parts (no (becomesRemat t f s d v)) (any (sameMove t f s d v) (a .moves)) h .1)
+      go false e = ends-kept (dropped t f a s d v) s d v a (λ h. and-parts (no (becomesRemat t f s d v)) (anyIn (sameMove t f s d v) (a .moves)) h .1)
 
-  ends-from : (l : List Entry) (a : Sorted) → ends (sortedFrom t f l a) ≡ or (ends a) (any (λ e. q (entryDest e) (entryValue e)) l)
-  unfolding any sortedFrom
+  ends-from : (l : List Entry) (a : Sorted) → ends (sortedFrom t f l a) ≡ or (ends a) (anyIn (λ e. q (entryDest e) (entryValue e)) l)
+  unfolding anyIn sortedFrom
   ends-from [] a = sym (or-false (ends a))
-  ends-from (e ∷ l) a = ends-from l (add t f e a) ∙ ap (λ (b : Bool). or b (any (λ e. q (entryDest e) (entryValue e)) l)) (ends-add e a) ∙ sym (or-assoc (ends a) (q (entryDest e) (entryValue e)) _)
+  ends-from (e ∷ l) a = ends-from l (add t f e a) ∙ ap (λ (b : Bool). or b (anyIn (λ e. q (entryDest e) (entryValue e)) l)) (ends-add e a) ∙ sym (or-assoc (ends a) (q (entryDest e) (entryValue e)) _)
 
-  pub ends-are : (p : Patch) → ends (sorted t f p) ≡ any (λ e. q (entryDest e) (entryValue e)) (p .entries)
-  unfolding any
+  pub ends-are : (p : Patch) → ends (sorted t f p) ≡ anyIn (λ e. q (entryDest e) (entryValue e)) (p .entries)
+  unfolding anyIn
   ends-are p = ends-from (p .entries) _
 
 module _ (t : RegInfo) (f : Function) (p : Patch) where
@@ -157,13 +157,13 @@ module _ (t : RegInfo) (f : Function) (p : Patch) where
       ⊎ (At (sorted t f p .remats) (entryDest e) (entryValue e) ⊎ At (sorted t f p .rematsWithScratch) (entryDest e) (entryValue e))
 
   -- the destinations of what the entries became are those of the entries
-  pub dests-are : (q : Place → Bool) → any q (destinations (sorted t f p)) ≡ any (λ e. q (entryDest e)) (p .entries)
+  pub dests-are : (q : Place → Bool) → anyIn q (destinations (sorted t f p)) ≡ anyIn (λ e. q (entryDest e)) (p .entries)
   unfolding destinations
   dests-are q = rw (any-join, any-join, any-map) (ends-are t f (λ d v. q d) p)
 
   -- each entry's destination and value are those of a kept move or of a rebuild
   pub entry-ends : (e : Entry) → List·Memᴰ e (p .entries) → Became e
-  entry-ends e m = go (any _ (sorted t f p .moves)) (any _ (sorted t f p .remats)) (any _ (sorted t f p .rematsWithScratch)) refl refl refl passed
+  entry-ends e m = go (anyIn _ (sorted t f p .moves)) (anyIn _ (sorted t f p .remats)) (anyIn _ (sorted t f p .rematsWithScratch)) refl refl refl passed
     where
       is : Place → ℕ → Bool
       is d v = and (samePlace (entryDest e) d) (eqb (entryValue e) v)
@@ -174,7 +174,7 @@ module _ (t : RegInfo) (f : Function) (p : Patch) where
       told : (d : Place) (v : ℕ) → is d v ≡ true → (entryDest e ≡ d) × (entryValue e ≡ v)
       told d v h = let y = and-parts (samePlace (entryDest e) d) _ h in (same-place (entryDest e) d (y .0), eqb-true (entryValue e) v (y .1))
 
-      go : (a b c : Bool) → any (λ (m : KeptMove). is (m .dest) (m .value)) (sorted t f p .moves) ≡ a → any (λ (r : Remat). is (r .dest) (r .value)) (sorted t f p .remats) ≡ b → any (λ (r : Remat). is (r .dest) (r .value)) (sorted t f p .rematsWithScratch) ≡ c → or a (or b c) ≡ true → Became e
+      go : (a b c : Bool) → anyIn (λ (m : KeptMove). is (m .dest) (m .value)) (sorted t f p .moves) ≡ a → anyIn (λ (r : Remat). is (r .dest) (r .value)) (sorted t f p .remats) ≡ b → anyIn (λ (r : Remat). is (r .dest) (r .value)) (sorted t f p .rematsWithScratch) ≡ c → or a (or b c) ≡ true → Became e
       go true b c x y z h = let w = any-where _ (sorted t f p .moves) noMove x in let r = told _ _ (w .2) in inl (w .0, w .1, r .0, r .1)
       go false true c x y z h = let w = any-where _ (sorted t f p .remats) noRemat y in let r = told _ _ (w .2) in inr (inl (w .0, w .1, r .0, r .1))
       go false false true x y z h = let w = any-where _ (sorted t f p .rematsWithScratch) noRemat z in let r = told _ _ (w .2) in inr (inr (w .0, w .1, r .0, r .1))

@@ -7,7 +7,7 @@ use mathlib.Core.List.{List, [], _∷_, map}
 use mathlib.Core.Option.{Option, none, some}
 use native.Mathlib.Omega.{arith}
 use lib.ListN.{length, getD, take}
-use Rattle.entity.specs.Logic.{any, all, has, meets, lastOr, indices}
+use Rattle.entity.specs.Logic.{anyIn, allIn, has, meets, lastOr, indices}
 use Rattle.entity.specs.Place.{reg, slot}
 use Rattle.reginfo.specs.RegInfo.{RegInfo, spillslotSize, topLevelClass, stackToStackClass, regMemory, bankForReg, regUnits, bankForClass, classSlots, classMembers, allocationOrder, isMemoryReg}
 use Rattle.reginfo.specs.Refused.{firstOf}
@@ -38,7 +38,7 @@ swap-fits = refl
 
 -- asked for, then taken
 swap-accepted : Accepted three (plain 0 1) (patch [] swap) swapEdits
-unfolding any all has meets lastOr indices spillslotSize topLevelClass stackToStackClass regMemory bankForReg regUnits bankForClass classSlots classMembers allocationOrder firstOf valueBank rematCost rematClass updated andThen each find firstAt filter acquireFrom unevict unevictBut unevictForReg makeRoom slotScratch evictLast reuse orScratch getScratchReg moveEdits doMove carryOne carry remats rematWithScratch writerFrom writersOf writers cycleMoveSources divert lead undivert undivertAll close visit visitUnlessMemory start moves destinations add entryConditions patchConditions run resolveSorted resolveFrom resolve three standing askedAfter takeAnswer
+unfolding anyIn allIn has meets lastOr indices spillslotSize topLevelClass stackToStackClass regMemory bankForReg regUnits bankForClass classSlots classMembers allocationOrder firstOf valueBank rematCost rematClass updated andThen each find firstAt filter acquireFrom unevict unevictBut unevictForReg makeRoom slotScratch evictLast reuse orScratch getScratchReg moveEdits doMove carryOne carry remats rematWithScratch writerFrom writersOf writers cycleMoveSources divert lead undivert undivertAll close visit visitUnlessMemory start moves destinations add entryConditions patchConditions run resolveSorted resolveFrom resolve three standing askedAfter takeAnswer
 swap-accepted = demand-3 three (plain 0 1) (told-apart .targets .0) swap-fits (asking (patch [] swap) 16 ∷ taking 0 ∷ []) .1 .0
 
 slot-fits : function.Accepted three (plain 2 1)
@@ -47,7 +47,7 @@ slot-fits = refl
 
 -- a list of no length is too short
 too-short : cacheAfter emptyCache (resolve three (plain 2 1) slotToSlot 0 emptyCache) ≡ emptyCache
-unfolding three any all has meets regMemory regUnits classMembers valueBank rematCost rematClass bankForReg firstOf destinations add entryConditions patchConditions resolveSorted resolveFrom resolve
+unfolding three anyIn allIn has meets regMemory regUnits classMembers valueBank rematCost rematClass bankForReg firstOf destinations add entryConditions patchConditions resolveSorted resolveFrom resolve
 too-short = refl
 
 -- the second of two calls, after one that is refused
@@ -76,7 +76,7 @@ abbrev both : List KeptMove
 both = record { source = reg 0; dest = reg 1; value = 0 } ∷ record { source = reg 1; dest = reg 0; value = 1 } ∷ []
 
 both-kept : sorted three (plain 0 1) (patch [] swap) .moves ≡ both
-unfolding three any has regMemory classMembers rematCost rematClass sortedFrom add
+unfolding three anyIn has regMemory classMembers rematCost rematClass sortedFrom add
 both-kept = refl
 
 -- two kept moves whose sources hold their values' contents
@@ -97,7 +97,7 @@ abbrev one : List KeptMove
 one = record { source = slot 0; dest = slot 1; value = 0 } ∷ []
 
 one-kept : sorted three (plain 2 1) slotToSlot .moves ≡ one
-unfolding three any has regMemory classMembers rematCost rematClass sortedFrom add
+unfolding three anyIn has regMemory classMembers rematCost rematClass sortedFrom add
 one-kept = refl
 
 slot-holds : (start : Memory) (a : ℕ) → inSlot start 0 ≡ a ∷ [] → Holding three (plain 2 1) slotToSlot (words a a) start
@@ -196,7 +196,7 @@ pairs-whole a b c d v r hv hr m e = two v ∙ sym (width r hr m)
     width (suc (suc (suc (suc r)))) h m = absurd (omega arith)
 
 through-kept : sorted arguments (plain 2 2) (patch (4 ∷ []) swap) .moves ≡ both
-unfolding any has regMemory classMembers rematCost rematClass sortedFrom add
+unfolding anyIn has regMemory classMembers rematCost rematClass sortedFrom add
 through-kept = refl
 
 through-holds : (start : Memory) → Holding arguments (plain 2 2) (patch (4 ∷ []) swap) (pairs (start .word 0) (start .word 1) (start .word 2) (start .word 3)) start
@@ -222,7 +222,7 @@ pub through-a-word : ThroughAWord
 through-a-word start a b c d p q x y = rw (← p, ← q, ← x, ← y) (through start)
 
 words-kept : sorted arguments (plain 2 2) wordSwap .moves ≡ record { source = reg 2; dest = reg 3; value = 0 } ∷ record { source = reg 3; dest = reg 2; value = 1 } ∷ []
-unfolding any has regMemory classMembers rematCost rematClass sortedFrom add
+unfolding anyIn has regMemory classMembers rematCost rematClass sortedFrom add
 words-kept = refl
 
 -- the start with two lists written out
@@ -289,7 +289,7 @@ both-whole a b v r hv hr m e = one-word a b v ∙ sym (width r hr)
     width (suc (suc r)) h = absurd (omega arith)
 
 both-stored : sorted twoBanks (ofTwo 4 2 2) bothStored .moves ≡ record { source = slot 0; dest = slot 1; value = 0 } ∷ record { source = slot 2; dest = slot 3; value = 1 } ∷ []
-unfolding twoBanks any has regMemory classMembers rematCost rematClass sortedFrom add
+unfolding twoBanks anyIn has regMemory classMembers rematCost rematClass sortedFrom add
 both-stored = refl
 
 -- slots 0 and 2

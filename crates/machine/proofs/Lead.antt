@@ -7,7 +7,7 @@ use Prim.Native.Nat.{ℕ, zero, suc, _+_, _≤_, _<_}
 use native.Mathlib.Omega.{arith}
 use lib.Dec.{T, T-not, eqb, eqb→eq}
 use lib.ListN.{length}
-use Rattle.entity.specs.Logic.{any}
+use Rattle.entity.specs.Logic.{anyIn}
 use Rattle.entity.specs.Place.{Place}
 use Rattle.reginfo.specs.RegInfo.{RegInfo, topLevelClass}
 use Rattle.function.specs.Function.{Function, valueBank}
@@ -35,12 +35,12 @@ was-done st i k = updated-at (λ y. T (isDone y) → (k ≡ i) ⊎ T (isDone (st
 still-done : (st : ℕ → State) (i k : ℕ) → T (isDone (st k)) → T (isDone (updated i Done st k))
 still-done st i k h = updated-at (λ y. T (isDone y)) i Done st k (λ _. tt) (λ _. h)
 
-any-find : (f : ℕ → Bool) (ks : List ℕ) → T (any f ks) → (k : ℕ) × T (hasIn ks k) × T (f k)
-unfolding any
+any-find : (f : ℕ → Bool) (ks : List ℕ) → T (anyIn f ks) → (k : ℕ) × T (hasIn ks k) × T (f k)
+unfolding anyIn
 any-find f [] h = absurd h
 any-find f (k ∷ ks) h = go (f k) (λ x. x) h (λ y. any-find f ks y)
   where
-    go : (b : Bool) → (T b → T (f k)) → T (b || any f ks) → (T (any f ks) → (x : ℕ) × T (hasIn ks x) × T (f x)) → (x : ℕ) × T (hasIn (k ∷ ks) x) × T (f x)
+    go : (b : Bool) → (T b → T (f k)) → T (b || anyIn f ks) → (T (anyIn f ks) → (x : ℕ) × T (hasIn ks x) × T (f x)) → (x : ℕ) × T (hasIn (k ∷ ks) x) × T (f x)
     go true y h r = (k, has-head ks k, y tt)
     go false y h r = let z = r h in (z .0, has-tail ks k (z .0) (z .1), z .2)
 
@@ -153,7 +153,7 @@ module _ (t : RegInfo) (F : Function) (tk : TargetOk t) (j : Job) (em : (s : ℕ
         ⊎-elim (λ e. inl e) (λ d. inr (subst (λ (z : State). T (not (isDone z))) (sym (updated-other i Done (w .state) k d)) (⊎-elim (λ y. absurd y) (λ y. y) (rs .still k v h)))) (same? k i)
 
     -- no writer is open: from the source
-    plain-lead : T (not (any (λ k. isPending (st′ k)) (writers t F ms i))) → All Led (emit t F ms i (source t F ms i) (withState i Done w))
+    plain-lead : T (not (anyIn (λ k. isPending (st′ k)) (writers t F ms i))) → All Led (emit t F ms i (source t F ms i) (withState i Done w))
     plain-lead no-open =
         all-then (λ k. Kept t F tk j em (Needed (updated i (source t F ms i) (rs .pl))) k × ((s : ℕ) → Empty t F tk k s → Empty t F tk (w .allocator) s)) Led
         (doMove t F (valueBank F v₀) (dest t F ms i) (source t F ms i) v₀ (w .allocator)) _
@@ -199,7 +199,7 @@ module _ (t : RegInfo) (F : Function) (tk : TargetOk t) (j : Job) (em : (s : ℕ
     hd₁ : (k : ℕ) → T (hasIn (writers t F ms i) k) → T (hasIn (tab′ .values k) v₀) ⊎ T (isDone (st′ k))
     hd₁ k h = ⊎-elim (λ o. inl (mk .1 k h o)) (λ d. inr d) (vis′ k h)
 
-    count-up : T (any (λ k. isPending (st′ k)) (writers t F ms i)) → 0 < tab′ .refCount v₀
+    count-up : T (anyIn (λ k. isPending (st′ k)) (writers t F ms i)) → 0 < tab′ .refCount v₀
     count-up y =
         let z = any-find (λ k. isPending (st′ k)) (writers t F ms i) y in
         let p : 0 < tally (λ k. hasIn (tab′ .values k) v₀) (length ms) = tally-pos (λ k. hasIn (tab′ .values k) v₀) (length ms) (z .0) (ok .written i (z .0) (z .1)) (mk .1 (z .0) (z .1) (z .2)) in
@@ -244,7 +244,7 @@ module _ (t : RegInfo) (F : Function) (tk : TargetOk t) (j : Job) (em : (s : ℕ
             down y h = ⊎-elim (λ e. subst (Lv w) (sym e) l) (λ d. from-lv y d h) (same? y v₀)
 
     -- diverted now
-    new-lead : T (any (λ k. isPending (st′ k)) (writers t F ms i)) → (Lv w v₀ → ⊥) → All Led (divert t F ms i (carried t F ms i (withState i Done w)))
+    new-lead : T (anyIn (λ k. isPending (st′ k)) (writers t F ms i)) → (Lv w v₀ → ⊥) → All Led (divert t F ms i (carried t F ms i (withState i Done w)))
     unfolding divert w₁ tab′
     new-lead y nl =
         all-then (FoundOk t F tk j em (Needed (rs .pl)) (valueBank F v₀) (topLevelClass t (valueBank F v₀)) (length (j .content v₀)) (cycleMoveSources t F ms) (ok .top-ok v₀ (ok .valued i il)) (w .allocator)) Led
@@ -296,7 +296,7 @@ module _ (t : RegInfo) (F : Function) (tk : TargetOk t) (j : Job) (em : (s : ℕ
     pub lead-ok : All Led (lead t F ms i (withState i Done w))
     unfolding lead
     lead-ok =
-        if (All Led) (any (λ k. isPending (st′ k)) (writers t F ms i)) _ _
+        if (All Led) (anyIn (λ k. isPending (st′ k)) (writers t F ms i)) _ _
         (λ y. if (All Led) (eqb (w .diverted .refCount v₀) 0) _ _ (λ z. new-lead y (λ h. let e : w .diverted .refCount v₀ ≡ 0 = eqb→eq (w .diverted .refCount v₀) 0 z in omega arith))
         (λ z. old-lead (pos (w .diverted .refCount v₀) z)))
         plain-lead

@@ -32,7 +32,6 @@ pub mod SizeSteps
 pub mod SizeWalk
 pub mod EnoughSlots
 pub mod SlotTrials
-pub mod NotInStacks
 pub mod Demand
 pub mod ArgumentWords
 pub mod Before

@@ -7,7 +7,7 @@ use mathlib.Core.Option.{Option, none, some}
 use mathlib.Core.Logic.{_⊎_, inl, inr}
 use native.Mathlib.Omega.{arith}
 use lib.ListN.{length, getD, take}
-use Rattle.entity.specs.Logic.{any, all, has, meets, twice, lastOr, indices}
+use Rattle.entity.specs.Logic.{anyIn, allIn, has, meets, twice, lastOr, indices}
 use Rattle.entity.specs.Place.{Place, reg, slot}
 use Rattle.reginfo.specs.RegInfo.{spillslotSize, topLevelClass, stackToStackClass, regMemory, bankForReg, regUnits, bankForClass, classSlots, classMembers, allocationOrder}
 use Rattle.reginfo.specs.Refused.{orderTotal, countsFit, bankFits, regFits, classFits, outsideLimits, listedTwice, unequalWidths, foreignMember, sharedMemory, unfitClass, firstOf, targetRefusal}
@@ -87,15 +87,15 @@ abbrev all-kept : List KeptMove
 all-kept = m0 ∷ record { source = reg 2; dest = reg 0; value = 1 } ∷ record { source = reg 3; dest = reg 4; value = 2 } ∷ []
 
 one-kept : sorted seven values lists.one .moves ≡ m0 ∷ []
-unfolding seven any has regMemory classMembers rematCost rematClass sortedFrom add
+unfolding seven anyIn has regMemory classMembers rematCost rematClass sortedFrom add
 one-kept = refl
 
 three-kept : sorted seven values lists.three .moves ≡ all-kept
-unfolding seven any has regMemory classMembers rematCost rematClass sortedFrom add
+unfolding seven anyIn has regMemory classMembers rematCost rematClass sortedFrom add
 three-kept = refl
 
 stored-kept : sorted seven values lists.stored .moves ≡ record { source = slot 0; dest = slot 1; value = 1 } ∷ []
-unfolding seven any has regMemory classMembers rematCost rematClass sortedFrom add
+unfolding seven anyIn has regMemory classMembers rematCost rematClass sortedFrom add
 stored-kept = refl
 
 one-holds : Holding seven values lists.one (words 70 71 72) lists.start
@@ -138,7 +138,7 @@ module _ (c : ℕ) (s : Machine) (r0 : read seven values (seen seven values s) (
     (alone : (q : Place) → IsScratch seven values lists.three (words 70 71 c) s q 0 → read seven values (seen seven values s) q ≡ 70 ∷ [] → ⊥)
   where
     nowhere : (q : Place) → read seven values (seen seven values s) q ≡ 70 ∷ [] → OfValue seven values lists.three (words 70 71 c) q 0 ⊎ IsScratch seven values lists.three (words 70 71 c) s q 0 → ⊥
-    unfolding seven any has regMemory classMembers rematCost rematClass sortedFrom add
+    unfolding seven anyIn has regMemory classMembers rematCost rematClass sortedFrom add
     nowhere q e (inl (zero, h, v, inl p)) = differ (λ (z : 71 ≡ 70). omega arith) (sym r0 ∙ ap (read seven values (seen seven values s)) (sym p) ∙ e)
     nowhere q e (inl (zero, h, v, inr p)) = differ (λ (z : 1 ≡ 70). omega arith) (sym r1 ∙ ap (read seven values (seen seven values s)) (sym p) ∙ e)
     nowhere q e (inl (suc zero, h, v, p)) = omega arith
@@ -147,7 +147,7 @@ module _ (c : ℕ) (s : Machine) (r0 : read seven values (seen seven values s) (
     nowhere q e (inr m) = alone q m e
 
     lost : (m : Memory) → Stopped seven values lists.three (words 70 71 c) m s → ⊥
-    unfolding seven any has regMemory classMembers rematCost rematClass sortedFrom add
+    unfolding seven anyIn has regMemory classMembers rematCost rematClass sortedFrom add
     lost m st = let w = st .survives 0 (omega arith) in nowhere (w .0) (w .1) (w .2)
 
 -- what was written and does not begin with 70
@@ -220,7 +220,7 @@ module _ (es : List Edit) where
       alone q (List·Memᴰ·tail (List·Memᴰ·tail (List·Memᴰ·tail (List·Memᴰ·tail m)))) e = absurd (List·Memᴰ·not-nil m)
 
 pub not-accepted : NotAccepted
-unfolding any all has meets lastOr indices spillslotSize topLevelClass stackToStackClass regMemory bankForReg regUnits bankForClass classSlots classMembers allocationOrder firstOf valueBank rematCost rematClass updated andThen each find filter acquireFrom unevict unevictBut unevictForReg makeRoom slotScratch evictLast reuse orScratch getScratchReg moveEdits doMove carryOne carry remats rematWithScratch writerFrom writersOf writers cycleMoveSources divert lead undivert undivertAll close visit visitUnlessMemory start moves destinations add sortedFrom entryConditions patchConditions run resolveSorted resolveFrom resolve seven orderTotal countsFit bankFits regFits classFits outsideLimits listedTwice unequalWidths foreignMember sharedMemory unfitClass targetRefusal twice isSetting function.countsFit function.valueFits function.foreignClass function.valuesRefusal function.functionRefusal put read write fits step steps counted old.read old.write old.fits old.step old.steps old.counted the can after
+unfolding anyIn allIn has meets lastOr indices spillslotSize topLevelClass stackToStackClass regMemory bankForReg regUnits bankForClass classSlots classMembers allocationOrder firstOf valueBank rematCost rematClass updated andThen each find filter acquireFrom unevict unevictBut unevictForReg makeRoom slotScratch evictLast reuse orScratch getScratchReg moveEdits doMove carryOne carry remats rematWithScratch writerFrom writersOf writers cycleMoveSources divert lead undivert undivertAll close visit visitUnlessMemory start moves destinations add sortedFrom entryConditions patchConditions run resolveSorted resolveFrom resolve seven orderTotal countsFit bankFits regFits classFits outsideLimits listedTwice unequalWidths foreignMember sharedMemory unfitClass targetRefusal twice isSetting function.countsFit function.valueFits function.foreignClass function.valuesRefusal function.functionRefusal put read write fits step steps counted old.read old.write old.fits old.step old.steps old.counted the can after
 not-accepted =
     record {
       target-taken = refl;

@@ -8,7 +8,7 @@ use native.Mathlib.Omega.{arith}
 use lib.Dec.{ltb}
 use lib.ListN.{length, take, drop}
 use borrow.Author.Tests.{eqb-true}
-use Rattle.entity.specs.Logic.{no, any, indices}
+use Rattle.entity.specs.Logic.{no, anyIn, indices}
 use Rattle.entity.proofs.Laws.{any-below}
 use Rattle.entity.specs.Place.{Place, reg, slot}
 use Rattle.reginfo.specs.RegInfo.{RegInfo, bankForReg, spillslotSize}
@@ -47,10 +47,10 @@ waits-few [] y m = omega (arith, sum-zero (λ s. 0) m (λ s h. refl))
 waits-few (e ∷ l) y m = omega (arith, sum-plus (λ s. one (e .slot) (e .size) s y) (λ s. waits l s y) m, one-few (e .slot) (e .size) y m, waits-few l y m)
 
 -- one of the first n passes the test
-pub any-index : (p : ℕ → Bool) (n i : ℕ) → i < n → p i ≡ true → any p (indices 0 n) ≡ true
-any-index p n i l h = go (any p (indices 0 n)) refl
+pub any-index : (p : ℕ → Bool) (n i : ℕ) → i < n → p i ≡ true → anyIn p (indices 0 n) ≡ true
+any-index p n i l h = go (anyIn p (indices 0 n)) refl
   where
-    go : (b : Bool) → any p (indices 0 n) ≡ b → b ≡ true
+    go : (b : Bool) → anyIn p (indices 0 n) ≡ b → b ≡ true
     go true e = refl
     go false e = absurd (false≢true (sym (any-below p n i e l) ∙ h))
 
@@ -91,10 +91,10 @@ module _ (t : RegInfo) (f : Function) where
   module _ (c₀ : Cache) where
     -- the new slots are named by edits, but for those excepted
     abbrev pub Named : (ℕ → Type 0) → List Edit → ℕ → Type 0
-    Named ex es made = (s : ℕ) → f .slots + c₀ .made ≤ s → s < f .slots + made → (any (namesSlot t f s) es ≡ true) ⊎ ex s
+    Named ex es made = (s : ℕ) → f .slots + c₀ .made ≤ s → s < f .slots + made → (anyIn (namesSlot t f s) es ≡ true) ⊎ ex s
 
     pub named-push : (ex ex′ : ℕ → Type 0) (e : Edit) (es : List Edit) (made : ℕ) → ((s : ℕ) → ex s → (namesSlot t f s e ≡ true) ⊎ ex′ s) → Named ex es made → Named ex′ (e ∷ es) made
-    unfolding any
+    unfolding anyIn
     named-push ex ex′ e es made h g s a b = ⊎-elim (λ q. inl (rw q (or-true (namesSlot t f s e)))) (λ q. ⊎-elim (λ r. inl (rw r refl)) (λ r. inr r) (h s q)) (g s a b)
 
     -- a slot taken, beside what is held elsewhere

@@ -9,7 +9,7 @@ use lib.Dec.{eqb, ltb}
 use lib.ListN.{length, getD, length-append, length-map, List·getD-append, List·getD-map, List·getD-eq-default}
 use lib.Seq.{getD-append-add}
 use borrow.Author.Tests.{eq-eqb, eqb-true, ltb-true, ltb-false}
-use Rattle.entity.specs.Logic.{or, no, any, has, meets, twice}
+use Rattle.entity.specs.Logic.{or, no, anyIn, has, meets, twice}
 use Rattle.entity.specs.Place.{Place, reg, slot}
 use Rattle.entity.proofs.Laws.{or-false, and-false, never-true, any-at, has-getD}
 use Rattle.reginfo.specs.RegInfo.{Reg, RegInfo, noReg, numRegs, numClasses, regMemory, bankForReg, regUnits, isMemoryReg, bankForClass, classMembers, includesSpillslots, lastInOrder, placeUnits, overlap, ofBank}
@@ -33,11 +33,11 @@ or-true : (a b : Bool) → b ≡ true → or a b ≡ true
 or-true true b h = refl
 or-true false b h = h
 
-pub any-true : {A : Type 0} (p : A → Bool) (l : List A) (i : ℕ) (d : A) → i < length l → p (getD l i d) ≡ true → any p l ≡ true
-unfolding any
+pub any-true : {A : Type 0} (p : A → Bool) (l : List A) (i : ℕ) (d : A) → i < length l → p (getD l i d) ≡ true → anyIn p l ≡ true
+unfolding anyIn
 any-true p [] i d h e = absurd (omega arith)
 any-true p (x ∷ l) zero d h e = rw e
-any-true p (x ∷ l) (suc i) d h e = or-true (p x) (any p l) (any-true p l i d (omega arith) e)
+any-true p (x ∷ l) (suc i) d h e = or-true (p x) (anyIn p l) (any-true p l i d (omega arith) e)
 
 -- an element stands at an index
 pub mem-at : {A : Type 0} {x : A} {l : List A} (d : A) → List·Memᴰ x l → (i : ℕ) × (i < length l) × (getD l i d ≡ x)
@@ -125,13 +125,13 @@ module _ (t : RegInfo) (f : Function) where
     count-destinations = simp (length-append, length-map)
 
     -- a test that some destination passes
-    pub kept-passes : (q : Place → Bool) (i : ℕ) → i < length (a .moves) → q (dest t f (a .moves) i) ≡ true → any q (destinations a) ≡ true
+    pub kept-passes : (q : Place → Bool) (i : ℕ) → i < length (a .moves) → q (dest t f (a .moves) i) ≡ true → anyIn q (destinations a) ≡ true
     kept-passes q i h e = any-true q (destinations a) i (slot 0) (omega (arith, count-destinations)) (rw (kept-at i h) e)
 
-    pub remat-passes : (q : Place → Bool) (i : ℕ) → i < length (a .remats) → q (rematAt (a .remats) i .dest) ≡ true → any q (destinations a) ≡ true
+    pub remat-passes : (q : Place → Bool) (i : ℕ) → i < length (a .remats) → q (rematAt (a .remats) i .dest) ≡ true → anyIn q (destinations a) ≡ true
     remat-passes q i h e = any-true q (destinations a) (length (a .moves) + i) (slot 0) (omega (arith, count-destinations)) (rw (remat-at i h) e)
 
-    pub scratch-passes : (q : Place → Bool) (i : ℕ) → i < length (a .rematsWithScratch) → q (rematAt (a .rematsWithScratch) i .dest) ≡ true → any q (destinations a) ≡ true
+    pub scratch-passes : (q : Place → Bool) (i : ℕ) → i < length (a .rematsWithScratch) → q (rematAt (a .rematsWithScratch) i .dest) ≡ true → anyIn q (destinations a) ≡ true
     scratch-passes q i h e = any-true q (destinations a) (length (a .moves) + (length (a .remats) + i)) (slot 0) (omega (arith, count-destinations)) (rw (scratch-at i) e)
 
     -- no two destinations overlap

@@ -9,7 +9,7 @@ use native.Mathlib.Omega.{arith}
 use lib.Dec.{eqb}
 use lib.ListN.{length, getD}
 use borrow.Author.Tests.{eqb-true, eqb-false}
-use Rattle.entity.specs.Logic.{or, any, indices}
+use Rattle.entity.specs.Logic.{or, anyIn, indices}
 use Rattle.entity.specs.Place.{Place, slot}
 use Rattle.reginfo.specs.RegInfo.{RegInfo, numBanks, isMemory, spillslotSize, topLevelClass}
 use Rattle.reginfo.specs.Refused as target
@@ -47,8 +47,8 @@ unfolding held sign
 held-few zero p z y m = omega (arith, sum-zero (λ s. 0) m (λ s h. refl))
 held-few (suc n) p z y m = holds-few p z y m
 
-any-none : (p : ℕ → Bool) (l : List ℕ) → ((k : ℕ) → p k ≡ false) → any p l ≡ false
-unfolding any
+any-none : (p : ℕ → Bool) (l : List ℕ) → ((k : ℕ) → p k ≡ false) → anyIn p l ≡ false
+unfolding anyIn
 any-none p [] h = refl
 any-none p (x ∷ l) h = rw (h x) (any-none p l h)
 
@@ -124,7 +124,7 @@ module _ (t : RegInfo) (f : Function) (c₀ : Cache) (at : target.Accepted t) (a
         more-room =
             omega (arith, g .room, live-grown t f at af-placed ms ok v (w .state) (w .diverted) (w′ .diverted) vl (grown t f c₀ at af ms ok loaded calm i il w old .0))
 
-        divert-sparing : any (λ m. isPending (w .state m)) (writers t f ms i) ≡ true → w .diverted .refCount v ≡ 0 → All (Sparing a) (divert t f ms i w′)
+        divert-sparing : anyIn (λ m. isPending (w .state m)) (writers t f ms i) ≡ true → w .diverted .refCount v ≡ 0 → All (Sparing a) (divert t f ms i w′)
         unfolding divert
         divert-sparing e z =
             let b : ℕ = bank t f ms v in
@@ -150,7 +150,7 @@ module _ (t : RegInfo) (f : Function) (c₀ : Cache) (at : target.Accepted t) (a
         lead-sparing : All (Sparing a) (lead t f ms i w)
         unfolding lead
         lead-sparing =
-            branch (All (Sparing a)) (any (λ m. isPending (w .state m)) (writers t f ms i)) _ _
+            branch (All (Sparing a)) (anyIn (λ m. isPending (w .state m)) (writers t f ms i)) _ _
             (λ e. branch (All (Sparing a)) (eqb (w .diverted .refCount v) 0) _ _ (λ z. divert-sparing e (eqb-true (w .diverted .refCount v) 0 z))
             (λ z. joined-sparing (positive (w .diverted .refCount v) (eqb-false (w .diverted .refCount v) 0 z))))
             (λ _. from-source w (record { kept = g .kept; room = omega (arith, g .room); low = g .low }))
@@ -260,7 +260,7 @@ module _ (t : RegInfo) (f : Function) (c₀ : Cache) (at : target.Accepted t) (a
     root-lead : (a : ℕ) → a ≤ 127 → (i : ℕ) (il : i < n) (w : ParallelMoves) → Closing t f c₀ at af ms ok i il Calm w → Sparing a w → All (Sparing a) (lead t f ms i w)
     unfolding lead
     root-lead a al i il w old g =
-        branch (All (Sparing a)) (any (λ m. isPending (w .state m)) (writers t f ms i)) _ _
+        branch (All (Sparing a)) (anyIn (λ m. isPending (w .state m)) (writers t f ms i)) _ _
         (λ e. absurd (false≢true (sym (any-none (λ m. isPending (w .state m)) (writers t f ms i) (λ k. old .still k tt)) ∙ e))) (λ _. from-source a al i il w g)
 
     root-both : (fuel i : ℕ) (w : ParallelMoves) → i < n → Both Calm 128 w → All (Both Calm 128) (visit t f ms fuel i w)

@@ -8,7 +8,7 @@ use native.Mathlib.Omega.{arith}
 use lib.Dec.{eqb}
 use lib.ListN.{length, getD}
 use borrow.Author.Tests.{eqb-true, eqb-false}
-use Rattle.entity.specs.Logic.{or, any, indices}
+use Rattle.entity.specs.Logic.{or, anyIn, indices}
 use Rattle.entity.specs.Place.{Place}
 use Rattle.reginfo.specs.RegInfo.{RegInfo, isMemory, spillslotSize, topLevelClass}
 use Rattle.reginfo.specs.Refused as target
@@ -69,7 +69,7 @@ module _ (t : RegInfo) (f : Function) (c₀ : Cache) (at : target.Accepted t) (a
       abbrev d′ : Diverted
       d′ = carry v (w .state) (writers t f ms i) (w .diverted)
 
-      pub grown : Grown t f ms v (w .state) (w .diverted) d′ × (any (λ m. isPending (w .state m)) (writers t f ms i) ≡ true → 0 < d′ .refCount v)
+      pub grown : Grown t f ms v (w .state) (w .diverted) d′ × (anyIn (λ m. isPending (w .state m)) (writers t f ms i) ≡ true → 0 < d′ .refCount v)
       grown = carry-grown t f ms v vl (w .state) (writers t f ms i) (writers-low t f ms i) (w .diverted) (g .counted)
 
       still-idle : (k : ℕ) → (loaded k → ⊥) → isPending (w .state k) ≡ false → d′ .values k ≡ []
@@ -87,7 +87,7 @@ module _ (t : RegInfo) (f : Function) (c₀ : Cache) (at : target.Accepted t) (a
 
       -- a new one holds the place found
       pub begun-held :
-          (p : Place) → any (λ m. isPending (w .state m)) (writers t f ms i) ≡ true → w .diverted .refCount v ≡ 0
+          (p : Place) → anyIn (λ m. isPending (w .state m)) (writers t f ms i) ≡ true → w .diverted .refCount v ≡ 0
           → (s y : ℕ) → diverted (d′ .refCount) (updated v p (w .scratch)) s y ≡ holds p (size v) s y + diverted (w .diverted .refCount) (w .scratch) s y
       begun-held p e z s y =
           omega (
@@ -107,7 +107,7 @@ module _ (t : RegInfo) (f : Function) (c₀ : Cache) (at : target.Accepted t) (a
             still = g .still;
           }
 
-      divert-walk : any (λ m. isPending (w .state m)) (writers t f ms i) ≡ true → w .diverted .refCount v ≡ 0 → All (Walk loaded calm) (divert t f ms i (carried t f ms i w))
+      divert-walk : anyIn (λ m. isPending (w .state m)) (writers t f ms i) ≡ true → w .diverted .refCount v ≡ 0 → All (Walk loaded calm) (divert t f ms i (carried t f ms i w))
       unfolding divert Kept
       divert-walk e z =
           all-then (Search t f c₀ (bank t f ms v) (topLevelClass t (bank t f ms v)) (diverted (w .diverted .refCount) (w .scratch))) (Walk loaded calm)
@@ -124,7 +124,7 @@ module _ (t : RegInfo) (f : Function) (c₀ : Cache) (at : target.Accepted t) (a
       pub lead-walk : All (Walk loaded calm) (lead t f ms i w)
       unfolding lead
       lead-walk =
-          branch (All (Walk loaded calm)) (any (λ m. isPending (w .state m)) (writers t f ms i)) _ _
+          branch (All (Walk loaded calm)) (anyIn (λ m. isPending (w .state m)) (writers t f ms i)) _ _
           (λ e. branch (All (Walk loaded calm)) (eqb (w .diverted .refCount v) 0) _ _ (λ z. divert-walk e (eqb-true (w .diverted .refCount v) 0 z))
           (λ z. emit-walk i il (w .scratch v) (carried t f ms i w) (joined (positive (w .diverted .refCount v) (eqb-false (w .diverted .refCount v) 0 z)))))
           (λ _. emit-walk i il (source t f ms i) w g)

@@ -6,7 +6,7 @@ use mathlib.Core.Option.{some}
 use mathlib.Core.Logic.{_⊎_, inl, inr, ⊎-elim}
 use Prim.Native.Nat.{ℕ}
 use lib.Dec.{T, T-not, not-T, eqb, eqb→eq, eqb-refl}
-use Rattle.entity.specs.Logic.{has, any, all}
+use Rattle.entity.specs.Logic.{has, anyIn, allIn}
 use Rattle.rules.specs.Edit.{find}
 use Rattle.rules.proofs.Steps.{All, all-map}
 
@@ -105,19 +105,19 @@ has-cons us v u h = go (eqb u v) (eqb→eq u v) h
     go true e i = inl (e tt)
     go false e i = inr i
 
-pub any-not : (f : ℕ → Bool) (us : List ℕ) → T (not (any f us)) → (u : ℕ) → T (hasIn us u) → T (f u) → ⊥
-unfolding any has
+pub any-not : (f : ℕ → Bool) (us : List ℕ) → T (not (anyIn f us)) → (u : ℕ) → T (hasIn us u) → T (f u) → ⊥
+unfolding anyIn has
 any-not f [] h u k x = k
 any-not f (v ∷ us) h u k x =
-    ⊎-elim (λ e. T-not (f v) (or-split (f v) (any f us) h .0) (subst (λ (y : ℕ). T (f y)) e x))
-    (λ i. any-not f us (or-split (f v) (any f us) h .1) u i x) (has-cons us v u k)
+    ⊎-elim (λ e. T-not (f v) (or-split (f v) (anyIn f us) h .0) (subst (λ (y : ℕ). T (f y)) e x))
+    (λ i. any-not f us (or-split (f v) (anyIn f us) h .1) u i x) (has-cons us v u k)
 
-pub all-has : (f : ℕ → Bool) (us : List ℕ) → T (all f us) → (u : ℕ) → T (hasIn us u) → T (f u)
-unfolding all has
+pub all-has : (f : ℕ → Bool) (us : List ℕ) → T (allIn f us) → (u : ℕ) → T (hasIn us u) → T (f u)
+unfolding allIn has
 all-has f [] h u k = absurd k
 all-has f (v ∷ us) h u k =
-    ⊎-elim (λ e. subst (λ (y : ℕ). T (f y)) (sym e) (and-split (f v) (all f us) h .0))
-    (λ i. all-has f us (and-split (f v) (all f us) h .1) u i) (has-cons us v u k)
+    ⊎-elim (λ e. subst (λ (y : ℕ). T (f y)) (sym e) (and-split (f v) (allIn f us) h .0))
+    (λ i. all-has f us (and-split (f v) (allIn f us) h .1) u i) (has-cons us v u k)
 
 pub find-all : (p : ℕ → Bool) (rs : List ℕ) → All (λ r. T (p r) × T (hasIn rs r)) (find p rs)
 unfolding find has

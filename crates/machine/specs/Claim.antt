@@ -6,7 +6,7 @@ use mathlib.Core.List.{List, [], _∷_, List·Memᴰ}
 use mathlib.Core.Option.{Option, none, some}
 use mathlib.Core.Logic.{_⊎_}
 use lib.ListN.{length, getD, take}
-use Rattle.entity.specs.Logic.{any, has}
+use Rattle.entity.specs.Logic.{anyIn, has}
 use Rattle.entity.specs.Place.{Place, slot, samePlace}
 use Rattle.reginfo.specs.RegInfo.{RegInfo, numRegs, bankForReg, regUnits, isMemoryReg}
 use Rattle.reginfo.specs.Refused as target
@@ -62,9 +62,9 @@ module _ (t : RegInfo) (f : Function) where
     -- or in a scratch place". "Destinations are those of all entries, emergency slots those from N on."
     pub record Stopped (start : Memory) (s : Machine) : Type 0 where
       pub units :
-          (u : ℕ) → u < 512 → any (λ e. has u (unitsOfReg t f (entryDest e))) (p .entries) ≡ false → has u (p .free) ≡ false
+          (u : ℕ) → u < 512 → anyIn (λ e. has u (unitsOfReg t f (entryDest e))) (p .entries) ≡ false → has u (p .free) ≡ false
           → (seen t f s .word u ≡ start .word u) × (seen t f s .lists u ≡ start .lists u)
-      pub slots : (x : ℕ) → x < f .slots → any (λ e. samePlace (slot x) (entryDest e)) (p .entries) ≡ false → inSlot (seen t f s) x ≡ inSlot start x
+      pub slots : (x : ℕ) → x < f .slots → anyIn (λ e. samePlace (slot x) (entryDest e)) (p .entries) ≡ false → inSlot (seen t f s) x ≡ inSlot start x
       pub survives :
           (i : ℕ) → i < numKept → (q : Place) × (read t f (seen t f s) q ≡ content (kept i .value)) × (OfValue q (kept i .value) ⊎ IsScratch s q (kept i .value))
 

@@ -6,7 +6,7 @@ use mathlib.Core.List.{List, [], _∷_, _++_, List·Memᴰ}
 use mathlib.Core.Option.{Option, none, some}
 use lib.Dec.{eqb}
 use lib.ListN.{length}
-use Rattle.entity.specs.Logic.{or, any, has, indices}
+use Rattle.entity.specs.Logic.{or, anyIn, has, indices}
 use Rattle.entity.specs.Place.{slot, samePlace}
 use Rattle.reginfo.specs.RegInfo.{RegInfo, numBanks, bankForReg, spillslotSize}
 use Rattle.reginfo.specs.Refused as target
@@ -25,7 +25,7 @@ sizesThat p = length (filter p (indices 0 32))
 
 -- the bank of one of the function's values has slots of size z
 abbrev pub isSize : RegInfo → Function → ℕ → Bool
-isSize t f z = any (λ v. eqb (spillslotSize t (valueBank f v)) z) (indices 0 (numValues f))
+isSize t f z = anyIn (λ v. eqb (spillslotSize t (valueBank f v)) z) (indices 0 (numValues f))
 
 -- "the number of different slot sizes among its banks": the function's banks are those of its values
 abbrev pub numSizes : RegInfo → Function → ℕ
@@ -33,7 +33,7 @@ numSizes t f = sizesThat (isSize t f)
 
 -- and among all banks of the target
 abbrev pub isBankSize : RegInfo → ℕ → Bool
-isBankSize t z = any (λ b. eqb (spillslotSize t b) z) (indices 0 (numBanks t))
+isBankSize t z = anyIn (λ b. eqb (spillslotSize t b) z) (indices 0 (numBanks t))
 
 abbrev pub numBankSizes : RegInfo → ℕ
 numBankSizes t = sizesThat (isBankSize t)
@@ -72,7 +72,7 @@ module _ (t : RegInfo) (f : Function) where
   -- of a resolved call, a take or an asking (of the cache that its take makes): so it is after it, and an edit of it names every slot that it made
   pub record OfItsSize (c : Cache) (es : List Edit) (c′ : Cache) : Type 0 where
     pub lies : InTheirStacks es c′
-    pub named : (s : ℕ) → f .slots + c .made ≤ s → s < f .slots + c′ .made → any (namesSlot s) es ≡ true
+    pub named : (s : ℕ) → f .slots + c .made ≤ s → s < f .slots + c′ .made → anyIn (namesSlot s) es ≡ true
 
   abbrev pub Sized : Cache → Answer → Type 0
   Sized c (refused n) = Unit {0}
@@ -98,7 +98,7 @@ module _ (t : RegInfo) (f : Function) where
     -- and in that of its size
     pub lies : InTheirStacks es c
     -- an edit names each
-    pub named : (s : ℕ) → f .slots ≤ s → s < f .slots + c .made → any (namesSlot s) es ≡ true
+    pub named : (s : ℕ) → f .slots ≤ s → s < f .slots + c .made → anyIn (namesSlot s) es ≡ true
 
   abbrev pub RequestsSizes : List Request → List Edit → Served → Type 0
   RequestsSizes [] es s = Between es (s .now .cache)

@@ -15,7 +15,7 @@ use Rattle.rules.specs.ChangeTrials.{arguments, twoBanks, ofTwo, stored, r0Edit
 use Rattle.machine.specs.Machine.{Memory, inSlot, Machine, Waiting, begin, steps}
 use Rattle.machine.specs.Claim.{Stopped, Finished}
 
--- "M s0 r1 1, M r1 r0 0, M r0 s0 1"
+-- `M s0 r1 1, M r1 r0 0, M r0 s0 1`
 abbrev pub swapEdits : List Edit
 swapEdits = Move (slot 0) (reg 1) 1 ∷ Move (reg 1) (reg 0) 0 ∷ Move (reg 0) (slot 0) 1 ∷ []
 
@@ -110,7 +110,7 @@ ThroughAWord = (start : Memory) (a b c d : ℕ) → start .word 0 ≡ a → star
 abbrev pub wordSwap : Patch
 wordSwap = patch [] (move (reg 2) (reg 3) 0 ∷ move (reg 3) (reg 2) 1 ∷ [])
 
--- "S s3 r1, M r1 r3 1, M s2 r1 1" and so on
+-- `S s3 r1, M r1 r3 1, M s2 r1 1` and so on
 abbrev pub wordEdits : List Edit
 wordEdits =
     EmergencySpill 3 1 ∷ Move (reg 1) (reg 3) 1 ∷ Move (slot 2) (reg 1) 1 ∷ Move (reg 1) (reg 2) 0 ∷ Move (reg 3) (reg 1) 0 ∷ Move (reg 1) (slot 2) 1
@@ -149,7 +149,7 @@ abbrev pub SwapOfWords : Type 0
 SwapOfWords = (start : Memory) (a b c d : ℕ) → start .lists 4 ≡ a ∷ b ∷ [] → start .lists 5 ≡ c ∷ d ∷ [] → WordsSwapped start a b c d
 
 -- ---- two registers evicted
--- "S s5 r1, S s4 r0, M r1 s2 1, M s3 r1 1, L r1 s5, M r0 s0 0, M s1 r0 0, L r0 s4"
+-- `S s5 r1, S s4 r0, M r1 s2 1, M s3 r1 1, L r1 s5, M r0 s0 0, M s1 r0 0, L r0 s4`
 abbrev pub bothEdits : List Edit
 bothEdits = EmergencySpill 5 1 ∷ EmergencySpill 4 0 ∷ r1Edits 5 (r0Edits 4)
 

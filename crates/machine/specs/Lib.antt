@@ -6,6 +6,5 @@ pub mod Paid
 pub mod Slots
 pub mod Enough
 pub mod SlotTrials
-pub mod NotInStacks
 pub mod Instance
 pub mod NotAccepted

@@ -16,7 +16,7 @@ use Rattle.edges.specs.Patches.{patchNumbered, nth}
 use Rattle.answer.specs.Words.{wordsOf, numberOf, AllPacked}
 use Rattle.price_text.specs.Lines.{edgesText}
 
--- ---- "Their number is 0 or the patch count, else 2 when that is read."
+-- ---- run counts are none or as many as the patch count, else 2 when that is read
 abbrev pub runsFit : (given patches : ℕ) → Bool
 runsFit given patches = or (eqb given 0) (eqb given patches)
 

@@ -168,10 +168,16 @@ fn read_runs(runs: &mut [u64]) -> usize
 // What the program expects, where its words, its name counted, are too few or too many.
 fn expect(words: usize) {
     if words < 6 {
-        io::write_all(2, b"price_job expects: SETTING M R S L [runs of each patch]\n");
+        io::write_all(
+            2,
+            b"price_job expects: SETTING M R S L [runs of each patch]\n",
+        );
     }
     if 1030 < words {
-        io::write_all(2, b"price_job expects: SETTING M R S L [runs of each patch]\n");
+        io::write_all(
+            2,
+            b"price_job expects: SETTING M R S L [runs of each patch]\n",
+        );
     }
 }
 

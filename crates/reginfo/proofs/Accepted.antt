@@ -7,18 +7,18 @@ use native.Mathlib.Omega.{arith}
 use lib.ListN.{getD, length}
 use lib.Dec.{eqb, ltb, leb}
 use borrow.Author.Tests.{leb-true, ltb-true, ltb-false, eqb-true, eqb-false, eq-eqb}
-use Rattle.entity.specs.Logic.{and, or, no, any, has, meets, twice}
+use Rattle.entity.specs.Logic.{and, or, no, anyIn, has, meets, twice}
 use Rattle.entity.specs.Place.{Place, reg, slot, names}
 use Rattle.entity.proofs.Laws.{or-false, and-true, and-false, no-false, any-below, any-has, all-has, has-getD, last-has}
 use Rattle.reginfo.specs.RegInfo.{RegInfo, numBanks, numRegs, numClasses, spillslotSize, topLevelClass, stackToStackClass, regMemory, bankForReg, regUnits, bankForClass, classSlots, classMembers, allocationOrder, isMemoryReg, includesSpillslots, lastInOrder}
-use Rattle.reginfo.specs.Refused.{Condition, cond, some-below, within, allBelow, orderTotal, countsFit, bankFits, regFits, classFits, outsideLimits, listedTwice, widthDiffers, unfitWidth, unequalWidths, foreignMember, sharedMemory, unfitClass, targetRefusal, Accepted}
+use Rattle.reginfo.specs.Refused.{Condition, refusedIf, some-below, within, allBelow, orderTotal, countsFit, bankFits, regFits, classFits, outsideLimits, listedTwice, widthDiffers, unfitWidth, unequalWidths, foreignMember, sharedMemory, unfitClass, targetRefusal, Accepted}
 use Rattle.reginfo.specs.Known.{KnownReg, KnownClass, KnownBank, KnownUnits, KnownPlace, KnownMembers}
 use Rattle.reginfo.specs.Table.{regInfoOf, Indexed}
 use Rattle.reginfo.proofs.Table.{classes-count, members-length}
 use Rattle.reginfo.proofs.First.{first-none}
 
 abbrev rules : RegInfo → List Condition
-rules t = cond 2 (outsideLimits t) ∷ cond 3 (listedTwice t) ∷ cond 4 (unequalWidths t) ∷ cond 5 (foreignMember t) ∷ cond 6 (sharedMemory t) ∷ cond 7 (unfitClass t) ∷ []
+rules t = refusedIf 2 (outsideLimits t) ∷ refusedIf 3 (listedTwice t) ∷ refusedIf 4 (unequalWidths t) ∷ refusedIf 5 (foreignMember t) ∷ refusedIf 6 (sharedMemory t) ∷ refusedIf 7 (unfitClass t) ∷ []
 
 or3-false : (a b c : Bool) → or a (or b c) ≡ false → (a ≡ false) × (b ≡ false) × (c ≡ false)
 or3-false a b c e = let p = or-false a (or b c) e in let q = or-false b c (p .1) in (p .0, q .0, q .1)
@@ -180,7 +180,7 @@ module _ (t : RegInfo) (ok : Accepted t) where
 
   -- 5: members and a bank's classes are of that bank, and an order lists members
   abbrev strange : ℕ → Bool
-  strange c = or (any (λ r. no (eqb (bankForReg t r) (bankForClass t c))) (classMembers t c)) (any (λ r. no (has r (classMembers t c))) (allocationOrder t c))
+  strange c = or (anyIn (λ r. no (eqb (bankForReg t r) (bankForClass t c))) (classMembers t c)) (anyIn (λ r. no (has r (classMembers t c))) (allocationOrder t c))
 
   abbrev misplaced : ℕ → Bool
   misplaced b = or (no (eqb (bankForClass t (topLevelClass t b)) b)) (no (eqb (bankForClass t (stackToStackClass t b)) b))
@@ -189,8 +189,8 @@ module _ (t : RegInfo) (ok : Accepted t) where
   unfolding targetRefusal foreignMember
   own = or-false (some-below (numClasses t) strange) (some-below (numBanks t) misplaced) (first-none (rules t) ok 3 (omega arith))
 
-  own-members : (c : ℕ) → c < numClasses t → (any (λ r. no (eqb (bankForReg t r) (bankForClass t c))) (classMembers t c) ≡ false) × (any (λ r. no (has r (classMembers t c))) (allocationOrder t c) ≡ false)
-  own-members c h = or-false (any (λ r. no (eqb (bankForReg t r) (bankForClass t c))) (classMembers t c)) (any (λ r. no (has r (classMembers t c))) (allocationOrder t c)) (any-below strange (numClasses t) c (own .0) h)
+  own-members : (c : ℕ) → c < numClasses t → (anyIn (λ r. no (eqb (bankForReg t r) (bankForClass t c))) (classMembers t c) ≡ false) × (anyIn (λ r. no (has r (classMembers t c))) (allocationOrder t c) ≡ false)
+  own-members c h = or-false (anyIn (λ r. no (eqb (bankForReg t r) (bankForClass t c))) (classMembers t c)) (anyIn (λ r. no (has r (classMembers t c))) (allocationOrder t c)) (any-below strange (numClasses t) c (own .0) h)
 
   pub member-bank : (c r : ℕ) → c < numClasses t → has r (classMembers t c) ≡ true → bankForReg t r ≡ bankForClass t c
   member-bank c r h e =
@@ -221,7 +221,7 @@ module _ (t : RegInfo) (ok : Accepted t) where
 
   -- 7: slots and memory
   abbrev unfitBank : ℕ → Bool
-  unfitBank b = or (no (includesSpillslots t (topLevelClass t b))) (or (includesSpillslots t (stackToStackClass t b)) (any (λ r. isMemoryReg t r) (allocationOrder t (stackToStackClass t b))))
+  unfitBank b = or (no (includesSpillslots t (topLevelClass t b))) (or (includesSpillslots t (stackToStackClass t b)) (anyIn (λ r. isMemoryReg t r) (allocationOrder t (stackToStackClass t b))))
 
   abbrev unfitOrder : ℕ → Bool
   unfitOrder c = and (no (includesSpillslots t c)) (or (eqb (length (allocationOrder t c)) 0) (isMemoryReg t (lastInOrder t c)))
@@ -231,9 +231,9 @@ module _ (t : RegInfo) (ok : Accepted t) where
   fit = or-false (some-below (numBanks t) unfitBank) (some-below (numClasses t) unfitOrder) (first-none (rules t) ok 5 (omega arith))
 
   module _ (b : ℕ) (h : b < numBanks t) where
-    fit-bank : (no (includesSpillslots t (topLevelClass t b)) ≡ false) × (includesSpillslots t (stackToStackClass t b) ≡ false) × (any (λ r. isMemoryReg t r) (allocationOrder t (stackToStackClass t b)) ≡ false)
+    fit-bank : (no (includesSpillslots t (topLevelClass t b)) ≡ false) × (includesSpillslots t (stackToStackClass t b) ≡ false) × (anyIn (λ r. isMemoryReg t r) (allocationOrder t (stackToStackClass t b)) ≡ false)
     fit-bank =
-        or3-false (no (includesSpillslots t (topLevelClass t b))) (includesSpillslots t (stackToStackClass t b)) (any (λ r. isMemoryReg t r) (allocationOrder t (stackToStackClass t b)))
+        or3-false (no (includesSpillslots t (topLevelClass t b))) (includesSpillslots t (stackToStackClass t b)) (anyIn (λ r. isMemoryReg t r) (allocationOrder t (stackToStackClass t b)))
         (any-below unfitBank (numBanks t) b (fit .0) h)
 
     pub top-slots : includesSpillslots t (topLevelClass t b) ≡ true

@@ -4,10 +4,10 @@ use mathlib.Core.Path.{_≡_}
 use mathlib.Core.Bool.{true, false}
 use mathlib.Core.List.{List}
 use lib.ListN.{length, getD}
-use Rattle.reginfo.specs.Refused.{Condition, cond}
+use Rattle.reginfo.specs.Refused.{Condition, refusedIf}
 
 abbrev pub conditionAt : List Condition → ℕ → Condition
-conditionAt l i = getD l i (cond 0 false)
+conditionAt l i = getD l i (refusedIf 0 false)
 
 -- one of the conditions has the number n and holds, and none earlier does
 pub record Given (l : List Condition) (n : ℕ) : Type 0 where

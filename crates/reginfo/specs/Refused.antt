@@ -6,18 +6,18 @@ use mathlib.Core.List.{List, [], _∷_}
 use mathlib.Core.Option.{Option, none, some}
 use lib.ListN.{length}
 use lib.Dec.{eqb, ltb, leb}
-use Rattle.entity.specs.Logic.{pick, and, or, no, any, all, has, meets, twice, indices}
+use Rattle.entity.specs.Logic.{pick, and, or, no, anyIn, allIn, has, meets, twice, indices}
 use Rattle.reginfo.specs.RegInfo.{RegInfo, Class, numBanks, numRegs, numClasses, spillslotSize, topLevelClass, stackToStackClass, regMemory, bankForReg, regUnits, bankForClass, classSlots, classMembers, allocationOrder, isMemoryReg, includesSpillslots, lastInOrder}
 
 -- some index below n passes the test
 abbrev pub some-below : ℕ → (ℕ → Bool) → Bool
-some-below n p = any p (indices 0 n)
+some-below n p = anyIn p (indices 0 n)
 
 abbrev pub within : ℕ → ℕ → ℕ → Bool
 within low high n = and (leb low n) (leb n high)
 
 abbrev pub allBelow : ℕ → List ℕ → Bool
-allBelow n l = all (λ x. ltb x n) l
+allBelow n l = allIn (λ x. ltb x n) l
 
 unfoldable pub orderTotal : List Class → ℕ
 orderTotal [] = 0
@@ -62,7 +62,7 @@ unequalWidths t = some-below (numRegs t) (unfitWidth t)
 
 -- 5: "a class's members, and a bank's top-level and stack classes, are of that bank, and an order lists members only"
 unfoldable pub foreignMember : RegInfo → Bool
-foreignMember t = or (some-below (numClasses t) (λ c. or (any (λ r. no (eqb (bankForReg t r) (bankForClass t c))) (classMembers t c)) (any (λ r. no (has r (classMembers t c))) (allocationOrder t c)))) (some-below (numBanks t) (λ b. or (no (eqb (bankForClass t (topLevelClass t b)) b)) (no (eqb (bankForClass t (stackToStackClass t b)) b))))
+foreignMember t = or (some-below (numClasses t) (λ c. or (anyIn (λ r. no (eqb (bankForReg t r) (bankForClass t c))) (classMembers t c)) (anyIn (λ r. no (has r (classMembers t c))) (allocationOrder t c)))) (some-below (numBanks t) (λ b. or (no (eqb (bankForClass t (topLevelClass t b)) b)) (no (eqb (bankForClass t (stackToStackClass t b)) b))))
 
 -- 6: "a memory register shares no unit with one that isn't memory"
 unfoldable pub sharedMemory : RegInfo → Bool
@@ -71,15 +71,15 @@ sharedMemory t = some-below (numRegs t) (λ r. and (isMemoryReg t r) (some-below
 -- 7: "a top-level class includes slots, a stack class does not and its order has no memory register, and a class without slots has a
 -- non-empty order whose last register isn't memory"
 unfoldable pub unfitClass : RegInfo → Bool
-unfitClass t = or (some-below (numBanks t) (λ b. or (no (includesSpillslots t (topLevelClass t b))) (or (includesSpillslots t (stackToStackClass t b)) (any (λ r. isMemoryReg t r) (allocationOrder t (stackToStackClass t b)))))) (some-below (numClasses t) (λ c. and (no (includesSpillslots t c)) (or (eqb (length (allocationOrder t c)) 0) (isMemoryReg t (lastInOrder t c)))))
+unfitClass t = or (some-below (numBanks t) (λ b. or (no (includesSpillslots t (topLevelClass t b))) (or (includesSpillslots t (stackToStackClass t b)) (anyIn (λ r. isMemoryReg t r) (allocationOrder t (stackToStackClass t b)))))) (some-below (numClasses t) (λ c. and (no (includesSpillslots t c)) (or (eqb (length (allocationOrder t c)) 0) (isMemoryReg t (lastInOrder t c)))))
 
 -- the number of the first condition that holds
 pub record Condition : Type 0 where
   pub number : ℕ
   pub holds : Bool
 
-abbrev pub cond : ℕ → Bool → Condition
-cond n b = record { number = n; holds = b }
+abbrev pub refusedIf : ℕ → Bool → Condition
+refusedIf n b = record { number = n; holds = b }
 
 abbrev pub orElse : Bool → ℕ → Option ℕ → Option ℕ
 orElse true n o = some n
@@ -91,7 +91,7 @@ firstOf (c ∷ l) = orElse (c .holds) (c .number) (firstOf l)
 
 -- the least number whose condition holds, none where none holds
 unfoldable pub targetRefusal : RegInfo → Option ℕ
-targetRefusal t = firstOf (cond 2 (outsideLimits t) ∷ cond 3 (listedTwice t) ∷ cond 4 (unequalWidths t) ∷ cond 5 (foreignMember t) ∷ cond 6 (sharedMemory t) ∷ cond 7 (unfitClass t) ∷ [])
+targetRefusal t = firstOf (refusedIf 2 (outsideLimits t) ∷ refusedIf 3 (listedTwice t) ∷ refusedIf 4 (unequalWidths t) ∷ refusedIf 5 (foreignMember t) ∷ refusedIf 6 (sharedMemory t) ∷ refusedIf 7 (unfitClass t) ∷ [])
 
 -- an accepted target
 abbrev pub Accepted : RegInfo → Type 0

@@ -8,7 +8,7 @@ use native.Mathlib.Omega.{arith}
 use lib.Dec.{eqb}
 use lib.ListN.{length, getD}
 use borrow.Author.Tests.{eqb-true, eqb-false}
-use Rattle.entity.specs.Logic.{or, any}
+use Rattle.entity.specs.Logic.{or, anyIn}
 use Rattle.reginfo.specs.RegInfo.{RegInfo}
 use Rattle.reginfo.specs.Table.{regInfoOf}
 use Rattle.function.specs.Function.{Function}
@@ -238,11 +238,11 @@ module _ (t f : List ℕ) (ch : Checked t f) where
   AllLie (x ∷ l) v = Lies (v .now .cache) × AllLie l (after T F x v)
 
   claims : (start : ℕ) (calls : List Made) (s : Held) (v : Served) → Inv start s v → Called t f calls s → FewIfTaken T F calls v → Claim t f start calls s v × AllLie calls v
-  unfolding settled any
+  unfolding settled anyIn
   claims start [] s v i h below = (i .same, tt)
   claims start (x ∷ l) s v i h below =
-      let y = step start s v i x (h .0) (λ e. omega (arith, below (first-of (isTake x) (any isTake l) e))) in
-      let on = claims start l (left x s) (after T F x v) (y .2) (h .1) (λ e. omega (arith, below (later-of (isTake x) (any isTake l) e), count-after (v .now) (standing T F x v))) in
+      let y = step start s v i x (h .0) (λ e. omega (arith, below (first-of (isTake x) (anyIn isTake l) e))) in
+      let on = claims start l (left x s) (after T F x v) (y .2) (h .1) (λ e. omega (arith, below (later-of (isTake x) (anyIn isTake l) e), count-after (v .now) (standing T F x v))) in
       ((i .same, y .0, y .1, on .0), (i .lies, on .1))
 
 -- from a function that was opened

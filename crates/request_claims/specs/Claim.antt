@@ -5,7 +5,7 @@ use mathlib.Core.Bool.{Bool, true, false}
 use mathlib.Core.List.{List, [], _∷_}
 use mathlib.Core.Option.{Option, none, some}
 use lib.ListN.{length, getD}
-use Rattle.entity.specs.Logic.{any}
+use Rattle.entity.specs.Logic.{anyIn}
 use Rattle.reginfo.specs.RegInfo.{RegInfo}
 use Rattle.reginfo.specs.Table.{regInfoOf}
 use Rattle.function.specs.Function.{Function}
@@ -90,7 +90,7 @@ isTake (asking x) = false
 isTake (taking x) = true
 
 abbrev pub FewIfTaken : RegInfo → Function → List Made → Served → Type 0
-FewIfTaken t f calls v = any isTake calls ≡ true → Few (v .now .count + settled t f calls v)
+FewIfTaken t f calls v = anyIn isTake calls ≡ true → Few (v .now .count + settled t f calls v)
 
 -- from `open` on, whatever setting and bytes it took, and whatever was asked for or settled in that memory before
 abbrev pub Demand3 : Type 0

@@ -8,7 +8,7 @@ use native.Mathlib.Omega.{arith}
 use lib.Dec.{ltb}
 use lib.ListN.{length, getD}
 use borrow.Author.Tests.{ltb-true, ltb-false, eq-eqb, eqb-true}
-use Rattle.entity.specs.Logic.{pick, and, or, no, any}
+use Rattle.entity.specs.Logic.{pick, and, or, no, anyIn}
 use Rattle.entity.specs.Place.{Place, reg, slot, samePlace}
 use Rattle.entity.proofs.Laws.{or-false, and-true, no-false, never-true, any-at}
 use Rattle.reginfo.specs.RegInfo.{RegInfo, inClass, ofBank, overlap}
@@ -75,26 +75,26 @@ module _ (t : RegInfo) (f : Function) where
   -- no two of the places overlap
   abbrev Apart : List Place → Type 0
   Apart [] = Unit {0}
-  Apart (p ∷ l) = (any (overlap t p) l ≡ false) × Apart l
+  Apart (p ∷ l) = (anyIn (overlap t p) l ≡ false) × Apart l
 
-  any-comm : (d : Place) (l : List Place) → any (λ p. overlap t p d) l ≡ any (overlap t d) l
-  unfolding any
+  any-comm : (d : Place) (l : List Place) → anyIn (λ p. overlap t p d) l ≡ anyIn (overlap t d) l
+  unfolding anyIn
   any-comm d [] = refl
   any-comm d (p ∷ l) = rw (any-comm d l, overlap-comm t p d)
 
-  any-between : (q : Place → Bool) (xs ys : List Place) (d : Place) → q d ≡ false → any q (xs ++ ys) ≡ false → any q (xs ++ (d ∷ ys)) ≡ false
-  unfolding any
+  any-between : (q : Place → Bool) (xs ys : List Place) (d : Place) → q d ≡ false → anyIn q (xs ++ ys) ≡ false → anyIn q (xs ++ (d ∷ ys)) ≡ false
+  unfolding anyIn
   any-between q [] ys d h e = rw h e
   any-between q (x ∷ xs) ys d h e =
-      let s = or-false (q x) (any q (xs ++ ys)) e in
+      let s = or-false (q x) (anyIn q (xs ++ ys)) e in
       rw (s .0) (any-between q xs ys d h (s .1))
 
   -- one more, wherever it is put
-  between : (xs ys : List Place) (d : Place) → any (λ p. overlap t p d) (xs ++ ys) ≡ false → Apart (xs ++ ys) → Apart (xs ++ (d ∷ ys))
-  unfolding any
+  between : (xs ys : List Place) (d : Place) → anyIn (λ p. overlap t p d) (xs ++ ys) ≡ false → Apart (xs ++ ys) → Apart (xs ++ (d ∷ ys))
+  unfolding anyIn
   between [] ys d e h = (sym (any-comm d ys) ∙ e, h)
   between (x ∷ xs) ys d e h =
-      let s = or-false (overlap t x d) (any (λ p. overlap t p d) (xs ++ ys)) e in
+      let s = or-false (overlap t x d) (anyIn (λ p. overlap t p d) (xs ++ ys)) e in
       (any-between (overlap t x) xs ys d (s .0) (h .0), between xs ys d (s .1) (h .1))
 
   apart-at : (l : List Place) → Apart l → (i k : ℕ) → i < length l → k < length l → (i ≡ k → ⊥) → overlap t (getD l i (slot 0)) (getD l k (slot 0)) ≡ false
@@ -120,7 +120,7 @@ module _ (t : RegInfo) (f : Function) where
   good-ok a g = record { moves = g .moves; remats = g .remats; rematsWithScratch = g .rematsWithScratch; apart = apart-at (destinations a) (g .apart); sources = g .sources }
 
   -- one more behind each of three parts
-  module _ (xs ys zs : List Place) (d : Place) (e : any (λ p. overlap t p d) (xs ++ (ys ++ zs)) ≡ false) (h : Apart (xs ++ (ys ++ zs))) where
+  module _ (xs ys zs : List Place) (d : Place) (e : anyIn (λ p. overlap t p d) (xs ++ (ys ++ zs)) ≡ false) (h : Apart (xs ++ (ys ++ zs))) where
     behind-first : Apart ((xs ++ (d ∷ [])) ++ (ys ++ zs))
     behind-first = rw (append-assoc xs (d ∷ []) (ys ++ zs)) (between xs (ys ++ zs) d e h)
 
@@ -240,8 +240,8 @@ module _ (t : RegInfo) (f : Function) where
           }
 
   -- the same of `SortedOk`
-  none-at : (q : Place → Bool) (l : List Place) → ((i : ℕ) → i < length l → q (getD l i (slot 0)) ≡ false) → any q l ≡ false
-  unfolding any
+  none-at : (q : Place → Bool) (l : List Place) → ((i : ℕ) → i < length l → q (getD l i (slot 0)) ≡ false) → anyIn q l ≡ false
+  unfolding anyIn
   none-at q [] h = refl
   none-at q (p ∷ l) h = rw (h 0 (omega arith)) (none-at q l (λ i b. h (suc i) (omega arith)))
 

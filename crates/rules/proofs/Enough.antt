@@ -8,7 +8,7 @@ use native.Mathlib.Omega.{arith}
 use lib.Dec.{eqb}
 use lib.ListN.{length}
 use borrow.Author.Tests.{lt-ltb}
-use Rattle.entity.specs.Logic.{pick, and, or, any, has, indices}
+use Rattle.entity.specs.Logic.{pick, and, or, anyIn, has, indices}
 use Rattle.entity.specs.Place.{Place}
 use Rattle.reginfo.specs.RegInfo.{RegInfo, includesSpillslots, classMembers, lastInOrder, allocationOrder, stackToStackClass, topLevelClass, isMemory}
 use Rattle.function.specs.Function.{Function, valueBank, rematClass}
@@ -124,7 +124,7 @@ module _ (t : RegInfo) (f : Function) where
     lead-ends : (i : ℕ) (w : ParallelMoves) → Ends (λ l. lead t (F l) ms i w)
     unfolding lead writers writersOf writerFrom
     lead-ends i w =
-        choose (any (λ m. isPending (w .state m)) (writers t f ms i)) _ _
+        choose (anyIn (λ m. isPending (w .state m)) (writers t f ms i)) _ _
         (λ _. choose (eqb (w .diverted .refCount (value t f ms i)) 0) _ _ (λ _. divert-ends i (carried t f ms i w)) (λ _. emit-ends i (w .scratch (value t f ms i)) (carried t f ms i w)))
         (λ _. emit-ends i (source t f ms i) w)
 

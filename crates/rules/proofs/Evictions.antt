@@ -7,7 +7,7 @@ use mathlib.Core.Option.{Option, none, some}
 use native.Mathlib.Omega.{arith}
 use lib.Dec.{eqb}
 use lib.ListN.{length, take, length-take}
-use Rattle.entity.specs.Logic.{pick, and, no, any, has}
+use Rattle.entity.specs.Logic.{pick, and, no, anyIn, has}
 use Rattle.entity.specs.Place.{Place, reg, slot}
 use Rattle.reginfo.specs.RegInfo.{RegInfo, bankForClass, allocationOrder, classMembers, includesSpillslots, lastInOrder, spillslotSize, stackToStackClass, isMemory}
 use Rattle.function.specs.Function.{Function, rematClass}
@@ -102,7 +102,7 @@ module _ (t : RegInfo) (f : Function) where
       pub lead-few : (i : ℕ) (w : ParallelMoves) → FewWalk w → All FewWalk (lead t f ms i w)
       unfolding lead divert
       lead-few i w h =
-          branch (All FewWalk) (any (λ m. isPending (w .state m)) (writers t f ms i)) _ _
+          branch (All FewWalk) (anyIn (λ m. isPending (w .state m)) (writers t f ms i)) _ _
           (λ _. branch (All FewWalk) (eqb (w .diverted .refCount (value t f ms i)) 0) _ _
           (λ _. all-then FewFound FewWalk _ _ (search-few _ _ (cycleMoveSources t f ms) (w .allocator) h) (λ x q. emit-few i (x .place) (noted t f ms i x (carried t f ms i w)) q))
           (λ _. emit-few i (w .scratch (value t f ms i)) (carried t f ms i w) h))

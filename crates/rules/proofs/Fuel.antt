@@ -7,7 +7,7 @@ use mathlib.Core.Option.{Option, none, some}
 use native.Mathlib.Omega.{arith}
 use lib.Dec.{eqb}
 use lib.ListN.{length}
-use Rattle.entity.specs.Logic.{pick, any, or, indices}
+use Rattle.entity.specs.Logic.{pick, anyIn, or, indices}
 use Rattle.entity.specs.Place.{Place}
 use Rattle.reginfo.specs.RegInfo.{RegInfo, isMemory}
 use Rattle.function.specs.Function.{Function}
@@ -52,7 +52,7 @@ module _ (t : RegInfo) (f : Function) (ms : List KeptMove) where
   lead-state : (i : ℕ) (w : ParallelMoves) → All (Same w) (lead t f ms i w)
   unfolding lead divert
   lead-state i w =
-      branch (All (Same w)) (any (λ m. isPending (w .state m)) (writers t f ms i)) _ _
+      branch (All (Same w)) (anyIn (λ m. isPending (w .state m)) (writers t f ms i)) _ _
       (λ _. branch (All (Same w)) (eqb (w .diverted .refCount (value t f ms i)) 0) _ _ (λ _. all-after (Same w) _ _ (λ x. emit-state i (x .place) (noted t f ms i x (carried t f ms i w))))
       (λ _. emit-state i (w .scratch (value t f ms i)) (carried t f ms i w)))
       (λ _. emit-state i (source t f ms i) w)

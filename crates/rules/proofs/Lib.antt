@@ -5,11 +5,9 @@ pub mod Writers
 pub mod Position
 pub mod Parts
 pub mod Evictions
-pub mod OneKept
 pub mod Fuel
 pub mod Trials
 pub mod Accepted
-pub mod Evicted
 pub mod Tested
 pub mod Refusals
 pub mod Limit

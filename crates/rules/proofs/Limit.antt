@@ -9,7 +9,7 @@ use native.Mathlib.Omega.{arith}
 use lib.Dec.{eqb, ltb}
 use lib.ListN.{length}
 use borrow.Author.Tests.{ltb-true, ltb-false}
-use Rattle.entity.specs.Logic.{pick, and, or, any, has, indices}
+use Rattle.entity.specs.Logic.{pick, and, or, anyIn, has, indices}
 use Rattle.entity.specs.Place.{Place, reg, slot}
 use Rattle.reginfo.specs.RegInfo.{RegInfo, includesSpillslots, classMembers, lastInOrder, allocationOrder, stackToStackClass, topLevelClass, isMemory}
 use Rattle.function.specs.Function.{Function, valueBank, rematClass}
@@ -182,7 +182,7 @@ module _ (t : RegInfo) (f : Function) (l : ℕ) where
     lead-same : (i : ℕ) (w : ParallelMoves) → Same ofMoves (ofMoves w) (lead t f ms i w) (lead t f′ ms i w)
     unfolding lead writers writersOf writerFrom
     lead-same i w =
-        choose ofMoves (ofMoves w) (any (λ m. isPending (w .state m)) (writers t f ms i)) _ _ _ _
+        choose ofMoves (ofMoves w) (anyIn (λ m. isPending (w .state m)) (writers t f ms i)) _ _ _ _
         (choose ofMoves (ofMoves w) (eqb (w .diverted .refCount (value t f ms i)) 0) _ _ _ _ (divert-same i (carried t f ms i w)) (emit-same i (w .scratch (value t f ms i)) (carried t f ms i w)))
         (emit-same i (source t f ms i) w)
 

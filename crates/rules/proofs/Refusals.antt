@@ -9,7 +9,7 @@ use native.Mathlib.Omega.{arith}
 use borrow.Author.Tests.{ltb-false, le-ltb}
 use Rattle.entity.specs.Logic.{pick}
 use Rattle.reginfo.specs.RegInfo.{RegInfo}
-use Rattle.reginfo.specs.Refused.{Condition, cond, orElse, firstOf}
+use Rattle.reginfo.specs.Refused.{Condition, refusedIf, orElse, firstOf}
 use Rattle.reginfo.specs.Given.{NoneHolds}
 use Rattle.reginfo.proofs.First.{first-none, none-first, given-first, first-given}
 use Rattle.function.specs.Function.{Function}
@@ -39,7 +39,7 @@ first-behind (x ∷ xs) ys e = go (x .holds) e (first-behind xs ys)
     go false e on = on e
 
 -- the run's own condition
-run-last : (o : Option ScratchAllocator) → answerOf o ≡ unlessRefused (firstOf (cond 17 (ranOut o) ∷ [])) (answerOf o)
+run-last : (o : Option ScratchAllocator) → answerOf o ≡ unlessRefused (firstOf (refusedIf 17 (ranOut o) ∷ [])) (answerOf o)
 unfolding firstOf
 run-last none = refl
 run-last (some k) = refl
@@ -74,7 +74,7 @@ module _ (t : RegInfo) (f : Function) where
     ran = run t f p (sorted t f p) c
 
     ending : List Condition
-    ending = cond 17 (ranOut ran) ∷ []
+    ending = refusedIf 17 (ranOut ran) ∷ []
 
     -- the answer is that of the first condition that holds, else the run's
     by-first : resolve t f p room c ≡ unlessRefused (firstOf (callConditions t f p room c)) (answerOf ran)

@@ -1,6 +1,6 @@
 -- The marked trial patches of 01, and those that tell the rules from others, by computation.
 use mathlib.Core.Path.{refl}
-use Rattle.entity.specs.Logic.{any, all, has, meets, twice, lastOr, indices}
+use Rattle.entity.specs.Logic.{anyIn, allIn, has, meets, twice, lastOr, indices}
 use Rattle.reginfo.specs.RegInfo.{spillslotSize, topLevelClass, stackToStackClass, regMemory, bankForReg, regUnits, bankForClass, classSlots, classMembers, allocationOrder}
 use Rattle.reginfo.specs.Refused.{orderTotal, countsFit, bankFits, regFits, classFits, outsideLimits, listedTwice, unequalWidths, foreignMember, sharedMemory, unfitClass, firstOf, targetRefusal}
 use Rattle.function.specs.Function.{valueBank, rematCost, rematClass, isSetting}
@@ -13,7 +13,7 @@ use Rattle.rules.specs.Trials.{three, chained, five, six, halves, betwee
 use Rattle.rules.specs.ChangeTrials.{doubled, ordered, twoBanks, threeBanks, onNewer, onBoth, onEach, members, Overlaps, Sources, ArgumentWords, Positions, TwoKept, BroughtBack}
 
 all-trials : Trials × ToldApart × Overlaps × Sources × ArgumentWords × Positions
-unfolding any all has meets lastOr indices spillslotSize topLevelClass stackToStackClass regMemory bankForReg regUnits bankForClass classSlots classMembers allocationOrder firstOf valueBank rematCost rematClass updated andThen each find firstAt filter acquireFrom unevict unevictBut unevictForReg makeRoom slotScratch evictLast reuse orScratch getScratchReg moveEdits doMove carryOne carry remats rematWithScratch writerFrom writersOf writers cycleMoveSources divert lead undivert undivertAll close visit visitUnlessMemory start moves destinations add entryConditions patchConditions run resolveSorted resolveFrom resolve three chained five six halves between sizes slotsAlone memory shortOrder eight ordered orderTotal countsFit bankFits regFits classFits outsideLimits listedTwice unequalWidths foreignMember sharedMemory unfitClass targetRefusal twice doubled
+unfolding anyIn allIn has meets lastOr indices spillslotSize topLevelClass stackToStackClass regMemory bankForReg regUnits bankForClass classSlots classMembers allocationOrder firstOf valueBank rematCost rematClass updated andThen each find firstAt filter acquireFrom unevict unevictBut unevictForReg makeRoom slotScratch evictLast reuse orScratch getScratchReg moveEdits doMove carryOne carry remats rematWithScratch writerFrom writersOf writers cycleMoveSources divert lead undivert undivertAll close visit visitUnlessMemory start moves destinations add entryConditions patchConditions run resolveSorted resolveFrom resolve three chained five six halves between sizes slotsAlone memory shortOrder eight ordered orderTotal countsFit bankFits regFits classFits outsideLimits listedTwice unequalWidths foreignMember sharedMemory unfitClass targetRefusal twice doubled
 all-trials = (
   record {
     swap-full = refl;
@@ -115,7 +115,7 @@ pub positions : Positions
 positions = all-trials .5
 
 pub two-kept : TwoKept
-unfolding any all has meets lastOr indices spillslotSize topLevelClass stackToStackClass regMemory bankForReg regUnits bankForClass classSlots classMembers allocationOrder firstOf valueBank rematCost rematClass updated andThen each find firstAt filter acquireFrom unevict unevictBut unevictForReg makeRoom slotScratch evictLast reuse orScratch getScratchReg moveEdits doMove carryOne carry remats rematWithScratch writerFrom writersOf writers cycleMoveSources divert lead undivert undivertAll close visit visitUnlessMemory start moves destinations add entryConditions patchConditions run resolveSorted resolveFrom resolve orderTotal countsFit bankFits regFits classFits outsideLimits listedTwice unequalWidths foreignMember sharedMemory unfitClass targetRefusal twice three twoBanks isSetting function.countsFit function.valueFits function.foreignClass function.valuesRefusal function.functionRefusal
+unfolding anyIn allIn has meets lastOr indices spillslotSize topLevelClass stackToStackClass regMemory bankForReg regUnits bankForClass classSlots classMembers allocationOrder firstOf valueBank rematCost rematClass updated andThen each find firstAt filter acquireFrom unevict unevictBut unevictForReg makeRoom slotScratch evictLast reuse orScratch getScratchReg moveEdits doMove carryOne carry remats rematWithScratch writerFrom writersOf writers cycleMoveSources divert lead undivert undivertAll close visit visitUnlessMemory start moves destinations add entryConditions patchConditions run resolveSorted resolveFrom resolve orderTotal countsFit bankFits regFits classFits outsideLimits listedTwice unequalWidths foreignMember sharedMemory unfitClass targetRefusal twice three twoBanks isSetting function.countsFit function.valueFits function.foreignClass function.valuesRefusal function.functionRefusal
 two-kept =
     record {
       target = refl;
@@ -131,7 +131,7 @@ two-kept =
     }
 
 pub brought-back : BroughtBack
-unfolding any all has meets lastOr indices spillslotSize topLevelClass stackToStackClass regMemory bankForReg regUnits bankForClass classSlots classMembers allocationOrder firstOf valueBank rematCost rematClass updated andThen each find firstAt filter acquireFrom unevict unevictBut unevictForReg makeRoom slotScratch evictLast reuse orScratch getScratchReg moveEdits doMove carryOne carry remats rematWithScratch writerFrom writersOf writers cycleMoveSources divert lead undivert undivertAll close visit visitUnlessMemory start moves destinations add entryConditions patchConditions run resolveSorted resolveFrom resolve orderTotal countsFit bankFits regFits classFits outsideLimits listedTwice unequalWidths foreignMember sharedMemory unfitClass targetRefusal twice threeBanks onNewer onBoth onEach members isSetting function.countsFit function.valueFits function.foreignClass function.valuesRefusal function.functionRefusal
+unfolding anyIn allIn has meets lastOr indices spillslotSize topLevelClass stackToStackClass regMemory bankForReg regUnits bankForClass classSlots classMembers allocationOrder firstOf valueBank rematCost rematClass updated andThen each find firstAt filter acquireFrom unevict unevictBut unevictForReg makeRoom slotScratch evictLast reuse orScratch getScratchReg moveEdits doMove carryOne carry remats rematWithScratch writerFrom writersOf writers cycleMoveSources divert lead undivert undivertAll close visit visitUnlessMemory start moves destinations add entryConditions patchConditions run resolveSorted resolveFrom resolve orderTotal countsFit bankFits regFits classFits outsideLimits listedTwice unequalWidths foreignMember sharedMemory unfitClass targetRefusal twice threeBanks onNewer onBoth onEach members isSetting function.countsFit function.valueFits function.foreignClass function.valuesRefusal function.functionRefusal
 brought-back =
     record {
       targets = (refl, refl, refl, refl, refl);

@@ -5,7 +5,6 @@ pub mod Counts
 pub mod Depth
 pub mod Position
 pub mod Patch
-pub mod OneKept
 pub mod Evictions
 pub mod Sorted
 pub mod Trials

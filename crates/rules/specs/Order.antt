@@ -5,7 +5,7 @@ use mathlib.Core.List.{List, [], _∷_, _++_, reverse}
 use mathlib.Core.Option.{Option, none, some}
 use lib.Dec.{eqb}
 use lib.ListN.{length, getD}
-use Rattle.entity.specs.Logic.{pick, and, or, no, any, has, indices}
+use Rattle.entity.specs.Logic.{pick, and, or, no, anyIn, has, indices}
 use Rattle.entity.specs.Place.{Place, reg, slot}
 use Rattle.reginfo.specs.RegInfo.{RegInfo, bankForClass, spillslotSize, topLevelClass, placeUnits, isMemory}
 use Rattle.function.specs.Function.{Function, valueBank, rematClass}
@@ -128,7 +128,7 @@ module _ (t : RegInfo) (f : Function) where
 
     -- a source unit of a kept move
     unfoldable pub cycleMoveSources : ℕ → Bool
-    cycleMoveSources u = any (λ m. has u (unitsOfReg t f (m .source))) ms
+    cycleMoveSources u = anyIn (λ m. has u (unitsOfReg t f (m .source))) ms
 
     -- the move i emitted from a place
     abbrev pub emit : ℕ → Place → ParallelMoves → Option ParallelMoves
@@ -150,7 +150,7 @@ module _ (t : RegInfo) (f : Function) where
     -- source [..]. The move is emitted, from the scratch if diverted."
     unfoldable pub lead : ℕ → ParallelMoves → Option ParallelMoves
     lead i w =
-        pick (any (λ m. isPending (w .state m)) (writers i))
+        pick (anyIn (λ m. isPending (w .state m)) (writers i))
         (pick (eqb (w .diverted .refCount (value i)) 0) (divert i (carried i w)) (emit i (w .scratch (value i)) (carried i w)))
         (emit i (source i) w)
 

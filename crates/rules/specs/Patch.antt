@@ -5,10 +5,10 @@ use mathlib.Core.List.{List, [], _∷_, _++_, map}
 use mathlib.Core.Option.{Option, none, some}
 use lib.Dec.{eqb, ltb, leb}
 use lib.ListN.{length}
-use Rattle.entity.specs.Logic.{pick, and, or, no, any, has, meets}
+use Rattle.entity.specs.Logic.{pick, and, or, no, anyIn, has, meets}
 use Rattle.entity.specs.Place.{Place, reg, samePlace, names}
 use Rattle.reginfo.specs.RegInfo.{RegInfo, numRegs, lastInOrder, includesSpillslots, overlap, isMemory, inClass, ofBank}
-use Rattle.reginfo.specs.Refused.{Condition, cond, firstOf}
+use Rattle.reginfo.specs.Refused.{Condition, refusedIf, firstOf}
 use Rattle.function.specs.Function.{Function, numValues, valueBank, rematCost, rematClass, canRematerialize}
 use Rattle.rules.specs.Edit.{Edit, andThen, each}
 use Rattle.rules.specs.Scratch.{Cache, ScratchAllocator, unitsOfReg}
@@ -65,7 +65,7 @@ cacheAfter c (resolved es c′ n) = c′
 
 -- 02 h, 21: "has a source that overlaps an unequal source of an earlier kept move"
 abbrev pub overlapsSource : RegInfo → Sorted → Place → Bool
-overlapsSource t a s = any (λ (m : KeptMove). and (overlap t (m .source) s) (no (samePlace (m .source) s))) (a .moves)
+overlapsSource t a s = anyIn (λ (m : KeptMove). and (overlap t (m .source) s) (no (samePlace (m .source) s))) (a .moves)
 
 module _ (t : RegInfo) (f : Function) where
   -- "A rebuild whose destination is not in the class needs a scratch."
@@ -82,7 +82,7 @@ module _ (t : RegInfo) (f : Function) where
 
   -- "A move equal to a kept one in source, destination and value is dropped."
   abbrev pub dropped : Sorted → Place → Place → ℕ → Bool
-  dropped a s d v = and (no (becomesRemat s d v)) (any (sameMove s d v) (a .moves))
+  dropped a s d v = and (no (becomesRemat s d v)) (anyIn (sameMove s d v) (a .moves))
 
   abbrev pub addRemat : Bool → Place → ℕ → Sorted → Sorted
   addRemat b d v a =
@@ -115,7 +115,7 @@ module _ (t : RegInfo) (f : Function) where
 
   -- 12: "the destination overlaps that of an earlier entry, kept or rebuild"
   abbrev pub overlapsEarlier : Sorted → Place → Bool
-  overlapsEarlier a d = any (λ p. overlap t p d) (destinations a)
+  overlapsEarlier a d = anyIn (λ p. overlap t p d) (destinations a)
 
   -- 02 h, 21: "a move entry that would be kept": neither rebuilt nor dropped
   abbrev pub wouldBeKept : Sorted → Place → Place → ℕ → Bool
@@ -124,32 +124,32 @@ module _ (t : RegInfo) (f : Function) where
   -- "each entry 15, 2, 9, 10, 11, 12"; 02 h: 21 "straight after 12"
   unfoldable pub entryConditions : Sorted → Entry → List Condition
   entryConditions a (move s d v) =
-      cond 15 (leb 128 (a .count))
-      ∷ cond 2 (or (no (namesPlace s)) (or (no (namesPlace d)) (no (ltb v (numValues f)))))
-      ∷ cond 9 (or (no (ofBank t (valueBank f v) s)) (no (ofBank t (valueBank f v) d)))
-      ∷ cond 10 (samePlace s d)
-      ∷ cond 12 (and (overlapsEarlier a d) (no (dropped a s d v)))
-      ∷ cond 21 (and (wouldBeKept a s d v) (overlapsSource t a s))
+      refusedIf 15 (leb 128 (a .count))
+      ∷ refusedIf 2 (or (no (namesPlace s)) (or (no (namesPlace d)) (no (ltb v (numValues f)))))
+      ∷ refusedIf 9 (or (no (ofBank t (valueBank f v) s)) (no (ofBank t (valueBank f v) d)))
+      ∷ refusedIf 10 (samePlace s d)
+      ∷ refusedIf 12 (and (overlapsEarlier a d) (no (dropped a s d v)))
+      ∷ refusedIf 21 (and (wouldBeKept a s d v) (overlapsSource t a s))
       ∷ []
   entryConditions a (remat d v) =
-      cond 15 (leb 128 (a .count))
-      ∷ cond 2 (or (no (namesPlace d)) (no (ltb v (numValues f))))
-      ∷ cond 9 (no (ofBank t (valueBank f v) d))
-      ∷ cond 11 (no (canRematerialize f v))
-      ∷ cond 12 (overlapsEarlier a d)
+      refusedIf 15 (leb 128 (a .count))
+      ∷ refusedIf 2 (or (no (namesPlace d)) (no (ltb v (numValues f))))
+      ∷ refusedIf 9 (no (ofBank t (valueBank f v) d))
+      ∷ refusedIf 11 (no (canRematerialize f v))
+      ∷ refusedIf 12 (overlapsEarlier a d)
       ∷ []
 
   -- 13: "a free unit is a destination's"
   abbrev pub freeDestination : Patch → Sorted → Bool
-  freeDestination p a = any (λ d. meets (unitsOfReg t f d) (p .free)) (destinations a)
+  freeDestination p a = anyIn (λ d. meets (unitsOfReg t f d) (p .free)) (destinations a)
 
   -- 14: "a rebuild with scratch, class without slots, whose order's last overlaps the destination"
   abbrev pub lastOverlaps : Sorted → Bool
-  lastOverlaps a = any (λ (r : Remat). and (no (includesSpillslots t (rematClass f (r .value)))) (overlap t (reg (lastInOrder t (rematClass f (r .value)))) (r .dest))) (a .rematsWithScratch)
+  lastOverlaps a = anyIn (λ (r : Remat). and (no (includesSpillslots t (rematClass f (r .value)))) (overlap t (reg (lastInOrder t (rematClass f (r .value)))) (r .dest))) (a .rematsWithScratch)
 
   -- "then 13, 14, 16, 17"; 17 is given by the run itself
   unfoldable pub patchConditions : Patch → ℕ → Sorted → List Condition
-  patchConditions p room a = cond 13 (freeDestination p a) ∷ cond 14 (lastOverlaps a) ∷ cond 16 (ltb room (bound a)) ∷ []
+  patchConditions p room a = refusedIf 13 (freeDestination p a) ∷ refusedIf 14 (lastOverlaps a) ∷ refusedIf 16 (ltb room (bound a)) ∷ []
 
   -- "rebuilds without scratch, then those with, then two passes over the kept moves"; every unit that is free is available
   unfoldable pub run : Patch → Sorted → Cache → Option ScratchAllocator

@@ -6,7 +6,7 @@ use mathlib.Core.List.{List, [], _∷_, _++_}
 use mathlib.Core.Option.{Option, none, some}
 use mathlib.Core.Logic.{_↔_, _⊎_}
 use Rattle.reginfo.specs.RegInfo.{RegInfo}
-use Rattle.reginfo.specs.Refused.{Condition, cond}
+use Rattle.reginfo.specs.Refused.{Condition, refusedIf}
 use Rattle.reginfo.specs.Given.{Given, NoneHolds}
 use Rattle.function.specs.Function.{Function}
 use Rattle.rules.specs.Edit.{Edit}
@@ -26,7 +26,7 @@ module _ (t : RegInfo) (f : Function) where
 
   -- all conditions of a call in their order: the entries', "then 13, 14, 16, 17"
   unfoldable pub callConditions : Patch → ℕ → Cache → List Condition
-  callConditions p room c = entriesConditions (p .entries) nothingSorted ++ (patchConditions t f p room (sorted t f p) ++ (cond 17 (ranOut (run t f p (sorted t f p) c)) ∷ []))
+  callConditions p room c = entriesConditions (p .entries) nothingSorted ++ (patchConditions t f p room (sorted t f p) ++ (refusedIf 17 (ranOut (run t f p (sorted t f p) c)) ∷ []))
 
   pub record Refusals (p : Patch) (room : ℕ) (c : Cache) : Type 0 where
     -- refused with n: n's condition holds and none earlier does

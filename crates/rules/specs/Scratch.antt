@@ -5,7 +5,7 @@ use mathlib.Core.List.{List, [], _∷_}
 use mathlib.Core.Option.{Option, none, some}
 use lib.Dec.{ltb}
 use lib.ListN.{take, drop}
-use Rattle.entity.specs.Logic.{pick, and, or, no, all, has}
+use Rattle.entity.specs.Logic.{pick, and, or, no, allIn, has}
 use Rattle.entity.specs.Place.{Place, reg, slot}
 use Rattle.reginfo.specs.RegInfo.{RegInfo, regUnits, allocationOrder, classMembers, includesSpillslots, lastInOrder, spillslotSize, stackToStackClass, overlap, isMemory}
 use Rattle.function.specs.Function.{Function}
@@ -119,7 +119,7 @@ module _ (t : RegInfo) (f : Function) where
 
   -- "whose units are all available (none of them a source unit of a kept move, if asked for a cycle)": `barred` are those source units
   abbrev pub usable : (ℕ → Bool) → ScratchAllocator → ℕ → Bool
-  usable barred k r = all (λ u. and (k .available u) (no (barred u))) (regUnits t r)
+  usable barred k r = allIn (λ u. and (k .available u) (no (barred u))) (regUnits t r)
 
   -- "an emergency slot if the class includes slots"
   unfoldable pub slotScratch : ℕ → ℕ → ScratchAllocator → Option Found

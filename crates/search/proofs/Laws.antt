@@ -6,7 +6,7 @@ use mathlib.Core.List.{List, [], _∷_}
 use mathlib.Core.Option.{none, some}
 use native.Mathlib.Omega.{arith}
 use lib.ListN.{getD, length, drop, drop-of-length-le}
-use Rattle.entity.specs.Logic.{pick, and, no, all, has}
+use Rattle.entity.specs.Logic.{pick, and, no, allIn, has}
 use Rattle.entity.specs.Place.{Place}
 use Rattle.entity.proofs.Laws.{drop-step, has-getD}
 use Rattle.reginfo.specs.RegInfo.{RegInfo, regUnits}
@@ -22,12 +22,12 @@ unit-below t r j u known h e = rw e (known .low (getD (regUnits t r) j 0) (has-g
 
 -- the units from j on are usable
 abbrev pub usableFrom : RegInfo → List Bool → List Bool → Bool → ℕ → ℕ → Bool
-usableFrom t available sources cycle r j = all (λ u. and (setOf available u) (no (barredBy cycle sources u))) (drop j (regUnits t r))
+usableFrom t available sources cycle r j = allIn (λ u. and (setOf available u) (no (barredBy cycle sources u))) (drop j (regUnits t r))
 
 pub usable-step : (t : RegInfo) (available sources : List Bool) (cycle : Bool) (r j u : ℕ) (a b : Bool) → j < length (regUnits t r) → u ≡ getD (regUnits t r) j 0 → a ≡ setOf available u → b ≡ barredBy cycle sources u → usableFrom t available sources cycle r j ≡ and (and a (no b)) (usableFrom t available sources cycle r (j + 1))
-unfolding all
+unfolding allIn
 usable-step t available sources cycle r j u a b h e p q =
-    ap (all (λ v. and (setOf available v) (no (barredBy cycle sources v)))) (drop-step (regUnits t r) j 0 h) ∙ rw (p, q, e)
+    ap (allIn (λ v. and (setOf available v) (no (barredBy cycle sources v)))) (drop-step (regUnits t r) j 0 h) ∙ rw (p, q, e)
 
 -- in a walk over an order, at i: what a search finds, and where, is what it finds from here on
 pub record Searching (p : ℕ → Bool) (l : List ℕ) (i : ℕ) : Type 0 where

@@ -6,7 +6,7 @@ use mathlib.Core.Bool.{Bool}
 use mathlib.Core.List.{List, []}
 use mathlib.Core.Option.{Option, none, some}
 use lib.ListN.{length}
-use Rattle.entity.specs.Logic.{and, or, no, all, has}
+use Rattle.entity.specs.Logic.{and, or, no, allIn, has}
 use Rattle.entity.specs.Place.{Place, reg, slot}
 use Rattle.reginfo.specs.RegInfo.{RegInfo, regUnits}
 use Rattle.small_set.specs.Set.{setOf}
@@ -34,7 +34,7 @@ barredBy cycle sources u = and cycle (setOf sources u)
 
 -- all units of a register are available, and none is barred
 abbrev pub usableIn : RegInfo → List Bool → List Bool → Bool → ℕ → Bool
-usableIn t available sources cycle r = all (λ u. and (setOf available u) (no (barredBy cycle sources u))) (regUnits t r)
+usableIn t available sources cycle r = allIn (λ u. and (setOf available u) (no (barredBy cycle sources u))) (regUnits t r)
 
 -- the register units of a place; a slot has none
 abbrev pub unitsOf : RegInfo → Place → List ℕ

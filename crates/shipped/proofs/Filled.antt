@@ -9,11 +9,11 @@ use lib.Dec.{eqb, ltb, leb}
 use lib.ListN.{getD, length, set, length-set}
 use lib.Seq.{getD-set-same, getD-set-other}
 use borrow.Author.Tests.{eqb-true, eqb-false, lt-ltb, ltb-true, leb-true}
-use Rattle.entity.specs.Logic.{pick, and, all, indices, cells}
+use Rattle.entity.specs.Logic.{pick, and, allIn, indices, cells}
 use Rattle.reginfo.specs.RegInfo.{Bank, Reg, Class, RegInfo}
 use Rattle.reginfo.specs.Table.{bankAt, regAt, classAt, regInfoOf, Indexed}
 use Rattle.shipped.specs.Shipped.{shippedUnits, bankOf, bankRegs, shippedBank, shippedReg, shippedClass, shipped}
-use Rattle.shipped.specs.Writes.{Write, written, rising, regWrites, regsWrites, classWrites, bankWrites, shippedWrites}
+use Rattle.shipped.specs.Writes.{Write, written, rising, copied, regWrites, regsWrites, classWrites, bankWrites, shippedWrites}
 use Rattle.shipped.proofs.Rule.{alike}
 
 -- what a cell that held d holds after the writes
@@ -22,7 +22,7 @@ look d [] i = d
 look d (w ∷ l) i = look (pick (eqb i (w .cell)) (w .word) d) l i
 
 inside : List Write → Bool
-inside l = all (λ w. ltb (w .cell) 107520) l
+inside l = allIn (λ w. ltb (w .cell) 107520) l
 
 getD-set : (t : List ℕ) (j x i : ℕ) → j < length t → getD (set t j x) i 0 ≡ pick (eqb i j) x (getD t i 0)
 getD-set t j x i h = go (eqb i j) refl
@@ -36,7 +36,7 @@ and-both true b e = (refl, e)
 and-both false b e = absurd (let z : _≡_ {A = ℕ} 0 1 = cc in omega arith)
 
 looked : (t : List ℕ) (l : List Write) → length t ≡ 107520 → inside l ≡ true → (i : ℕ) → getD (written t l) i 0 ≡ look (getD t i 0) l i
-unfolding written look inside all
+unfolding written look inside allIn
 looked t [] s e i = refl
 looked t (w ∷ l) s e i =
     let p = and-both (ltb (w .cell) 107520) (inside l) e in
@@ -90,7 +90,7 @@ module _ (t : List ℕ) (s : length t ≡ 107520) where
   now-held i = look (getD t i 0) shippedWrites i
 
   all-inside : inside shippedWrites ≡ true
-  unfolding inside all shippedWrites bankWrites classWrites regsWrites regWrites rising shippedUnits indices
+  unfolding inside allIn shippedWrites bankWrites classWrites regsWrites regWrites rising copied shippedUnits indices
   all-inside = refl
 
   filled-cell : (i : ℕ) → getD (written t shippedWrites) i 0 ≡ now-held i
@@ -98,7 +98,7 @@ module _ (t : List ℕ) (s : length t ≡ 107520) where
   filled-cell i = looked t shippedWrites s all-inside i
 
   computed : infoBy now-held ≡ shipped
-  unfolding now-held look infoBy bankBy regBy classBy cellsBy shippedWrites bankWrites classWrites regsWrites regWrites rising shippedUnits indices bankOf bankRegs shippedBank shippedReg shippedClass shipped
+  unfolding now-held look infoBy bankBy regBy classBy cellsBy shippedWrites bankWrites classWrites regsWrites regWrites rising copied shippedUnits indices bankOf bankRegs shippedBank shippedReg shippedClass shipped
   computed = refl
 
   pub filled-is : regInfoOf (written t shippedWrites) ≡ shipped
@@ -109,15 +109,15 @@ module _ (t : List ℕ) (s : length t ≡ 107520) where
   seat k = pick (ltb (k % 32) (now-held (8194 + k / 32 * 8))) (now-held (74752 + k / 32 * 512 + now-held (9216 + k / 32 * 512 + k % 32))) (k % 32)
 
   seats : map seat (indices 0 192) ≡ map (λ (k : ℕ). k % 32) (indices 0 192)
-  unfolding seat now-held look shippedWrites bankWrites classWrites regsWrites regWrites rising shippedUnits indices
+  unfolding seat now-held look shippedWrites bankWrites classWrites regsWrites regWrites rising copied shippedUnits indices
   seats = refl
 
   classes-six : now-held 8739 ≡ 6
-  unfolding now-held look shippedWrites bankWrites classWrites regsWrites regWrites rising shippedUnits indices
+  unfolding now-held look shippedWrites bankWrites classWrites regsWrites regWrites rising copied shippedUnits indices
   classes-six = refl
 
   members-few : (c : ℕ) → c < 6 → now-held (8194 + c * 8) ≤ 32
-  unfolding now-held look shippedWrites bankWrites classWrites regsWrites regWrites rising shippedUnits indices
+  unfolding now-held look shippedWrites bankWrites classWrites regsWrites regWrites rising copied shippedUnits indices
   members-few c h = leb-true _ _ (alike (λ (k : ℕ). leb (now-held (8194 + k * 8)) 32) (λ (k : ℕ). true) true 6 c refl h)
 
   seated : (c p : ℕ) → c < 6 → p < now-held (8194 + c * 8) → now-held (74752 + c * 512 + now-held (9216 + c * 512 + p)) ≡ p

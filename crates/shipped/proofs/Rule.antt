@@ -54,14 +54,6 @@ module _ (r : ℕ) (h : r < 56) where
   unfolding startOf shippedUnits indices
   list-inside = leb-true _ _ (alike (λ (q : ℕ). leb (startOf q + length (shippedUnits q)) 96) (λ (q : ℕ). true) true 56 r refl h)
 
-  pub some-unit : 0 < length (shippedUnits r)
-  unfolding shippedUnits indices
-  some-unit = ltb-true _ _ (alike (λ (q : ℕ). ltb 0 (length (shippedUnits q))) (λ (q : ℕ). true) true 56 r refl h)
-
-  pub unit-inside : getD (shippedUnits r) 0 0 + length (shippedUnits r) ≤ 32
-  unfolding shippedUnits indices
-  unit-inside = leb-true _ _ (alike (λ (q : ℕ). leb (getD (shippedUnits q) 0 0 + length (shippedUnits q)) 32) (λ (q : ℕ). true) true 56 r refl h)
-
   pub unit-is : (j : ℕ) → j < length (shippedUnits r) → getD table (startOf r + j) 0 ≡ getD (shippedUnits r) j 0
   unfolding unitList
   unit-is j l = sym (getD-cells table (startOf r) (length (shippedUnits r)) j l) ∙ ap (λ (x : List ℕ). getD x j 0) (list-is r h)

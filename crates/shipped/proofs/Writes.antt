@@ -1,10 +1,11 @@
 -- What a table holds after writes.
-use Prim.Native.Nat.{ℕ, suc, _+_, _-_, _*_, _/_, _%_, _<_}
+use Prim.Native.Nat.{ℕ, suc, _+_, _-_, _*_, _/_, _%_, _<_, _≤_}
 use mathlib.Core.Path.{_≡_, refl, ap, _∙_}
 use mathlib.Core.List.{List, [], _∷_, _++_}
 use native.Mathlib.Omega.{arith}
-use lib.ListN.{set}
-use Rattle.shipped.specs.Writes.{Write, written, rising, regWrites, regsWrites, classWrites, bankWrites, shippedWrites}
+use lib.ListN.{length, getD, set, drop, drop-of-length-le}
+use Rattle.entity.proofs.Laws.{drop-step}
+use Rattle.shipped.specs.Writes.{Write, written, rising, copied, regWrites, regsWrites, classWrites, bankWrites, shippedWrites}
 
 pub written-append : (t : List ℕ) (a b : List Write) → written t (a ++ b) ≡ written (written t a) b
 unfolding written
@@ -15,6 +16,15 @@ written-append t (w ∷ a) b = written-append (set t (w .cell) (w .word)) a b
 pub rising-step : (t : List ℕ) (i x n : ℕ) → 0 < n → written t (rising i x n) ≡ written (set t i x) (rising (i + 1) (x + 1) (n - 1))
 unfolding written rising
 rising-step t i x n h = let l : n ≡ suc (n - 1) = omega arith in ap (λ (m : ℕ). written t (rising i x m)) l
+
+-- one number of a list more
+pub copied-step : (t : List ℕ) (i j : ℕ) (l : List ℕ) → j < length l → written t (copied i (drop j l)) ≡ written (set t i (getD l j 0)) (copied (i + 1) (drop (j + 1) l))
+unfolding written copied
+copied-step t i j l h = rw (drop-step l j 0 h)
+
+pub copied-none : (t : List ℕ) (i j : ℕ) (l : List ℕ) → length l ≤ j → written t (copied i (drop j l)) ≡ t
+unfolding written copied
+copied-none t i j l h = rw (drop-of-length-le l {i = j} h)
 
 pub regs-step : (t : List ℕ) (r n : ℕ) → 0 < n → written t (regsWrites r n) ≡ written (written t (regWrites r)) (regsWrites (r + 1) (n - 1))
 unfolding regsWrites

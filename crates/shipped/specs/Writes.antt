@@ -1,7 +1,7 @@
 -- The cells that the shipped target fills in a table, in order.
 use Prim.Native.Nat.{ℕ, zero, suc, _+_, _-_, _*_, _/_, _%_}
 use mathlib.Core.List.{List, [], _∷_, _++_}
-use lib.ListN.{length, getD, set}
+use lib.ListN.{length, set}
 use Rattle.shipped.specs.Shipped.{shippedUnits}
 
 pub record Write : Type 0 where
@@ -20,9 +20,15 @@ unfoldable pub rising : ℕ → ℕ → ℕ → List Write
 rising i x zero = []
 rising i x (suc n) = to i x ∷ rising (i + 1) (x + 1) n
 
+-- the numbers of a list, from cell i on
+unfoldable pub copied : ℕ → List ℕ → List Write
+copied i [] = []
+copied i (x ∷ l) = to i x ∷ copied (i + 1) l
+
 -- register r: not memory, its bank by its unit count, its units
 unfoldable pub regWrites : ℕ → List Write
-regWrites r = to (r * 16) 0 ∷ to (1 + r * 16) (length (shippedUnits r) / 2) ∷ to (2 + r * 16) (length (shippedUnits r)) ∷ rising (8 + r * 16) (getD (shippedUnits r) 0 0) (length (shippedUnits r))
+regWrites r =
+    to (r * 16) 0 ∷ to (1 + r * 16) (length (shippedUnits r) / 2) ∷ to (2 + r * 16) (length (shippedUnits r)) ∷ copied (8 + r * 16) (shippedUnits r)
 
 -- the n registers from r on
 unfoldable pub regsWrites : ℕ → ℕ → List Write

@@ -12,7 +12,7 @@ ghost use lib.ListN.{length, getD};
 ghost use Rattle.reginfo.specs.Table.{regInfoOf, Indexed};
 ghost use Rattle.shipped.specs.Shipped.{shippedUnits, shippedRow, shipped};
 ghost use Rattle.shipped.specs.Table.{table, startOf};
-ghost use Rattle.shipped.specs.Writes.{written, rising, regWrites, regsWrites, classWrites, bankWrites};
+ghost use Rattle.shipped.specs.Writes.{copied, written, rising, regWrites, regsWrites, classWrites, bankWrites};
 
 // The unit lists of registers 0 to 31, 32 to 47 and 48 to 55; then for each of 32 units its three registers.
 const TABLE: [u16; 192] = [
@@ -284,18 +284,30 @@ fn put_rising(t: &mut RegInfo, at: usize, x: u16, n: u16)
     }
 }
 
+// The n units of a register, from a cell on, as the table lists them.
+fn put_units(t: &mut RegInfo, at: usize, r: PhysReg, n: usize)
+    requires { ⌜ (r .0 < 56) × (n ≡ length (shippedUnits (r .0))) × (at + n ≤ 107520) ⌝ }
+    ensures { λ _. ⌜ now (t .exit) ≡ written (now (t .entry)) (copied at (shippedUnits (r .0))) ⌝ }
+{
+    let mut j: usize = 0;
+    while j < n {
+        t[at + j] = reg_unit(r, j).0;
+        j += 1;
+    }
+}
+
 // A register, of the bank that its unit count says.
 fn put_reg(t: &mut RegInfo, r: PhysReg)
     requires { ⌜ r .0 < 56 ⌝ }
     ensures { λ _. ⌜ now (t .exit) ≡ written (now (t .entry)) (regWrites (r .0)) ⌝ }
 {
     let i = wide(r.0);
-    let n = narrow(num_reg_units(r));
-    let first = reg_unit(r, 0);
+    let count = num_reg_units(r);
+    let n = narrow(count);
     t[i * 16] = 0;
     t[1 + i * 16] = n / 2;
     t[2 + i * 16] = n;
-    put_rising(t, 8 + i * 16, first.0, n);
+    put_units(t, 8 + i * 16, r, count);
 }
 
 fn put_regs(t: &mut RegInfo)

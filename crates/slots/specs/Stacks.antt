@@ -46,7 +46,7 @@ stampOf cache = getD cache 33 0 + 65536 * (getD cache 34 0 + 65536 * (getD cache
 unfoldable pub raised : ℕ → ℕ
 raised n = (n + 1) % 18446744073709551616
 
--- the stamp after so many patches, on a cache that started with another: "stamp ≡ start + count", modulo 2^64
+-- the stamp after so many patches, on a cache that started with another: start and count together, modulo 2^64
 unfoldable pub stampAfter : (start count : ℕ) → ℕ
 stampAfter start count = (start + count) % 18446744073709551616
 

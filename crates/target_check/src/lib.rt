@@ -27,7 +27,7 @@ ghost use lib.ListN.{length};
 ghost use Rattle.entity.specs.Logic.{has, twice, cells};
 ghost use Rattle.reginfo.specs.RegInfo.{RegInfo, numRegs, numClasses, regUnits, classMembers, allocationOrder};
 ghost use Rattle.reginfo.specs.Table.{regInfoOf, IndexedAt, Indexed};
-ghost use Rattle.reginfo.specs.Refused.{some-below, cond, firstOf, targetRefusal, outsideLimits, listedTwice, unequalWidths, foreignMember, sharedMemory, unfitClass};
+ghost use Rattle.reginfo.specs.Refused.{some-below, refusedIf, firstOf, targetRefusal, outsideLimits, listedTwice, unequalWidths, foreignMember, sharedMemory, unfitClass};
 ghost use Rattle.target_check.specs.Checked.{numberOf, SameBelow, twiceIn};
 ghost use Rattle.target_check.specs.declared.TargetCheck.the-variants.{Accepted};
 
@@ -175,7 +175,7 @@ fn listed_twice(t: &mut RegInfo) -> bool
 // The first of the rules 4 to 7 that is broken.
 fn broken_rule(t: &RegInfo) -> TargetCheck
     requires { ⌜ (outsideLimits (regInfoOf (now t)) ≡ false) × Indexed (now t) ⌝ }
-    ensures { λ r. ⌜ numberOf r ≡ firstOf (cond 4 (unequalWidths (regInfoOf (now (t .entry)))) ∷ cond 5 (foreignMember (regInfoOf (now (t .entry)))) ∷ cond 6 (sharedMemory (regInfoOf (now (t .entry)))) ∷ cond 7 (unfitClass (regInfoOf (now (t .entry)))) ∷ []) ⌝ }
+    ensures { λ r. ⌜ numberOf r ≡ firstOf (refusedIf 4 (unequalWidths (regInfoOf (now (t .entry)))) ∷ refusedIf 5 (foreignMember (regInfoOf (now (t .entry)))) ∷ refusedIf 6 (sharedMemory (regInfoOf (now (t .entry)))) ∷ refusedIf 7 (unfitClass (regInfoOf (now (t .entry)))) ∷ []) ⌝ }
 {
     if unequal_widths(t) {
         return TargetCheck::UnequalWidths;
@@ -193,7 +193,7 @@ fn broken_rule(t: &RegInfo) -> TargetCheck
 }
 
 // 01: the target of a lent table is accepted, or refused with the least number whose rule it breaks.
-// Only the index of members is written, and of an accepted target it is right.
+// Only the index of members is written, and of an accepted target it is right; of a refused one it holds anything.
 pub fn check(t: &mut RegInfo) -> TargetCheck
     ensures number { λ r. ⌜ numberOf r ≡ targetRefusal (regInfoOf (now (t .entry))) ⌝ }
     ensures kept { λ r. ⌜ SameBelow 74752 (now (t .entry)) (now (t .exit)) ⌝ }

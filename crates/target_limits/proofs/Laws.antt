@@ -5,7 +5,7 @@ use mathlib.Core.Bool.{Bool, true, false}
 use mathlib.Core.List.{List, _∷_}
 use borrow.Author.Tests.{eq-eqb, ne-eqb}
 use lib.ListN.{length}
-use Rattle.entity.specs.Logic.{any, all, has, twice, cells}
+use Rattle.entity.specs.Logic.{anyIn, allIn, has, twice, cells}
 use Rattle.entity.proofs.Laws.{and-true}
 use Rattle.reginfo.specs.RegInfo.{numRegs, numClasses, regUnits, classMembers, allocationOrder}
 use Rattle.reginfo.specs.Table.{regInfoOf}
@@ -13,30 +13,30 @@ use Rattle.reginfo.proofs.Table.{units-are, units-length, members-are, members-
 
 module _ {A : Type 0} (p : A → Bool) where
   -- the first element passes the test, or does not
-  pub any-here : {l m : List A} {x : A} → l ≡ x ∷ m → p x ≡ true → any p l ≡ true
-  unfolding any
+  pub any-here : {l m : List A} {x : A} → l ≡ x ∷ m → p x ≡ true → anyIn p l ≡ true
+  unfolding anyIn
   any-here e h = rw (e, h)
 
-  pub any-on : {l m : List A} {x : A} → l ≡ x ∷ m → p x ≡ false → any p l ≡ any p m
-  unfolding any
+  pub any-on : {l m : List A} {x : A} → l ≡ x ∷ m → p x ≡ false → anyIn p l ≡ anyIn p m
+  unfolding anyIn
   any-on e h = rw (e, h)
 
-  pub all-here : {l m : List A} {x : A} → l ≡ x ∷ m → p x ≡ false → all p l ≡ false
-  unfolding all
+  pub all-here : {l m : List A} {x : A} → l ≡ x ∷ m → p x ≡ false → allIn p l ≡ false
+  unfolding allIn
   all-here e h = rw (e, h)
 
-  pub all-on : {l m : List A} {x : A} → l ≡ x ∷ m → p x ≡ true → all p l ≡ all p m
-  unfolding all
+  pub all-on : {l m : List A} {x : A} → l ≡ x ∷ m → p x ≡ true → allIn p l ≡ allIn p m
+  unfolding allIn
   all-on e h = rw (e, h)
 
   -- every element passes the test, so the first and the others do
-  pub all-first : {l m : List A} {x : A} → l ≡ x ∷ m → all p l ≡ true → p x ≡ true
-  unfolding all
-  all-first {l} {m} {x} e h = and-true (p x) (all p m) (rw e at h) .0
+  pub all-first : {l m : List A} {x : A} → l ≡ x ∷ m → allIn p l ≡ true → p x ≡ true
+  unfolding allIn
+  all-first {l} {m} {x} e h = and-true (p x) (allIn p m) (rw e at h) .0
 
-  pub all-rest : {l m : List A} {x : A} → l ≡ x ∷ m → all p l ≡ true → all p m ≡ true
-  unfolding all
-  all-rest {l} {m} {x} e h = and-true (p x) (all p m) (rw e at h) .1
+  pub all-rest : {l m : List A} {x : A} → l ≡ x ∷ m → allIn p l ≡ true → allIn p m ≡ true
+  unfolding allIn
+  all-rest {l} {m} {x} e h = and-true (p x) (allIn p m) (rw e at h) .1
 
 -- x is listed first, or not
 pub has-here : {x y : ℕ} {l m : List ℕ} → l ≡ y ∷ m → x ≡ y → has x l ≡ true

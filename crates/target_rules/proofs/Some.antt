@@ -3,7 +3,7 @@ use Prim.Native.Nat.{ℕ, zero, suc, _+_, _<_}
 use mathlib.Core.Path.{_≡_, refl, sym, ap, _∙_}
 use mathlib.Core.Bool.{Bool, true, false, true≢false}
 use native.Mathlib.Omega.{arith}
-use Rattle.entity.specs.Logic.{any, indices}
+use Rattle.entity.specs.Logic.{anyIn, indices}
 use Rattle.entity.proofs.Laws.{any-below}
 use Rattle.reginfo.specs.Refused.{some-below}
 
@@ -14,8 +14,8 @@ some-at p n i h e = go (some-below n p) refl
     go true q = q
     go false q = absurd (true≢false (sym e ∙ any-below p n i q h))
 
-none-from : (p : ℕ → Bool) (a n : ℕ) → ((i : ℕ) → i < n → p (a + i) ≡ false) → any p (indices a n) ≡ false
-unfolding any indices
+none-from : (p : ℕ → Bool) (a n : ℕ) → ((i : ℕ) → i < n → p (a + i) ≡ false) → anyIn p (indices a n) ≡ false
+unfolding anyIn indices
 none-from p a zero f = refl
 none-from p a (suc n) f =
     let z : a ≡ a + 0 = omega arith in

@@ -26,7 +26,7 @@ ghost use mathlib.Core.Path.{_≡_};
 ghost use mathlib.Core.Bool.{true, false};
 ghost use Prim.Native.Nat.{_<_, _≤_, _+_};
 ghost use lib.ListN.{length};
-ghost use Rattle.entity.specs.Logic.{any, cells};
+ghost use Rattle.entity.specs.Logic.{anyIn, cells};
 ghost use Rattle.reginfo.specs.RegInfo.{numBanks, numRegs, numClasses, bankForClass, classMembers, allocationOrder, isMemoryReg};
 ghost use Rattle.reginfo.specs.Table.{regInfoOf, Indexed};
 ghost use Rattle.reginfo.specs.Refused.{some-below, allBelow, outsideLimits, unequalWidths, foreignMember, sharedMemory, unfitClass};
@@ -74,7 +74,7 @@ pub fn unequal_widths(t: &RegInfo) -> bool
 // 5: a class's members are of its bank. Of the registers at the n cells from `at` on, one is not.
 fn regs_foreign(t: &RegInfo, at: usize, n: usize, b: RegBank) -> bool
     requires { ⌜ (outsideLimits (regInfoOf (now t)) ≡ false) × (at + n ≤ 107520) × (allBelow (numRegs (regInfoOf (now t))) (cells (now t) at n) ≡ true) ⌝ }
-    ensures { λ f. ⌜ f ≡ any (foreignTo (regInfoOf (now (t .entry))) (b .0)) (cells (now (t .entry)) at n) ⌝ }
+    ensures { λ f. ⌜ f ≡ anyIn (foreignTo (regInfoOf (now (t .entry))) (b .0)) (cells (now (t .entry)) at n) ⌝ }
 {
     let mut i = at;
     let mut left = n;
@@ -91,7 +91,7 @@ fn regs_foreign(t: &RegInfo, at: usize, n: usize, b: RegBank) -> bool
 
 fn members_foreign(t: &RegInfo, c: RegClass) -> bool
     requires { ⌜ (outsideLimits (regInfoOf (now t)) ≡ false) × (c .0 < numClasses (regInfoOf (now t))) ⌝ }
-    ensures { λ f. ⌜ f ≡ any (foreignTo (regInfoOf (now (t .entry))) (bankForClass (regInfoOf (now (t .entry))) (c .0))) (classMembers (regInfoOf (now (t .entry))) (c .0)) ⌝ }
+    ensures { λ f. ⌜ f ≡ anyIn (foreignTo (regInfoOf (now (t .entry))) (bankForClass (regInfoOf (now (t .entry))) (c .0))) (classMembers (regInfoOf (now (t .entry))) (c .0)) ⌝ }
 {
     let b = bank_for_class(t, c);
     let at = members_from(c);
@@ -102,7 +102,7 @@ fn members_foreign(t: &RegInfo, c: RegClass) -> bool
 // An order lists members only. The index of the members is right.
 fn order_foreign(t: &RegInfo, c: RegClass) -> bool
     requires { ⌜ (outsideLimits (regInfoOf (now t)) ≡ false) × (c .0 < numClasses (regInfoOf (now t))) × Indexed (now t) ⌝ }
-    ensures { λ f. ⌜ f ≡ any (noMember (regInfoOf (now (t .entry))) (c .0)) (allocationOrder (regInfoOf (now (t .entry))) (c .0)) ⌝ }
+    ensures { λ f. ⌜ f ≡ anyIn (noMember (regInfoOf (now (t .entry))) (c .0)) (allocationOrder (regInfoOf (now (t .entry))) (c .0)) ⌝ }
 {
     let mut i = order_from(c);
     let mut left = order_len(t, c);
@@ -261,7 +261,7 @@ pub fn shared_memory(t: &RegInfo) -> bool
 // 7: the order of a stack class has no memory register. At the n cells from `at` on there is one.
 fn any_memory(t: &RegInfo, at: usize, n: usize) -> bool
     requires { ⌜ (outsideLimits (regInfoOf (now t)) ≡ false) × (at + n ≤ 107520) × (allBelow (numRegs (regInfoOf (now t))) (cells (now t) at n) ≡ true) ⌝ }
-    ensures { λ m. ⌜ m ≡ any (λ r. isMemoryReg (regInfoOf (now (t .entry))) r) (cells (now (t .entry)) at n) ⌝ }
+    ensures { λ m. ⌜ m ≡ anyIn (λ r. isMemoryReg (regInfoOf (now (t .entry))) r) (cells (now (t .entry)) at n) ⌝ }
 {
     let mut i = at;
     let mut left = n;
@@ -277,7 +277,7 @@ fn any_memory(t: &RegInfo, at: usize, n: usize) -> bool
 
 fn order_memory(t: &RegInfo, c: RegClass) -> bool
     requires { ⌜ (outsideLimits (regInfoOf (now t)) ≡ false) × (c .0 < numClasses (regInfoOf (now t))) ⌝ }
-    ensures { λ m. ⌜ m ≡ any (λ r. isMemoryReg (regInfoOf (now (t .entry))) r) (allocationOrder (regInfoOf (now (t .entry))) (c .0)) ⌝ }
+    ensures { λ m. ⌜ m ≡ anyIn (λ r. isMemoryReg (regInfoOf (now (t .entry))) r) (allocationOrder (regInfoOf (now (t .entry))) (c .0)) ⌝ }
 {
     let at = order_from(c);
     let n = order_len(t, c);

@@ -9,7 +9,7 @@ use lib.Dec.{eqb, ltb}
 use lib.ListN.{length, getD, set, length-set}
 use lib.Seq.{getD-set-same, getD-set-other}
 use borrow.Author.Tests.{eqb-true, eqb-false, eq-eqb, ltb-true, ltb-false, lt-ltb, le-ltb}
-use Rattle.entity.specs.Logic.{pick, and, or, no, any, cells, indices}
+use Rattle.entity.specs.Logic.{pick, and, or, no, anyIn, cells, indices}
 use Rattle.entity.specs.Place.{Place, reg, slot, samePlace, codeOf, placeAt}
 use Rattle.entity.proofs.Laws.{length-cells, getD-cells, code-there, and-true, and-false, never-true, any-at, no-false}
 use Rattle.reginfo.specs.RegInfo.{RegInfo}
@@ -348,14 +348,14 @@ module _ (e : List ℕ) where
       has-no-start m h d =
           let k : ℕ = bySource e x m in
           let kl : k < kept e = t .noted .source-kept m h in
-          any-true (λ a. any (clashes a) ms) ms m noMove (low m h)
+          any-true (λ a. anyIn (clashes a) ms) ms m noMove (low m h)
           (any-true (clashes (getD ms m noMove)) ms k noMove (low k kl)
           (ap₂ and (itself _ _ (source-is e m h ∙ ap placeAt (sym (t .noted .source-same m h)) ∙ sym (source-is e k kl)))
           (ap no (never-true _ (λ q. d (ap (width r f) (sym (value-is e m h)) ∙ eqb-true _ _ q ∙ ap (width r f) (value-is e k kl)))))))
 
       pub has-start : ((m : ℕ) → m < kept e → wide m ≡ wide (bySource e x m)) → noStart r f ms ≡ false
       unfolding noStart
-      has-start all = never-true _ (λ q. outer (any-where (λ a. any (clashes a) ms) ms noMove q))
+      has-start all = never-true _ (λ q. outer (any-where (λ a. anyIn (clashes a) ms) ms noMove q))
         where
           inner : (i : ℕ) → i < length ms → (k : ℕ) × (k < length ms) × (clashes (getD ms i noMove) (getD ms k noMove) ≡ true) → ⊥
           inner i il w =
@@ -367,5 +367,5 @@ module _ (e : List ℕ) where
               ap (width r f) (value-is e i hi) ∙ all i hi ∙ ap (λ (y : ℕ). wide (getD x (4096 + y) 0)) z ∙ sym (all (w .0) hk) ∙ ap (width r f) (sym (value-is e (w .0) hk)) in
               false≢true (sym (ap no (eq-eqb _ _ same)) ∙ q .1)
 
-          outer : (i : ℕ) × (i < length ms) × (any (clashes (getD ms i noMove)) ms ≡ true) → ⊥
+          outer : (i : ℕ) × (i < length ms) × (anyIn (clashes (getD ms i noMove)) ms ≡ true) → ⊥
           outer w = inner (w .0) (w .1) (any-where (clashes (getD ms (w .0) noMove)) ms noMove (w .2))

@@ -13,7 +13,7 @@ use Rattle.rules.specs.Edit.{Edit, Move, Rematerialize, EmergencySpill, Emergen
 use Rattle.rules.specs.Scratch.{Cache, emptyCache}
 use Rattle.rules.specs.Patch.{Patch, Answer, refused, resolved, resolve}
 use Rattle.rules.specs.Evictions.{isSave, isReload, saves, reloads}
-use Rattle.rules.proofs.Evicted.{as-many}
+use Rattle.consequences.proofs.Evicted.{as-many}
 use Rattle.trying.specs.Drawing.{Drawn, drawPatch, patchOf}
 use Rattle.trying.specs.Tried.{Tries, noTries, tries, drawings, judged, withKept}
 use Rattle.trying.specs.Report.{editsIn, ofKind}

@@ -8,7 +8,7 @@ use native.Mathlib.Omega.{arith}
 use lib.Dec.{ltb}
 use lib.ListN.{getD, length, drop, drop-of-length-le}
 use borrow.Author.Tests.{lt-ltb, le-ltb, ltb-true}
-use Rattle.entity.specs.Logic.{pick, or, any, has}
+use Rattle.entity.specs.Logic.{pick, or, anyIn, has}
 use Rattle.entity.specs.Place.{Place, reg, slot}
 use Rattle.reginfo.specs.RegInfo.{RegInfo, placeUnits}
 use Rattle.reginfo.specs.Table.{regInfoOf}
@@ -67,24 +67,24 @@ module _ (t : RegInfo) (f : Function) (ms : List KeptMove) where
       go false e = e
 
   -- an open writer of some unit
-  any-writers : (s : ℕ → State) (us : List ℕ) → any (λ x. isPending (s x)) (writersOf t f ms us) ≡ any (λ u. isOpen s (writerFrom t f ms 0 ms u)) us
-  unfolding any writersOf
+  any-writers : (s : ℕ → State) (us : List ℕ) → anyIn (λ x. isPending (s x)) (writersOf t f ms us) ≡ anyIn (λ u. isOpen s (writerFrom t f ms 0 ms u)) us
+  unfolding anyIn writersOf
   any-writers s [] = refl
   any-writers s (u ∷ us) = go (writerFrom t f ms 0 ms u) refl (any-writers s us)
     where
-      go : (o : Option ℕ) → writerFrom t f ms 0 ms u ≡ o → any (λ x. isPending (s x)) (writersOf t f ms us) ≡ any (λ u. isOpen s (writerFrom t f ms 0 ms u)) us
-          → any (λ x. isPending (s x)) (writersOf t f ms (u ∷ us)) ≡ or (isOpen s o) (any (λ u. isOpen s (writerFrom t f ms 0 ms u)) us)
+      go : (o : Option ℕ) → writerFrom t f ms 0 ms u ≡ o → anyIn (λ x. isPending (s x)) (writersOf t f ms us) ≡ anyIn (λ u. isOpen s (writerFrom t f ms 0 ms u)) us
+          → anyIn (λ x. isPending (s x)) (writersOf t f ms (u ∷ us)) ≡ or (isOpen s o) (anyIn (λ u. isOpen s (writerFrom t f ms 0 ms u)) us)
       go none e on = rw e on
       go (some m) e on = rw e (ap (or (isPending (s m))) on)
 
-  any-open : (w : List ℕ) (s : ℕ → State) (us : List ℕ) → ((u : ℕ) → keptWriter w u ≡ writerFrom t f ms 0 ms u) → any (λ u. isOpen s (keptWriter w u)) us ≡ any (λ x. isPending (s x)) (writersOf t f ms us)
+  any-open : (w : List ℕ) (s : ℕ → State) (us : List ℕ) → ((u : ℕ) → keptWriter w u ≡ writerFrom t f ms 0 ms u) → anyIn (λ u. isOpen s (keptWriter w u)) us ≡ anyIn (λ x. isPending (s x)) (writersOf t f ms us)
   any-open w s us h = any-same (λ u. isOpen s (keptWriter w u)) (λ u. isOpen s (writerFrom t f ms 0 ms u)) us (λ u. ap (isOpen s) (h u)) ∙ sym (any-writers s us)
 
   units-same : (p : Place) → unitsOfReg t f p ≡ unitsOf t p
   units-same (reg r) = refl
   units-same (slot s) = refl
 
-  pub cycle-sources : (u : ℕ) → any (λ (m : KeptMove). has u (unitsOf t (m .source))) ms ≡ cycleMoveSources t f ms u
+  pub cycle-sources : (u : ℕ) → anyIn (λ (m : KeptMove). has u (unitsOf t (m .source))) ms ≡ cycleMoveSources t f ms u
   unfolding cycleMoveSources
   cycle-sources u = any-same (λ (m : KeptMove). has u (unitsOf t (m .source))) (λ (m : KeptMove). has u (unitsOfReg t f (m .source))) ms (λ m. ap (has u) (sym (units-same (m .source))))
 
@@ -117,7 +117,7 @@ module _ (t : RegInfo) (e w : List ℕ) (m : ℕ) {p : Place} (ok : Ready t e w)
   pub source-writable : m < length (movesOf e) → Writable t p
   source-writable h = rw q (ok .kept .sources m h)
 
-  pub open-writers : (s : ℕ → State) (f : Function) → any (λ u. isOpen s (keptWriter w u)) (placeUnits t p) ≡ any (λ x. isPending (s x)) (writers t f (movesOf e) m)
+  pub open-writers : (s : ℕ → State) (f : Function) → anyIn (λ u. isOpen s (keptWriter w u)) (placeUnits t p) ≡ anyIn (λ x. isPending (s x)) (writers t f (movesOf e) m)
   unfolding writers
   open-writers s f = any-open t f (movesOf e) w s (placeUnits t p) (ok .writer f) ∙ rw q
 
@@ -126,12 +126,12 @@ module _ (w : List ℕ) (s : ℕ → State) where
   abbrev pub openUnit : ℕ → Bool
   openUnit u = isOpen s (keptWriter w u)
 
-  pub open-step : (us : List ℕ) (j u : ℕ) (b : Bool) → j < length us → u ≡ getD us j 0 → b ≡ openUnit u → any openUnit (drop j us) ≡ or b (any openUnit (drop (j + 1) us))
+  pub open-step : (us : List ℕ) (j u : ℕ) (b : Bool) → j < length us → u ≡ getD us j 0 → b ≡ openUnit u → anyIn openUnit (drop j us) ≡ or b (anyIn openUnit (drop (j + 1) us))
   open-step us j u b h e q = any-step openUnit us j 0 h ∙ rw (q, e)
 
-  pub open-end : (us : List ℕ) (j : ℕ) → length us ≤ j → any openUnit (drop j us) ≡ false
-  unfolding any
-  open-end us j h = ap (any openUnit) (drop-of-length-le us {i = j} h)
+  pub open-end : (us : List ℕ) (j : ℕ) → length us ≤ j → anyIn openUnit (drop j us) ≡ false
+  unfolding anyIn
+  open-end us j h = ap (anyIn openUnit) (drop-of-length-le us {i = j} h)
 
 -- a step over the sources: what is noted with the sources left
 module _ (t : RegInfo) (ms : List KeptMove) where
@@ -139,9 +139,9 @@ module _ (t : RegInfo) (ms : List KeptMove) where
   sourceUnit u m = has u (unitsOf t (m .source))
 
   pub source-step : (m u : ℕ) (p : Place) (here next : ℕ → Bool) → m < length ms → p ≡ getD ms m noMove .source → next ≡ withUnits t p here
-      → or (any (sourceUnit u) (drop m ms)) (here u) ≡ or (any (sourceUnit u) (drop (m + 1) ms)) (next u)
+      → or (anyIn (sourceUnit u) (drop m ms)) (here u) ≡ or (anyIn (sourceUnit u) (drop (m + 1) ms)) (next u)
   source-step m u p here next h q n =
-      ap (λ (b : Bool). or b (here u)) (any-step (sourceUnit u) ms m noMove h) ∙ rw (n, q) (by (sourceUnit u (getD ms m noMove)) (any (sourceUnit u) (drop (m + 1) ms)) (here u))
+      ap (λ (b : Bool). or b (here u)) (any-step (sourceUnit u) ms m noMove h) ∙ rw (n, q) (by (sourceUnit u (getD ms m noMove)) (anyIn (sourceUnit u) (drop (m + 1) ms)) (here u))
     where
       by : (a b c : Bool) → or (or a b) c ≡ or b (or a c)
       by true true c = refl
@@ -149,6 +149,6 @@ module _ (t : RegInfo) (ms : List KeptMove) where
       by false true c = refl
       by false false c = refl
 
-  pub sources-end : (m u : ℕ) (here : ℕ → Bool) → length ms ≤ m → or (any (sourceUnit u) (drop m ms)) (here u) ≡ here u
-  unfolding any
-  sources-end m u here h = ap (λ (l : List KeptMove). or (any (sourceUnit u) l) (here u)) (drop-of-length-le ms {i = m} h)
+  pub sources-end : (m u : ℕ) (here : ℕ → Bool) → length ms ≤ m → or (anyIn (sourceUnit u) (drop m ms)) (here u) ≡ here u
+  unfolding anyIn
+  sources-end m u here h = ap (λ (l : List KeptMove). or (anyIn (sourceUnit u) l) (here u)) (drop-of-length-le ms {i = m} h)

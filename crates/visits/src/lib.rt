@@ -13,7 +13,7 @@ ghost use mathlib.Core.Path.{_≡_};
 ghost use mathlib.Core.Bool.{true, false};
 ghost use Prim.Native.Nat.{ℕ, _+_, _<_, _≤_};
 ghost use lib.ListN.{length, getD, replicate};
-ghost use Rattle.entity.specs.Logic.{or, any};
+ghost use Rattle.entity.specs.Logic.{or, anyIn};
 ghost use Rattle.entity.specs.Place.{placeAt};
 ghost use Rattle.reginfo.specs.RegInfo.{isMemory};
 ghost use Rattle.reginfo.specs.Table.{regInfoOf};
@@ -206,7 +206,7 @@ fn is_open(w: &SparseMap, marks: &States, u: AllocationUnit) -> bool
 // Whether a writer of a move's source is open.
 pub fn has_open_writer(t: &RegInfo, e: &Entries, w: &SparseMap, marks: &States, m: usize) -> bool
     requires { ⌜ Ready (regInfoOf (now t)) (now e) (now w) × (m < length (movesOf (now e))) ⌝ }
-    ensures { λ b. ⌜ ((f : Function) → b ≡ any (λ x. isPending (statesOf (now (marks .entry)) x)) (writers (regInfoOf (now (t .entry))) f (movesOf (now (e .entry))) m)) ⌝ }
+    ensures { λ b. ⌜ ((f : Function) → b ≡ anyIn (λ x. isPending (statesOf (now (marks .entry)) x)) (writers (regInfoOf (now (t .entry))) f (movesOf (now (e .entry))) m)) ⌝ }
 {
     let p = kept_source(e, m);
     let n = reginfo::num_place_units(t, p);

@@ -3,7 +3,7 @@ use Prim.Native.Nat.{ℕ, _+_, _≤_}
 use mathlib.Core.Path.{_≡_, sym, _∙_}
 use native.Mathlib.Omega.{arith}
 use borrow.Author.Needs.{needs}
-use Rattle.entity.specs.Logic.{or, any, indices}
+use Rattle.entity.specs.Logic.{or, anyIn, indices}
 use Rattle.reginfo.specs.Table.{regInfoOf}
 use Rattle.small_set.specs.Set.{setOf}
 use Rattle.function.specs.Function.{numValues}
@@ -16,7 +16,7 @@ use Rattle.enough_slots.proofs.mark_sizes.Tie as tie
 
 abbrev Inv-loop : tie.InvT-loop
 Inv-loop t f sizes₀ i₀ left₀ sizes i left =
-    ((z : ℕ) → or (setOf sizes₀ z) (isSize (regInfoOf t) (functionOf f) z) ≡ or (setOf sizes z) (any (ofSize (regInfoOf t) (functionOf f) z) (indices i left)))
+    ((z : ℕ) → or (setOf sizes₀ z) (isSize (regInfoOf t) (functionOf f) z) ≡ or (setOf sizes z) (anyIn (ofSize (regInfoOf t) (functionOf f) z) (indices i left)))
     × (i + left ≡ numValues (functionOf f)) × (numValues (functionOf f) ≤ 4096)
 
 abbrev μ-loop : tie.MeasureT-loop

@@ -4,7 +4,7 @@ use mathlib.Core.Path.{_≡_, refl, sym, ap, _∙_}
 use mathlib.Core.Bool.{Bool}
 use native.Mathlib.Omega.{arith}
 use borrow.Author.Tests.{not-true, not-false}
-use Rattle.entity.specs.Logic.{and, all, indices}
+use Rattle.entity.specs.Logic.{and, allIn, indices}
 use Rattle.cells.specs.Cells.{memoryOf}
 use Rattle.examine.specs.Ends.{slotStays}
 use Rattle.examine.proofs.Laws.{all-index, all-none}
@@ -12,7 +12,7 @@ use Rattle.examine.proofs.slots_stay.Statement.{statement}
 use Rattle.examine.proofs.slots_stay.Tie as tie
 
 abbrev Inv-loop : tie.InvT-loop
-Inv-loop w c s n b₀ d₀ x₀ left₀ b d x left = (all (slotStays (memoryOf s) (memoryOf c) w) (indices 0 n) ≡ all (slotStays (memoryOf s) (memoryOf c) w) (indices x left)) × (x + left ≡ n)
+Inv-loop w c s n b₀ d₀ x₀ left₀ b d x left = (allIn (slotStays (memoryOf s) (memoryOf c) w) (indices 0 n) ≡ allIn (slotStays (memoryOf s) (memoryOf c) w) (indices x left)) × (x + left ≡ n)
 
 abbrev μ-loop : tie.MeasureT-loop
 μ-loop w c s n b₀ d₀ x₀ left₀ b d x left = left
@@ -24,7 +24,7 @@ slot-stays-requires : tie.Need-slot-stays-requires Inv-loop μ-loop
 slot-stays-requires c κs = let s = c .before .before .before .before in let l = c .before .before .before .loop in (s .pre .0, s .pre .1, s .pre .2, omega (arith, l .inv .1, c .before .before .loop-test .taken, s .pre .3))
 
 returns : tie.Need-returns Inv-loop μ-loop
-returns c = let s = c .before .before .before .before .before .before in let l = c .before .before .before .before .before .loop in (sym (l .inv .0 ∙ all-index (slotStays (memoryOf (s .args .s .now)) (memoryOf (s .args .c .now)) (s .args .w .now)) (l .x) (l .left) (c .before .before .before .before .loop-test .taken) ∙ ap (λ (z : Bool). and z (all (slotStays (memoryOf (s .args .s .now)) (memoryOf (s .args .c .now)) (s .args .w .now)) (indices (l .x + 1) (l .left - 1)))) (sym (c .before .slot-stays .ensures .0) ∙ not-true (c .before .slot-stays .result) (c .if1 .taken))), tt, tt)
+returns c = let s = c .before .before .before .before .before .before in let l = c .before .before .before .before .before .loop in (sym (l .inv .0 ∙ all-index (slotStays (memoryOf (s .args .s .now)) (memoryOf (s .args .c .now)) (s .args .w .now)) (l .x) (l .left) (c .before .before .before .before .loop-test .taken) ∙ ap (λ (z : Bool). and z (allIn (slotStays (memoryOf (s .args .s .now)) (memoryOf (s .args .c .now)) (s .args .w .now)) (indices (l .x + 1) (l .left - 1)))) (sym (c .before .slot-stays .ensures .0) ∙ not-true (c .before .slot-stays .result) (c .if1 .taken))), tt, tt)
 
 add-x : tie.Need-add-x Inv-loop μ-loop
 add-x c = omega (arith, c .before .before .before .before .before .loop .inv .1, c .before .before .before .before .before .before .pre .3)
@@ -36,7 +36,7 @@ loop-less : tie.Need-loop-less Inv-loop μ-loop
 loop-less c = omega arith
 
 loop-again : tie.Need-loop-again Inv-loop μ-loop
-loop-again c = let s = c .before .before .before .before .before .before in let l = c .before .before .before .before .before .loop in (l .inv .0 ∙ all-index (slotStays (memoryOf (s .args .s .now)) (memoryOf (s .args .c .now)) (s .args .w .now)) (l .x) (l .left) (c .before .before .before .before .loop-test .taken) ∙ ap (λ (z : Bool). and z (all (slotStays (memoryOf (s .args .s .now)) (memoryOf (s .args .c .now)) (s .args .w .now)) (indices (l .x + 1) (l .left - 1)))) (sym (c .before .slot-stays .ensures .0) ∙ not-false (c .before .slot-stays .result) (c .if1 .left)), omega (arith, l .inv .1, c .before .before .before .before .loop-test .taken))
+loop-again c = let s = c .before .before .before .before .before .before in let l = c .before .before .before .before .before .loop in (l .inv .0 ∙ all-index (slotStays (memoryOf (s .args .s .now)) (memoryOf (s .args .c .now)) (s .args .w .now)) (l .x) (l .left) (c .before .before .before .before .loop-test .taken) ∙ ap (λ (z : Bool). and z (allIn (slotStays (memoryOf (s .args .s .now)) (memoryOf (s .args .c .now)) (s .args .w .now)) (indices (l .x + 1) (l .left - 1)))) (sym (c .before .slot-stays .ensures .0) ∙ not-false (c .before .slot-stays .result) (c .if1 .left)), omega (arith, l .inv .1, c .before .before .before .before .loop-test .taken))
 
 returns-2 : tie.Need-returns-2 Inv-loop μ-loop
 returns-2 c = let s = c .before .before in let l = c .before .loop in (sym (l .inv .0 ∙ all-none (slotStays (memoryOf (s .args .s .now)) (memoryOf (s .args .c .now)) (s .args .w .now)) (l .x) (l .left) (omega arith)), tt, tt)

@@ -5,7 +5,7 @@ use native.Mathlib.Omega.{arith}
 use lib.ListN.{length, drop}
 use borrow.Author.Needs.{needs}
 use borrow.Author.Tests.{not-true, not-false}
-use Rattle.entity.specs.Logic.{all}
+use Rattle.entity.specs.Logic.{allIn}
 use Rattle.reginfo.specs.Table.{regInfoOf}
 use Rattle.function.specs.Table.{functionOf}
 use Rattle.examine_words.specs.Named.{namedIn}
@@ -14,7 +14,7 @@ use Rattle.examine_words.proofs.all_named.Statement.{statement}
 use Rattle.examine_words.proofs.all_named.Tie as tie
 
 abbrev Inv-loop : tie.InvT-loop
-Inv-loop t f most list i₀ i = (all (namedIn (regInfoOf t) (functionOf f) most) list ≡ all (namedIn (regInfoOf t) (functionOf f) most) (drop i list)) × (i ≤ length list)
+Inv-loop t f most list i₀ i = (allIn (namedIn (regInfoOf t) (functionOf f) most) list ≡ allIn (namedIn (regInfoOf t) (functionOf f) most) (drop i list)) × (i ≤ length list)
 
 abbrev μ-loop : tie.MeasureT-loop
 μ-loop t f most list i₀ i = length list - i

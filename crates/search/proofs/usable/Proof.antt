@@ -5,7 +5,7 @@ use mathlib.Core.Bool.{true, false, Bool·not-not}
 use native.Mathlib.Omega.{arith}
 use borrow.Author.Needs.{needs}
 use lib.ListN.{length, drop-of-length-le}
-use Rattle.entity.specs.Logic.{and, no, all}
+use Rattle.entity.specs.Logic.{and, no, allIn}
 use Rattle.entity.proofs.Laws.{no-false}
 use Rattle.reginfo.specs.RegInfo.{regUnits}
 use Rattle.reginfo.specs.Table.{regInfoOf}
@@ -71,11 +71,11 @@ loop-again c =
     (l .inv .0 ∙ usable-step (regInfoOf (a .t .now)) (a .available .now) (a .sources .now) (a .cycle) (a .r .0) (l .j) (u .result .0) true false (omega arith) (u .ensures) (sym (no-false _ (c .before .before .if1 .left)) ∙ c .before .before .before .contains .ensures) (sym (c .if2 .left) ∙ c .before .barred .ensures), omega arith)
 
 returns-3 : tie.Need-returns-3 Inv-loop μ-loop
-unfolding all
+unfolding allIn
 returns-3 c =
     let l = c .before .loop in
     let a = c .before .before .before .args in
-    sym (l .inv .0 ∙ ap (all (λ u. and (setOf (a .available .now) u) (no (barredBy (a .cycle) (a .sources .now) u)))) (drop-of-length-le (regUnits (regInfoOf (a .t .now)) (a .r .0)) {i = l .j} (omega arith)))
+    sym (l .inv .0 ∙ ap (allIn (λ u. and (setOf (a .available .now) u) (no (barredBy (a .cycle) (a .sources .now) u)))) (drop-of-length-le (regUnits (regInfoOf (a .t .now)) (a .r .0)) {i = l .j} (omega arith)))
 
 pub usable-spec : {M : Type 1} → statement M
 usable-spec =

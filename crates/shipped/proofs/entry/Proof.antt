@@ -18,4 +18,9 @@ unfolding table joined shippedUnits shippedRow indices
 returns c = refl
 
 pub entry-spec : {M : Type 1} → statement M
-entry-spec = tie.close (tie.spec mul-result array-read-result returns)
+entry-spec =
+    tie.close
+    (tie.spec
+    mul-result
+    array-read-result
+    returns)

@@ -23,4 +23,10 @@ unfolding shippedUnits indices
 returns-3 c = rw (le-ltb (c .before .before .before .args .r .0) 32 (omega arith), le-ltb (c .before .before .before .args .r .0) 48 (omega arith))
 
 pub num-reg-units-spec : {M : Type 1} → statement M
-num-reg-units-spec = tie.close (tie.spec wide-requires returns returns-2 returns-3)
+num-reg-units-spec =
+    tie.close
+    (tie.spec
+    wide-requires
+    returns
+    returns-2
+    returns-3)

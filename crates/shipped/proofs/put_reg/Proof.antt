@@ -1,7 +1,7 @@
 -- `put_reg` meets its contract.
 use native.Mathlib.Omega.{arith}
 use Rattle.shipped.specs.Writes.{written, regWrites}
-use Rattle.shipped.proofs.Rule.{list-inside, some-unit, unit-inside}
+use Rattle.shipped.proofs.Rule.{list-inside}
 use borrow.Author.Needs.{needs}
 use Rattle.shipped.proofs.put_reg.Statement.{statement}
 use Rattle.shipped.proofs.put_reg.Tie as tie
@@ -14,9 +14,6 @@ num-reg-units-requires c κs = search needs
 
 narrow-requires : tie.Need-narrow-requires
 narrow-requires c κs = rw (c .num-reg-units .ensures) (omega (arith, list-inside (c .before .before .args .r .0) (c .before .before .pre)))
-
-reg-unit-requires : tie.Need-reg-unit-requires
-reg-unit-requires c κs = (search needs, some-unit (c .before .before .before .args .r .0) (c .before .before .before .pre))
 
 mul-t : tie.Need-mul-t
 mul-t c = search needs
@@ -51,20 +48,18 @@ mul-t-6 c = search needs
 element-write-t-3 : tie.Need-element-write-t-3
 element-write-t-3 c = search needs
 
-mul-put-rising : tie.Need-mul-put-rising
-mul-put-rising c = search needs
+mul-put-units : tie.Need-mul-put-units
+mul-put-units c = search needs
 
-add-put-rising : tie.Need-add-put-rising
-add-put-rising c = search needs
+add-put-units : tie.Need-add-put-units
+add-put-units c = search needs
 
-put-rising-requires : tie.Need-put-rising-requires
-put-rising-requires c κs =
-    let s = c .before .before .before .before .before in
-    (omega (arith, list-inside (s .args .r .0) (s .pre)), omega (arith, unit-inside (s .args .r .0) (s .pre)))
+put-units-requires : tie.Need-put-units-requires
+put-units-requires c κs = (c .before .before .before .before .pre, c .before .before .num-reg-units .ensures, omega (arith, c .before .before .before .before .pre, c .before .before .before .wide .ensures .0, c .before .before .num-reg-units .ensures, list-inside (c .before .before .before .before .args .r .0) (c .before .before .before .before .pre)))
 
 returns : tie.Need-returns
 unfolding written regWrites
-returns c = rw (c .put-rising .ensures, c .before .before .reg-unit .ensures, c .before .before .before .narrow .ensures, c .before .before .before .before .num-reg-units .ensures, c .before .before .before .before .before .wide .ensures .0)
+returns c = rw (c .put-units .ensures, c .before .before .narrow .ensures, c .before .before .before .num-reg-units .ensures, c .before .before .before .before .wide .ensures .0)
 
 pub put-reg-spec : {M : Type 1} → statement M
 put-reg-spec =
@@ -73,7 +68,6 @@ put-reg-spec =
     wide-requires
     num-reg-units-requires
     narrow-requires
-    reg-unit-requires
     mul-t
     mul-t-2
     element-write-t
@@ -85,7 +79,7 @@ put-reg-spec =
     add-t-2
     mul-t-6
     element-write-t-3
-    mul-put-rising
-    add-put-rising
-    put-rising-requires
+    mul-put-units
+    add-put-units
+    put-units-requires
     returns)

@@ -18,4 +18,10 @@ returns : tie.Need-returns
 returns c = rw (c .entry .ensures, c .before .unit-start .ensures) (unit-is (c .before .before .args .r .0) (c .before .before .pre .0) (c .before .before .args .j) (c .before .before .pre .1))
 
 pub reg-unit-spec : {M : Type 1} → statement M
-reg-unit-spec = tie.close (tie.spec unit-start-requires add-at entry-requires returns)
+reg-unit-spec =
+    tie.close
+    (tie.spec
+    unit-start-requires
+    add-at
+    entry-requires
+    returns)

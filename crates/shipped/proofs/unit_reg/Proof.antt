@@ -23,4 +23,12 @@ returns : tie.Need-returns
 returns c = rw (c .entry .ensures, c .before .wide .ensures .0) (reg-is (c .before .before .args .u .0) (c .before .before .args .k) (c .before .before .pre .0) (c .before .before .pre .1))
 
 pub unit-reg-spec : {M : Type 1} → statement M
-unit-reg-spec = tie.close (tie.spec wide-requires mul-at add-at add-at-2 entry-requires returns)
+unit-reg-spec =
+    tie.close
+    (tie.spec
+    wide-requires
+    mul-at
+    add-at
+    add-at-2
+    entry-requires
+    returns)

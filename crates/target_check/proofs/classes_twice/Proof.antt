@@ -6,7 +6,7 @@ use mathlib.Core.List.{List}
 use native.Mathlib.Omega.{arith}
 use borrow.Author.Needs.{needs}
 use lib.ListN.{length}
-use Rattle.entity.specs.Logic.{any, indices}
+use Rattle.entity.specs.Logic.{anyIn, indices}
 use Rattle.entity.proofs.Laws.{indices-step}
 use Rattle.reginfo.specs.RegInfo.{numClasses, classMembers}
 use Rattle.reginfo.specs.Table.{regInfoOf, IndexedAt}
@@ -21,7 +21,7 @@ abbrev bad : List ℕ → ℕ → Bool
 bad t = twiceIn (regInfoOf t)
 
 abbrev Inv-loop : tie.InvT-loop
-Inv-loop t₀ i₀ left₀ t i left = (any (bad t₀) (indices 0 (numClasses (regInfoOf t₀))) ≡ any (bad t₀) (indices i left)) × (i + left ≡ numClasses (regInfoOf t₀)) × SameBelow 74752 t₀ t × ((k : ℕ) → k < i → IndexedAt t k (length (classMembers (regInfoOf t₀) k)))
+Inv-loop t₀ i₀ left₀ t i left = (anyIn (bad t₀) (indices 0 (numClasses (regInfoOf t₀))) ≡ anyIn (bad t₀) (indices i left)) × (i + left ≡ numClasses (regInfoOf t₀)) × SameBelow 74752 t₀ t × ((k : ℕ) → k < i → IndexedAt t k (length (classMembers (regInfoOf t₀) k)))
 
 abbrev μ-loop : tie.MeasureT-loop
 μ-loop t₀ i₀ left₀ t i left = left
@@ -68,7 +68,7 @@ loop-again c =
     )
 
 returns-2 : tie.Need-returns-2 Inv-loop μ-loop
-unfolding any indices
+unfolding anyIn indices
 returns-2 c =
     let start = c .before .before .before .before in
     let turn = c .before .loop in

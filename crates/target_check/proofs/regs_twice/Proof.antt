@@ -5,7 +5,7 @@ use mathlib.Core.Bool.{Bool}
 use mathlib.Core.List.{List}
 use native.Mathlib.Omega.{arith}
 use borrow.Author.Needs.{needs}
-use Rattle.entity.specs.Logic.{any, twice, indices}
+use Rattle.entity.specs.Logic.{anyIn, twice, indices}
 use Rattle.entity.proofs.Laws.{indices-step}
 use Rattle.reginfo.specs.RegInfo.{numRegs, regUnits}
 use Rattle.reginfo.specs.Table.{regInfoOf}
@@ -18,7 +18,7 @@ abbrev bad : List ℕ → ℕ → Bool
 bad t r = twice (regUnits (regInfoOf t) r)
 
 abbrev Inv-loop : tie.InvT-loop
-Inv-loop t i₀ left₀ i left = (any (bad t) (indices 0 (numRegs (regInfoOf t))) ≡ any (bad t) (indices i left)) × (i + left ≡ numRegs (regInfoOf t))
+Inv-loop t i₀ left₀ i left = (anyIn (bad t) (indices 0 (numRegs (regInfoOf t))) ≡ anyIn (bad t) (indices i left)) × (i + left ≡ numRegs (regInfoOf t))
 
 abbrev μ-loop : tie.MeasureT-loop
 μ-loop t i₀ left₀ i left = left
@@ -54,7 +54,7 @@ loop-again c =
     (turn .inv .0 ∙ any-on (bad (c .before .before .before .before .before .args .t .now)) (indices-step (turn .i) (turn .left) (c .before .before .loop-test .taken)) (sym (c .before .units-twice .ensures) ∙ c .if1 .left), omega arith)
 
 returns-2 : tie.Need-returns-2 Inv-loop μ-loop
-unfolding any indices
+unfolding anyIn indices
 returns-2 c =
     let turn = c .before .loop in
     let z : turn .left ≡ 0 = omega arith in

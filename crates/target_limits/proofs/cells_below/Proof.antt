@@ -5,14 +5,14 @@ use native.Mathlib.Omega.{arith}
 use borrow.Author.Needs.{needs}
 use borrow.Author.Tests.{lt-ltb, le-ltb}
 use lib.Dec.{ltb}
-use Rattle.entity.specs.Logic.{all, cells}
+use Rattle.entity.specs.Logic.{allIn, cells}
 use Rattle.entity.proofs.Laws.{cells-step}
 use Rattle.target_limits.proofs.Laws.{all-here, all-on}
 use Rattle.target_limits.proofs.cells_below.Statement.{statement}
 use Rattle.target_limits.proofs.cells_below.Tie as tie
 
 abbrev Inv-loop : tie.InvT-loop
-Inv-loop t at n bound i₀ left₀ i left = (all (λ x. ltb x bound) (cells t at n) ≡ all (λ x. ltb x bound) (cells t i left)) × (i + left ≡ at + n)
+Inv-loop t at n bound i₀ left₀ i left = (allIn (λ x. ltb x bound) (cells t at n) ≡ allIn (λ x. ltb x bound) (cells t i left)) × (i + left ≡ at + n)
 
 abbrev μ-loop : tie.MeasureT-loop
 μ-loop t at n bound i₀ left₀ i left = left
@@ -51,7 +51,7 @@ loop-again c =
     (turn .inv .0 ∙ all-on (λ x. ltb x (start .args .bound)) (cells-step (start .args .t .now) (turn .i) (turn .left) (c .before .before .before .loop-test .taken)) (lt-ltb _ _ (rw (c .before .wide .ensures .0) at (c .if1 .left))), omega arith)
 
 returns-2 : tie.Need-returns-2 Inv-loop μ-loop
-unfolding all cells
+unfolding allIn cells
 returns-2 c =
     let turn = c .before .loop in
     let z : turn .left ≡ 0 = omega arith in

@@ -7,7 +7,7 @@ use borrow.Author.Needs.{needs}
 use borrow.Author.Tests.{ltb-true}
 use lib.Dec.{ltb}
 use lib.ListN.{getD}
-use Rattle.entity.specs.Logic.{any, cells}
+use Rattle.entity.specs.Logic.{anyIn, cells}
 use Rattle.entity.proofs.Laws.{cells-step}
 use Rattle.reginfo.specs.RegInfo.{numRegs, isMemoryReg}
 use Rattle.reginfo.specs.Table.{regInfoOf}
@@ -18,7 +18,7 @@ use Rattle.target_rules.proofs.any_memory.Statement.{statement}
 use Rattle.target_rules.proofs.any_memory.Tie as tie
 
 abbrev Inv-loop : tie.InvT-loop
-Inv-loop t at n i₀ left₀ i left = (any (λ r. isMemoryReg (regInfoOf t) r) (cells t at n) ≡ any (λ r. isMemoryReg (regInfoOf t) r) (cells t i left)) × (i + left ≡ at + n) × (allBelow (numRegs (regInfoOf t)) (cells t i left) ≡ true)
+Inv-loop t at n i₀ left₀ i left = (anyIn (λ r. isMemoryReg (regInfoOf t) r) (cells t at n) ≡ anyIn (λ r. isMemoryReg (regInfoOf t) r) (cells t i left)) × (i + left ≡ at + n) × (allBelow (numRegs (regInfoOf t)) (cells t i left) ≡ true)
 
 abbrev μ-loop : tie.MeasureT-loop
 μ-loop t at n i₀ left₀ i left = left
@@ -63,7 +63,7 @@ loop-again c =
     )
 
 returns-2 : tie.Need-returns-2 Inv-loop μ-loop
-unfolding any cells
+unfolding anyIn cells
 returns-2 c =
     let turn = c .before .loop in
     let z : turn .left ≡ 0 = omega arith in

@@ -5,7 +5,7 @@ use mathlib.Core.Bool.{Bool}
 use mathlib.Core.List.{List}
 use native.Mathlib.Omega.{arith}
 use borrow.Author.Needs.{needs}
-use Rattle.entity.specs.Logic.{any, indices}
+use Rattle.entity.specs.Logic.{anyIn, indices}
 use Rattle.entity.proofs.Laws.{indices-step}
 use Rattle.reginfo.specs.RegInfo.{numClasses}
 use Rattle.reginfo.specs.Table.{regInfoOf}
@@ -19,7 +19,7 @@ abbrev bad : List ℕ → ℕ → Bool
 bad t = unfitOrder (regInfoOf t)
 
 abbrev Inv-loop : tie.InvT-loop
-Inv-loop t i₀ left₀ i left = (any (bad t) (indices 0 (numClasses (regInfoOf t))) ≡ any (bad t) (indices i left)) × (i + left ≡ numClasses (regInfoOf t))
+Inv-loop t i₀ left₀ i left = (anyIn (bad t) (indices 0 (numClasses (regInfoOf t))) ≡ anyIn (bad t) (indices i left)) × (i + left ≡ numClasses (regInfoOf t))
 
 abbrev μ-loop : tie.MeasureT-loop
 μ-loop t i₀ left₀ i left = left
@@ -55,7 +55,7 @@ loop-again c =
     (turn .inv .0 ∙ any-on (bad (c .before .before .before .before .before .args .t .now)) (indices-step (turn .i) (turn .left) (c .before .before .loop-test .taken)) (sym (c .before .class-unfit .ensures) ∙ c .if1 .left), omega arith)
 
 returns-2 : tie.Need-returns-2 Inv-loop μ-loop
-unfolding any indices
+unfolding anyIn indices
 returns-2 c =
     let turn = c .before .loop in
     let z : turn .left ≡ 0 = omega arith in

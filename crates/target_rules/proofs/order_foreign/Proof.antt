@@ -7,7 +7,7 @@ use borrow.Author.Needs.{needs}
 use borrow.Author.Tests.{ltb-true, not-true, not-false}
 use lib.Dec.{ltb}
 use lib.ListN.{getD}
-use Rattle.entity.specs.Logic.{no, any, cells}
+use Rattle.entity.specs.Logic.{no, anyIn, cells}
 use Rattle.entity.proofs.Laws.{cells-step}
 use Rattle.reginfo.specs.RegInfo.{numRegs, allocationOrder}
 use Rattle.reginfo.specs.Table.{regInfoOf}
@@ -19,7 +19,7 @@ use Rattle.target_rules.proofs.order_foreign.Statement.{statement}
 use Rattle.target_rules.proofs.order_foreign.Tie as tie
 
 abbrev Inv-loop : tie.InvT-loop
-Inv-loop t c i₀ left₀ i left = (any (noMember (regInfoOf t) (c .0)) (allocationOrder (regInfoOf t) (c .0)) ≡ any (noMember (regInfoOf t) (c .0)) (cells t i left)) × (i + left ≤ 107520) × (allBelow (numRegs (regInfoOf t)) (cells t i left) ≡ true)
+Inv-loop t c i₀ left₀ i left = (anyIn (noMember (regInfoOf t) (c .0)) (allocationOrder (regInfoOf t) (c .0)) ≡ anyIn (noMember (regInfoOf t) (c .0)) (cells t i left)) × (i + left ≤ 107520) × (allBelow (numRegs (regInfoOf t)) (cells t i left) ≡ true)
 
 abbrev μ-loop : tie.MeasureT-loop
 μ-loop t c i₀ left₀ i left = left
@@ -76,7 +76,7 @@ loop-again c =
     )
 
 returns-2 : tie.Need-returns-2 Inv-loop μ-loop
-unfolding any cells
+unfolding anyIn cells
 returns-2 c =
     let turn = c .before .loop in
     let z : turn .left ≡ 0 = omega arith in

@@ -7,7 +7,7 @@ use borrow.Author.Needs.{needs}
 use borrow.Author.Tests.{ltb-true, eq-eqb, ne-eqb}
 use lib.Dec.{ltb}
 use lib.ListN.{getD}
-use Rattle.entity.specs.Logic.{no, any, cells}
+use Rattle.entity.specs.Logic.{no, anyIn, cells}
 use Rattle.entity.proofs.Laws.{cells-step}
 use Rattle.reginfo.specs.RegInfo.{numRegs}
 use Rattle.reginfo.specs.Table.{regInfoOf}
@@ -19,7 +19,7 @@ use Rattle.target_rules.proofs.regs_foreign.Statement.{statement}
 use Rattle.target_rules.proofs.regs_foreign.Tie as tie
 
 abbrev Inv-loop : tie.InvT-loop
-Inv-loop t at n b i₀ left₀ i left = (any (foreignTo (regInfoOf t) (b .0)) (cells t at n) ≡ any (foreignTo (regInfoOf t) (b .0)) (cells t i left)) × (i + left ≡ at + n) × (allBelow (numRegs (regInfoOf t)) (cells t i left) ≡ true)
+Inv-loop t at n b i₀ left₀ i left = (anyIn (foreignTo (regInfoOf t) (b .0)) (cells t at n) ≡ anyIn (foreignTo (regInfoOf t) (b .0)) (cells t i left)) × (i + left ≡ at + n) × (allBelow (numRegs (regInfoOf t)) (cells t i left) ≡ true)
 
 abbrev μ-loop : tie.MeasureT-loop
 μ-loop t at n b i₀ left₀ i left = left
@@ -64,7 +64,7 @@ loop-again c =
     )
 
 returns-2 : tie.Need-returns-2 Inv-loop μ-loop
-unfolding any cells
+unfolding anyIn cells
 returns-2 c =
     let turn = c .before .loop in
     let z : turn .left ≡ 0 = omega arith in

@@ -3,7 +3,7 @@ use Prim.Native.Nat.{_≤_, _-_}
 use mathlib.Core.Path.{_≡_, refl, sym, _∙_}
 use native.Mathlib.Omega.{arith}
 use lib.ListN.{length, drop}
-use Rattle.entity.specs.Logic.{any}
+use Rattle.entity.specs.Logic.{anyIn}
 use Rattle.entity.specs.Place.{placeAt}
 use Rattle.reginfo.specs.RegInfo.{placeUnits}
 use Rattle.reginfo.specs.Table.{regInfoOf}
@@ -14,7 +14,7 @@ use Rattle.visits.proofs.has_open_writer.Statement.{statement}
 use Rattle.visits.proofs.has_open_writer.Tie as tie
 
 abbrev Inv-loop : tie.InvT-loop
-Inv-loop t e w marks m p n j₀ j = (any (openUnit w (statesOf marks)) (placeUnits (regInfoOf t) (placeAt (p .0))) ≡ any (openUnit w (statesOf marks)) (drop j (placeUnits (regInfoOf t) (placeAt (p .0))))) × (j ≤ length (placeUnits (regInfoOf t) (placeAt (p .0))))
+Inv-loop t e w marks m p n j₀ j = (anyIn (openUnit w (statesOf marks)) (placeUnits (regInfoOf t) (placeAt (p .0))) ≡ anyIn (openUnit w (statesOf marks)) (drop j (placeUnits (regInfoOf t) (placeAt (p .0))))) × (j ≤ length (placeUnits (regInfoOf t) (placeAt (p .0))))
 
 abbrev μ-loop : tie.MeasureT-loop
 μ-loop t e w marks m p n j₀ j = length (placeUnits (regInfoOf t) (placeAt (p .0))) - j

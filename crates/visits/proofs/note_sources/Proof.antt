@@ -3,7 +3,7 @@ use Prim.Native.Nat.{ℕ, _≤_, _-_}
 use mathlib.Core.Path.{_≡_, sym, _∙_, fun-ext}
 use native.Mathlib.Omega.{arith}
 use lib.ListN.{length, drop}
-use Rattle.entity.specs.Logic.{or, any}
+use Rattle.entity.specs.Logic.{or, anyIn}
 use Rattle.reginfo.specs.Table.{regInfoOf}
 use Rattle.small_set.specs.Set.{setOf, emptySet}
 use Rattle.entries.proofs.Lists.{or-none}
@@ -14,7 +14,7 @@ use Rattle.visits.proofs.note_sources.Statement.{statement}
 use Rattle.visits.proofs.note_sources.Tie as tie
 
 abbrev Inv-loop : tie.InvT-loop
-Inv-loop t e sources₀ n m₀ sources m = ((u : ℕ) → any (sourceUnit (regInfoOf t) (movesOf e) u) (movesOf e) ≡ or (any (sourceUnit (regInfoOf t) (movesOf e) u) (drop m (movesOf e))) (setOf sources u)) × (m ≤ length (movesOf e))
+Inv-loop t e sources₀ n m₀ sources m = ((u : ℕ) → anyIn (sourceUnit (regInfoOf t) (movesOf e) u) (movesOf e) ≡ or (anyIn (sourceUnit (regInfoOf t) (movesOf e) u) (drop m (movesOf e))) (setOf sources u)) × (m ≤ length (movesOf e))
 
 abbrev μ-loop : tie.MeasureT-loop
 μ-loop t e sources₀ n m₀ sources m = length (movesOf e) - m

@@ -5,7 +5,7 @@ use mathlib.Core.Bool.{true, false}
 use native.Mathlib.Omega.{arith}
 use lib.ListN.{getD, length, drop, drop-of-length-le}
 use borrow.Author.Tests.{not-true, not-false}
-use Rattle.entity.specs.Logic.{any}
+use Rattle.entity.specs.Logic.{anyIn}
 use Rattle.sparse.specs.Map.{keysOf}
 use Rattle.entries.specs.Known.{isFree}
 use Rattle.entries.proofs.Lists.{any-step}
@@ -15,7 +15,7 @@ use Rattle.entries.proofs.refusals.free_destination.Statement.{statemen
 use Rattle.entries.proofs.refusals.free_destination.Tie as tie
 
 abbrev Inv-loop : tie.InvT-loop
-Inv-loop w free given n j₀ j = (any (isFree free) (keysOf w) ≡ any (isFree free) (drop j (keysOf w))) × (j ≤ length (keysOf w)) × (n ≡ length (keysOf w))
+Inv-loop w free given n j₀ j = (anyIn (isFree free) (keysOf w) ≡ anyIn (isFree free) (drop j (keysOf w))) × (j ≤ length (keysOf w)) × (n ≡ length (keysOf w))
 
 abbrev μ-loop : tie.MeasureT-loop
 μ-loop w free given n j₀ j = length (keysOf w) - j
@@ -59,12 +59,12 @@ loop-again c =
     (l .inv .0 ∙ any-step (isFree (s .args .free .now)) (keysOf (s .args .w .now)) (l .j) 0 (omega arith) ∙ rw h, omega arith, l .inv .2)
 
 returns-3 : tie.Need-returns-3 Inv-loop μ-loop
-unfolding any
+unfolding anyIn
 returns-3 c =
     let s = c .before .before .before .before in
     let l = c .before .loop in
     let q : s .args .given ≡ true = not-false _ (c .before .before .before .if1 .left) in
-    rw q (sym (l .inv .0 ∙ ap (any (isFree (s .args .free .now))) (drop-of-length-le (keysOf (s .args .w .now)) {i = l .j} (omega arith))))
+    rw q (sym (l .inv .0 ∙ ap (anyIn (isFree (s .args .free .now))) (drop-of-length-le (keysOf (s .args .w .now)) {i = l .j} (omega arith))))
 
 pub free-destination-spec : {M : Type 1} → statement M
 free-destination-spec =

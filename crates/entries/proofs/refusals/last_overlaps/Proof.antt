@@ -4,7 +4,7 @@ use mathlib.Core.Path.{_≡_, refl, sym, ap, _∙_}
 use mathlib.Core.Bool.{true, false}
 use native.Mathlib.Omega.{arith}
 use lib.ListN.{length, drop, drop-of-length-le}
-use Rattle.entity.specs.Logic.{any}
+use Rattle.entity.specs.Logic.{anyIn}
 use Rattle.reginfo.specs.Table.{regInfoOf}
 use Rattle.function.specs.Function.{rematClass}
 use Rattle.function.specs.Table.{functionOf}
@@ -19,7 +19,7 @@ use Rattle.entries.proofs.refusals.last_overlaps.Statement.{statement}
 use Rattle.entries.proofs.refusals.last_overlaps.Tie as tie
 
 abbrev Inv-loop : tie.InvT-loop
-Inv-loop t f e n i₀ i = (lastOverlaps (regInfoOf t) (functionOf f) (sortedOf e) ≡ any (λ (r : Remat). lastClashes (regInfoOf t) (rematClass (functionOf f) (r .value)) (r .dest)) (drop i (sortedOf e .rematsWithScratch))) × (i ≤ length (sortedOf e .rematsWithScratch)) × (n ≡ length (sortedOf e .rematsWithScratch)) × (n ≤ 128)
+Inv-loop t f e n i₀ i = (lastOverlaps (regInfoOf t) (functionOf f) (sortedOf e) ≡ anyIn (λ (r : Remat). lastClashes (regInfoOf t) (rematClass (functionOf f) (r .value)) (r .dest)) (drop i (sortedOf e .rematsWithScratch))) × (i ≤ length (sortedOf e .rematsWithScratch)) × (n ≡ length (sortedOf e .rematsWithScratch)) × (n ≤ 128)
 
 abbrev μ-loop : tie.MeasureT-loop
 μ-loop t f e n i₀ i = length (sortedOf e .rematsWithScratch) - i
@@ -87,11 +87,11 @@ loop-again c =
     (l .inv .0 ∙ any-step (λ (r : Remat). lastClashes (regInfoOf (s .args .t .now)) (rematClass (functionOf (s .args .f .now)) (r .value)) (r .dest)) (sortedOf (s .args .e .now) .rematsWithScratch) (l .i) noRemat (omega arith) ∙ rw (scratch-is (s .args .e .now) (l .i) noRemat (omega arith), h), omega arith, l .inv .2, l .inv .3)
 
 returns-2 : tie.Need-returns-2 Inv-loop μ-loop
-unfolding any
+unfolding anyIn
 returns-2 c =
     let s = c .before .before .before .before in
     let l = c .before .loop in
-    sym (l .inv .0 ∙ ap (any (λ (r : Remat). lastClashes (regInfoOf (s .args .t .now)) (rematClass (functionOf (s .args .f .now)) (r .value)) (r .dest))) (drop-of-length-le (sortedOf (s .args .e .now) .rematsWithScratch) {i = l .i} (omega arith)))
+    sym (l .inv .0 ∙ ap (anyIn (λ (r : Remat). lastClashes (regInfoOf (s .args .t .now)) (rematClass (functionOf (s .args .f .now)) (r .value)) (r .dest))) (drop-of-length-le (sortedOf (s .args .e .now) .rematsWithScratch) {i = l .i} (omega arith)))
 
 pub last-overlaps-spec : {M : Type 1} → statement M
 last-overlaps-spec =

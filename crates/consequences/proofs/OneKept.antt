@@ -7,17 +7,17 @@ use mathlib.Core.Option.{Option, none, some}
 use native.Mathlib.Omega.{arith}
 use lib.Dec.{eqb}
 use lib.ListN.{length}
-use Rattle.entity.specs.Logic.{pick, and, or, no, any, has, indices}
+use Rattle.entity.specs.Logic.{pick, and, or, no, anyIn, has, indices}
 use Rattle.entity.specs.Place.{Place, reg}
 use Rattle.reginfo.specs.RegInfo.{RegInfo, bankForClass, spillslotSize, topLevelClass, allocationOrder, classMembers, includesSpillslots, lastInOrder, stackToStackClass, isMemory}
 use Rattle.function.specs.Function.{Function, rematClass}
 use Rattle.rules.specs.Edit.{Move, Rematerialize, andThen, each, find, filter}
 use Rattle.rules.specs.Scratch.{Cache, Evicted, ScratchAllocator, Found, push, withEvicted, meeting, releasePlace, makeAvailable, makeUnavailable, unevict, unevictAll, unevictBut, overlapsEvicted, unevictForReg, makeRoom, usable, searchedTo, nothingBarred, slotScratch, evictLast, reuse, orScratch, getScratchReg, moveEdits, doMove}
 use Rattle.rules.specs.Order.{KeptMove, Remat, Pending, Done, isNew, isPending, ParallelMoves, withAllocator, withState, withDiverted, doRemat, remats, rematWithScratch, source, dest, value, bank, writers, cycleMoveSources, emit, noted, divert, carried, lead, lost, undivert, undivertAll, close, visit, visitUnlessMemory, start, moves}
 use Rattle.rules.specs.Patch.{Patch, Sorted, run}
-use Rattle.rules.specs.OneKept.{bringBack, backIf, backFor, backAll, evicting, failing, search, edits, emitting, rebuilding, putting, diverting, leading, losing, losingAll, closing, visiting, visitingFirst, moving, running, AtOne}
+use Rattle.consequences.specs.OneKept.{bringBack, backIf, backFor, backAll, evicting, failing, search, edits, emitting, rebuilding, putting, diverting, leading, losing, losingAll, closing, visiting, visitingFirst, moving, running, AtOne}
 use Rattle.rules.proofs.Steps.{All, all-then, branch, Every, all-each}
 use Rattle.rules.proofs.Evictions.{for-few, search-few, remat-few, lead-few, undivert-few, visit-few}
 
 -- what follows is the same where it is the same of each result
 then-same : {A B : Type 0} (P : A → Type 0) (o : Option A) (g h : A → Option B) → All P o → ((a : A) → P a → g a ≡ h a) → andThen o g ≡ andThen o h
@@ -147,7 +147,7 @@ module _ (t : RegInfo) (f : Function) (one : f .kept ≡ 1) where
     lead-one : (i : ℕ) (w : ParallelMoves) → Held w → lead t f ms i w ≡ leading t f ms i w
     unfolding lead leading
     lead-one i w h =
-        ap₂ (λ (x y : Option ParallelMoves). pick (any (λ m. isPending (w .state m)) (writers t f ms i)) x y)
+        ap₂ (λ (x y : Option ParallelMoves). pick (anyIn (λ m. isPending (w .state m)) (writers t f ms i)) x y)
         (ap₂ (λ (x y : Option ParallelMoves). pick (eqb (w .diverted .refCount (value t f ms i)) 0) x y) (divert-one i (carried t f ms i w) h) (put-one i (w .scratch (value t f ms i)) (carried t f ms i w) h))
         (put-one i (source t f ms i) w h)
 

@@ -7,14 +7,14 @@ use mathlib.Core.List.{List, [], _∷_, reverse}
 use mathlib.Core.Option.{Option, none, some}
 use lib.Dec.{eqb}
 use lib.ListN.{length}
-use Rattle.entity.specs.Logic.{pick, and, or, any, has, indices}
+use Rattle.entity.specs.Logic.{pick, and, or, anyIn, has, indices}
 use Rattle.entity.specs.Place.{Place, reg}
 use Rattle.reginfo.specs.RegInfo.{RegInfo, bankForClass, spillslotSize, topLevelClass, allocationOrder, classMembers, includesSpillslots, stackToStackClass, overlap, isMemory}
 use Rattle.function.specs.Function.{Function, rematClass}
 use Rattle.rules.specs.Edit.{Move, Rematerialize, EmergencySpill, andThen, each, find}
 use Rattle.rules.specs.Scratch.{Cache, Evicted, ScratchAllocator, Found, push, withEvicted, withCache, meeting, release, releasePlace, makeAvailable, makeUnavailable, unevictAll, unevictForReg, makeRoom, usable, searchedTo, nothingBarred, slotScratch, evictLast, getScratchReg, doMove}
 use Rattle.rules.specs.Order.{KeptMove, Remat, Pending, Done, isNew, isPending, ParallelMoves, withAllocator, withState, withDiverted, remats, rematWithScratch, source, dest, value, bank, writers, cycleMoveSources, noted, carried, lost, start}
 use Rattle.rules.specs.Patch.{Patch, Sorted, run}
 
 module _ (t : RegInfo) (f : Function) where
   -- "To bring back is to emit the save and put the slot back."
@@ -94,7 +94,7 @@ module _ (t : RegInfo) (f : Function) where
 
     unfoldable pub leading : ℕ → ParallelMoves → Option ParallelMoves
     leading i w =
-        pick (any (λ m. isPending (w .state m)) (writers t f ms i))
+        pick (anyIn (λ m. isPending (w .state m)) (writers t f ms i))
         (pick (eqb (w .diverted .refCount (value t f ms i)) 0) (diverting i (carried t f ms i w))
         (putting i (w .scratch (value t f ms i)) (carried t f ms i w)))
         (putting i (source t f ms i) w)

@@ -8,19 +8,19 @@ use mathlib.Core.Logic.{_⊎_, inl, inr}
 use native.Mathlib.Omega.{arith}
 use lib.Dec.{eqb}
 use lib.ListN.{length, take, drop}
-use Rattle.entity.specs.Logic.{and, or, no, any, has, indices}
+use Rattle.entity.specs.Logic.{and, or, no, anyIn, has, indices}
 use Rattle.entity.specs.Place.{Place, reg, slot}
 use Rattle.reginfo.specs.RegInfo.{RegInfo, bankForClass, allocationOrder, classMembers, includesSpillslots, lastInOrder, spillslotSize, stackToStackClass, isMemory}
 use Rattle.function.specs.Function.{Function, rematClass}
 use Rattle.rules.specs.Edit.{Edit, Rematerialize, each, find, filter}
 use Rattle.rules.specs.Scratch.{Cache, ScratchAllocator, Evicted, Found, push, withEvicted, acquire, releasePlace, unevict, unevictAll, unevictBut, overlapsEvicted, unevictForReg, makeRoom, usable, meeting, searchedTo, slotScratch, evictLast, reuse, orScratch, getScratchReg, nothingBarred, moveEdits, doMove}
 use Rattle.rules.specs.Order.{KeptMove, Remat, ParallelMoves, doRemat, remats, rematWithScratch, source, dest, value, writers, cycleMoveSources, emit, noted, divert, carried, lead, lost, undivert, undivertAll, close, visit, visitUnlessMemory, start, moves, withState, Pending, Done, isNew, isPending}
 use Rattle.rules.specs.Patch.{Patch, Sorted, resolved, resolve, sorted, run}
 use Rattle.rules.specs.Evictions.{saves, reloads, Evicts, AsMany}
 use Rattle.rules.proofs.Steps.{All, all-then, all-after, branch, Every, all-each}
 use Rattle.rules.proofs.Parts.{Parts, all-parts, filter-parts, drop-parts, parts-length}
 use Rattle.rules.proofs.Evictions.{unevict-evicted}
 use Rattle.rules.proofs.Accepted.{accepted}
 
 taken : {A : Type 0} (P : A → Type 0) (o : Option A) (x : A) → All P o → o ≡ some x → P x
 taken P o x h e = subst (All P) e h
@@ -129,7 +129,7 @@ module _ (t : RegInfo) (f : Function) where
     lead-even : (i : ℕ) (w : ParallelMoves) → EvenWalk w → All EvenWalk (lead t f ms i w)
     unfolding lead divert
     lead-even i w h =
-        branch (All EvenWalk) (any (λ m. isPending (w .state m)) (writers t f ms i)) _ _
+        branch (All EvenWalk) (anyIn (λ m. isPending (w .state m)) (writers t f ms i)) _ _
         (λ _. branch (All EvenWalk) (eqb (w .diverted .refCount (value t f ms i)) 0) _ _
         (λ _. all-then EvenFound EvenWalk _ _ (search-even _ _ (cycleMoveSources t f ms) (w .allocator) h) (λ x q. emit-even i (x .place) (noted t f ms i x (carried t f ms i w)) q))
         (λ _. emit-even i (w .scratch (value t f ms i)) (carried t f ms i w) h))

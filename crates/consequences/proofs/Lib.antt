@@ -1,0 +1,3 @@
+pub mod OneKept
+pub mod Evicted
+pub mod NotInStacks
