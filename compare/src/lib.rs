@@ -6,6 +6,7 @@ pub mod calls;
 pub mod draft;
 pub mod encode;
 pub mod enough;
+pub mod equations;
 pub mod frame;
 pub mod generate;
 pub mod grouping;

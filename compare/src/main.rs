@@ -8,6 +8,7 @@ use std::path::Path;
 use std::process::ExitCode;
 
 use judge::answer::{Judge, SETTINGS};
+use judge::equations::{self, Asked as Equations};
 use judge::generate::calls::session;
 use judge::generate::{Generator, MODES};
 use judge::plain::Slip;
@@ -63,6 +64,9 @@ compare tries SEED PATCHES M R S L
     Reads a job on standard input, draws patches of its function from the seed, and
     prints the counts at both settings, with these prices; or `refused` and the
     number. An argument that is no decimal number is outside its range.
+compare equations SEED COUNT SETTING MOST BATCH FOLDER [--wrong]
+    Writes COUNT random jobs of at most MOST bytes as equations of the rules, BATCH
+    a crate, and prints counts over their answers. With --wrong each is wrong.
 compare tally
     Reads answers, each after its length, and prints counts over them.
     Fails if there is a panic among them.
@@ -97,6 +101,10 @@ fn main() -> ExitCode {
         ["replay-trials", file] => write_replay_of_trials(file),
         ["calls", seed, count] => write_calls(seed, count),
         ["tries", seed, patches, m, r, s, l] => try_settings(seed, patches, [m, r, s, l]),
+        ["equations", ref numbers @ .., folder, "--wrong"] => {
+            write_equations(numbers, folder, true)
+        }
+        ["equations", ref numbers @ .., folder] => write_equations(numbers, folder, false),
         ["tally"] => tally(),
         ["--help" | "help"] => io::stdout()
             .write_all(help().as_bytes())
@@ -255,6 +263,25 @@ fn try_settings(seed: &str, patches: &str, prices: [&str; 4]) -> Outcome {
         Ok(tried) => tried.to_string(),
         Err(refused) => format!("refused {}\n", refused.0),
     })
+}
+
+fn write_equations(numbers: &[&str], folder: &str, wrong: bool) -> Outcome {
+    answer::silence_panics();
+    let numbers: Result<Vec<u64>, _> = numbers.iter().map(|number| number.parse()).collect();
+    let Ok(&[seed, count, setting @ 1..=2, most_bytes, batch @ 1..=1000]) = numbers.as_deref()
+    else {
+        return Err("five numbers are needed, SETTING 1 or 2 and BATCH 1 to 1,000".into());
+    };
+    let asked = Equations {
+        seed,
+        count: count as usize,
+        setting: setting as u32,
+        most_bytes: most_bytes as usize,
+        batch: batch as usize,
+        wrong,
+    };
+    print!("{}", equations::write(&asked, Path::new(folder))?);
+    Ok(())
 }
 
 fn tally() -> Outcome {
