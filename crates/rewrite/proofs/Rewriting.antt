@@ -159,9 +159,6 @@ rewritten job text ns first second Differs e c d b = tt
 rewritten job text ns first second End e c d b = tt
 
 -- ---- the numbers before k are not the text's
-pub recorded-start : (text : List ℕ) → recordedIn text ≡ recordedFrom text 1 (23 - 1)
-recorded-start text = refl
-
 recorded-step : (text : List ℕ) (k : ℕ) → k < 23 → recordedFrom text k (23 - k) ≡ pick (tellsOf text k) k (recordedFrom text (k + 1) (23 - (k + 1)))
 unfolding recordedFrom
 recorded-step text k h = let z : 23 - k ≡ suc (23 - (k + 1)) = omega arith in rw z

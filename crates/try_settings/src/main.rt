@@ -292,7 +292,9 @@ fn number_at(i: usize) -> u64 {
 }
 
 // How many patches are asked for by a program of so many words, its name counted: none, which is refused, where there are too many.
-fn patches_from(words: usize) -> u32 {
+fn patches_from(words: usize) -> u32
+    ensures { λ r. ⌜ (7 < words → r ≡ 0) ⌝ }
+{
     if words != 7 {
         io::write_all(2, b"try_settings expects: SEED PATCHES M R S L\n");
     }
