@@ -1,4 +1,6 @@
 // A whole job answered into lent words: for each patch a head and its edits. What the working tables held does not matter.
+#![tactic(auto)]
+
 ghost use Rattle.std.specs.Prelude.{◌≡◌, ◌<◌, ◌≤◌, length, drop};
 ghost use Rattle.entity.specs.Logic.{Anything};
 ghost use Rattle.reginfo.specs.Table.{reg_info_of};

@@ -1,5 +1,7 @@
 // A whole job by groups (02 k): each of its patches is read, resolved by its groups and put into lent words. What the working tables held does not
 // matter.
+#![tactic(auto)]
+
 ghost use Rattle.std.specs.Prelude.{◌≡◌, List, ℕ, ◌*◌, ◌≤◌, length, drop, take};
 ghost use Rattle.entity.specs.Logic.{has, Anything};
 ghost use Rattle.reginfo.specs.Table.{reg_info_of};

@@ -1,5 +1,7 @@
 // The library for C and Rust: a whole job answered by groups (02 k). It stands in an archive of its own, so that what it shares with answering and
 // with patches by groups is compiled into each. What the working tables held does not matter, and nothing is asked of what is lent.
+#![tactic(auto)]
+
 ghost use Rattle.entity.specs.Logic.{Anything};
 ghost use Rattle.std.specs.Prelude.{length};
 ghost use Rattle.answer.specs.Answered.{AnsweredAs};

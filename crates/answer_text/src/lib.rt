@@ -1,4 +1,6 @@
 // The text of a whole answer, from the words of its patches, written into lent bytes.
+#![tactic(auto)]
+
 ghost use Rattle.std.specs.Prelude.{◌+◌, ◌≤◌, ◌<◌, ◌≡◌, length};
 ghost use Rattle.entity.specs.Logic.{pick};
 ghost use Rattle.print.specs.Put.{Room, Put};

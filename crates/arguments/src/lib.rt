@@ -1,4 +1,6 @@
 // The arguments of a program as numbers.
+#![tactic(auto)]
+
 ghost use Rattle.std.specs.Prelude.{◌≡◌, ◌≤◌};
 ghost use Rattle.arguments.specs.Number.{stepped, number_in, narrowed};
 

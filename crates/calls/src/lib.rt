@@ -1,5 +1,7 @@
 // A target and a function opened once, then call after call on that function's cache, refused ones among them, resolved or asked for (02 g); and
 // demand 3 of every list of such calls.
+#![tactic(auto)]
+
 ghost use Rattle.std.specs.Prelude.{◌≡◌, List, ℕ, ltb, length};
 ghost use Rattle.entity.specs.Logic.{Anything};
 ghost use Rattle.reginfo.specs.Refused.{Accepted};

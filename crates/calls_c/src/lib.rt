@@ -1,6 +1,8 @@
 // The library for C and Rust, patch by patch: a function opened, with prices and without, its patches one call each, how many slots were made, and
 // the L to plan with. What the working tables held does not matter. Asked is of `parallel_moves_resolve` only: what `parallel_moves_open` and the
 // calls after it left.
+#![tactic(auto)]
+
 ghost use Rattle.entity.specs.Logic.{Anything};
 ghost use Rattle.std.specs.Prelude.{◌≡◌, length};
 ghost use Rattle.reginfo.specs.Table.{reg_info_of};

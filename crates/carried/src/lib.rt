@@ -1,5 +1,7 @@
 // The values that open moves carry, as one lent list of rows. One list serves all moves: a closed move adds eight rows at most, one for each unit of
 // its source, and what a closed move carried is left where it stands, as nobody asks for it again.
+#![tactic(auto)]
+
 ghost use Rattle.std.specs.Prelude.{◌≡◌, [], ◌∷◌, ◌++◌, ℕ, ◌+◌, ◌<◌, ◌≤◌, eqb, length};
 ghost use Rattle.entity.specs.Logic.{pick, and, has};
 ghost use Rattle.carried.specs.Carried.{count_of, move_at, value_at, carried_by};

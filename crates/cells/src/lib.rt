@@ -1,4 +1,6 @@
 // The machine's memory as a table of numbers (specs/Cells.antt), for edits that are examined (02 m).
+#![tactic(auto)]
+
 ghost use Rattle.std.specs.Prelude.{◌≡◌, map, ℕ, ◌+◌, ◌*◌, ◌<◌, ◌≤◌, length, get_or};
 ghost use Rattle.entity.specs.Logic.{cells};
 ghost use Rattle.entity.specs.Place.{place_at};

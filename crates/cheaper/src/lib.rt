@@ -1,4 +1,6 @@
 // The cheaper of two lent edit lists, by their prices (02 f).
+#![tactic(auto)]
+
 ghost use Rattle.std.specs.Prelude.{◌≡◌};
 ghost use Rattle.cheaper.specs.Cheaper.{choice_of, Handed};
 

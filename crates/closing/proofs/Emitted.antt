@@ -11,7 +11,7 @@ use Rattle.rules.specs.Scratch.{do_move}
 use Rattle.rules.specs.Order.{no_move, value, dest}
 use Rattle.scratch.specs.declared.ScratchAllocator.{ScratchAllocator}
 use Rattle.scratch.specs.State.{T, F, Movable}
-use Rattle.scratch.specs.Contracts.{Tables, Moved}
+use Rattle.scratch.specs.Promises.{Tables, Moved}
 use Rattle.scratch.proofs.Unlimited.{same-bank}
 use Rattle.visits.specs.Marks.{moves_of}
 use Rattle.closing.specs.State.{Emits}

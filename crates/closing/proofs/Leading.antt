@@ -27,7 +27,7 @@ use Rattle.carried.specs.Carried.{count_of, carried_by}
 use Rattle.scratch.specs.declared.ScratchAllocator.{ScratchAllocator}
 use Rattle.scratch.specs.declared.diverting.Divert.{Divert}
 use Rattle.scratch.specs.State.{T, F, PlaceFits}
-use Rattle.scratch.specs.Contracts.{Tables, state_of, FitsIn, Moved}
+use Rattle.scratch.specs.Promises.{Tables, state_of, FitsIn, Moved}
 use Rattle.scratch.specs.Diversions.{Diversion, Diverting, count_at, alloc_at, scratch_at, diversion_at, divert_by, Diverts}
 use Rattle.scratch.proofs.Bounds.{fewer}
 use Rattle.scratch.proofs.Agree.{divert-is}

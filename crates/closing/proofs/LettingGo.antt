@@ -23,7 +23,7 @@ use Rattle.carried.specs.Carried.{count_of, move_at, value_at, rows_of, carried_
 use Rattle.edit.specs.Buffer as edit
 use Rattle.scratch.specs.declared.ScratchAllocator.{ScratchAllocator}
 use Rattle.scratch.specs.State.{T, F, owed, PlaceFits}
-use Rattle.scratch.specs.Contracts.{Tables, state_of, FitsIn}
+use Rattle.scratch.specs.Promises.{Tables, state_of, FitsIn}
 use Rattle.scratch.specs.Diversions.{count_at, alloc_at, scratch_at, diversion_at, Undiverts}
 use Rattle.scratch.proofs.Bounds.{fewer}
 use Rattle.scratch.proofs.Agree.{diversion_in, undivert-is}

@@ -16,7 +16,7 @@ use Rattle.scratch.proofs.Bounds as bounds
 use Rattle.scratch.proofs.Unlimited.{owed-is}
 use Rattle.scratch.specs.declared.ScratchAllocator.{ScratchAllocator}
 use Rattle.scratch.specs.State.{evicted_in, owed}
-use Rattle.scratch.specs.Contracts.{Tables, FitsIn}
+use Rattle.scratch.specs.Promises.{Tables, FitsIn}
 use Rattle.visits.specs.Marks.{is_done}
 use Rattle.closing.specs.State.{Work, Stands, unclosed}
 use Rattle.closing.specs.Steps.{PaidFor}

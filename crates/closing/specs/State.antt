@@ -10,7 +10,7 @@ use Rattle.rules.specs.Counts.{bit, sum}
 use Rattle.carried.specs.Carried.{count_of}
 use Rattle.scratch.specs.declared.ScratchAllocator.{ScratchAllocator}
 use Rattle.scratch.specs.State.{T, F, PlaceFits}
-use Rattle.scratch.specs.Contracts.{Tables, state_of, FitsIn}
+use Rattle.scratch.specs.Promises.{Tables, state_of, FitsIn}
 use Rattle.scratch.specs.Diversions.{count_at, alloc_at, scratch_at}
 use Rattle.visits.specs.Marks.{moves_of, states_of, is_done, is_noted}
 use Rattle.visits.specs.Writers.{KeptOk, Ready}

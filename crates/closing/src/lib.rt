@@ -1,4 +1,6 @@
 // 01, Ordering: how a visited move closes. Its writers are visited; it is emitted, and what it carries is let go.
+#![tactic(auto)]
+
 ghost use Rattle.std.specs.Prelude.{◌≡◌, true, List, ℕ, suc, ◌<◌, length};
 ghost use Rattle.entity.specs.Place.{place_at};
 ghost use Rattle.function.specs.Function.{value_bank};
@@ -8,7 +10,7 @@ ghost use Rattle.rules.specs.Scratch.{do_move};
 ghost use Rattle.rules.specs.Order.{ParallelMoves, Done, cycle_move_sources, value, dest, lead, undivert_all, close};
 ghost use Rattle.carried.specs.Carried.{count_of};
 ghost use Rattle.scratch.specs.State.{T, F, Fits};
-ghost use Rattle.scratch.specs.Contracts.{tables, Moved};
+ghost use Rattle.scratch.specs.Promises.{tables, Moved};
 ghost use Rattle.visits.specs.Marks.{moves_of, states_of, is_noted};
 ghost use Rattle.visits.specs.Writers.{KeptOk};
 ghost use Rattle.closing.specs.State.{work, MovesOk, Given, Emits};

@@ -1,4 +1,6 @@
 // Draws from a 32-bit seed (02 n).
+#![tactic(auto)]
+
 ghost use Rattle.std.specs.Prelude.{◌≡◌};
 ghost use Rattle.draws.specs.Draws.{next};
 

@@ -1,4 +1,6 @@
 // Where the words of a patch stand among those of an answer, for the price of an edge, which is a resolved patch (02 e).
+#![tactic(auto)]
+
 ghost use Rattle.std.specs.Prelude.{◌≡◌, drop};
 ghost use Rattle.edges.specs.Patches.{headed, counted, patch_numbered, FoundIn};
 

@@ -1,4 +1,6 @@
 // Edits as packed words, and the buffer that they are made in, backwards. One word is one edit, so that the length of a list counts edits.
+#![tactic(auto)]
+
 ghost use Rattle.std.specs.Prelude.{◌≡◌, [], ◌∷◌, ◌++◌, ◌+◌, ◌/◌, ◌<◌, ◌≤◌, length, drop};
 ghost use Rattle.std.proofs.Math.Option.{some, none};
 ghost use Rattle.entity.specs.Logic.{pick, and};

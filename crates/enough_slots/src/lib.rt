@@ -1,4 +1,6 @@
 // The emergency slots that are enough for a function, whatever its patches (02 j): "an L to plan with".
+#![tactic(auto)]
+
 ghost use Rattle.std.specs.Prelude.{◌≡◌, ◌<◌, ◌≤◌, length};
 ghost use Rattle.reginfo.specs.RegInfo.{spillslot_size};
 ghost use Rattle.reginfo.specs.Table.{reg_info_of};

@@ -1,24 +1,26 @@
 // The numberings of units, registers, slots, values, classes and banks; places and their codes.
+#![tactic(auto)]
+
 ghost use Rattle.std.specs.Prelude.{◌≡◌, ◌<◌, ◌+◌, ◌*◌};
 ghost use Rattle.entity.specs.Place.{reg, slot, code_of, place_at, read_place, place_of, named_of, unit_at, unit_of, unit_code, reg_unit, slot_unit};
 
 // One number each, so that no two numberings are mixed up.
-#[derive(Drop)]
+#[derive(Clone, Copy)]
 pub struct RegUnit(pub u16);
 
-#[derive(Drop)]
+#[derive(Clone, Copy)]
 pub struct PhysReg(pub u16);
 
-#[derive(Drop)]
+#[derive(Clone, Copy)]
 pub struct SpillSlot(pub u16);
 
-#[derive(Drop)]
+#[derive(Clone, Copy)]
 pub struct Value(pub u16);
 
-#[derive(Drop)]
+#[derive(Clone, Copy)]
 pub struct RegClass(pub u16);
 
-#[derive(Drop)]
+#[derive(Clone, Copy)]
 pub struct RegBank(pub u16);
 
 // A cell of a table as an index.
@@ -37,7 +39,7 @@ pub fn narrow(x: usize) -> u16
 }
 
 // 01: a place. The number is its place code.
-#[derive(Drop)]
+#[derive(Clone, Copy)]
 pub struct Allocation(pub u16);
 
 #[derive(Drop)]
@@ -101,7 +103,7 @@ impl Allocation {
 }
 
 // A register unit or a spill slot as one number, for a table over all units.
-#[derive(Drop)]
+#[derive(Clone, Copy)]
 pub struct AllocationUnit(pub u16);
 
 #[derive(Drop)]

@@ -1,6 +1,8 @@
 // A patch under construction: its kept moves, its rebuilds and what refuses them (2, 9 to 16, 21), in one lent table (specs/Table.antt), and the
 // writer of each unit: kept move m as m, a rebuild as 128. Here entries are added; writing.rt has what an entry writes, index.rt the index of
 // sources, refusals.rt what refuses the whole patch.
+#![tactic(auto)]
+
 mod index;
 mod refusals;
 mod writing;

@@ -1,5 +1,7 @@
 // Whether a list of edits does what a patch asks, from every start (02 m). One start decides: in it every word that nothing ties to another is a
 // number of its own, and the machine copies words without looking at them, so what it does from there it does from every start.
+#![tactic(auto)]
+
 ghost use Rattle.std.specs.Prelude.{◌≡◌, ℕ, ◌+◌, ◌*◌, ◌<◌, ◌≤◌, eqb, get_or};
 ghost use Rattle.std.proofs.Math.Option.{none};
 ghost use Rattle.entity.specs.Logic.{and, no, all_in, has, indices, Anything};

@@ -1,5 +1,7 @@
 // The library for C and Rust: a list of edits examined (02 m), for a patch of a job or of an opened function. Nothing is asked of a caller, but of the
 // calls for an opened function that target and function are as their opening left them.
+#![tactic(auto)]
+
 ghost use Rattle.std.specs.Prelude.{◌≡◌, ◌≤◌};
 ghost use Rattle.entity.specs.Logic.{Anything};
 ghost use Rattle.reginfo.specs.Table.{reg_info_of};

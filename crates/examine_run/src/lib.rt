@@ -1,4 +1,6 @@
 // The start that decides, and the machine's run from it (02 m), in a lent table of cells.
+#![tactic(auto)]
+
 ghost use Rattle.std.specs.Prelude.{◌≡◌, true, List, ℕ, ◌<◌, ◌≤◌};
 ghost use Rattle.std.proofs.Math.Option.{some};
 ghost use Rattle.entity.specs.Logic.{and, all_in, Anything};

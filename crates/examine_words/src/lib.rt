@@ -1,4 +1,6 @@
 // Words that are edits and name what there is: a place of the target, a slot below N + most, a value of the function; any other is 24 (02 m).
+#![tactic(auto)]
+
 ghost use Rattle.std.specs.Prelude.{◌≡◌, ◌+◌, ◌<◌, ◌≤◌, eqb, ltb};
 ghost use Rattle.entity.specs.Logic.{and, all_in};
 ghost use Rattle.entity.specs.Place.{names, place_at};

@@ -4,6 +4,8 @@
 // formula its setting, the length of its opening and the opening; then its calls. A call is its formula, counted from 1, and 0 and a patch to
 // resolve, 1 and one to ask for, or 2, to take what the formula's last asking left; a patch is its free units and its entries' numbers, each
 // behind their count. What is no frame, no formula or no call is refused by number, and ends its schedule; a frame of more formulas is told so.
+#![tactic(auto)]
+
 ghost use Rattle.std.specs.Prelude.{◌≡◌, ◌<◌, ◌≤◌, ltb, length, drop};
 ghost use Rattle.frame_table.specs.Table.{number_of};
 ghost use Rattle.frame_table.specs.Held.{FrameOk};

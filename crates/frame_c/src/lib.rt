@@ -1,5 +1,7 @@
 // The library for C and Rust: a frame that formulas share is opened, and they are called (02 l). It stands in an archive of its own. What the working
 // tables held does not matter. Asked is that the frame's table and each formula's are as their last calls left them.
+#![tactic(auto)]
+
 ghost use Rattle.std.specs.Prelude.{◌≡◌, ◌<◌, length};
 ghost use Rattle.entity.specs.Logic.{Anything};
 ghost use Rattle.reginfo.specs.Refused.{first_of};

@@ -1,5 +1,7 @@
 // The calls of formulas that share a frame (02 l): opened, resolved, asked for and taken. Each gets the frame's table as the last call of any formula
 // left it, and its formula's own tables.
+#![tactic(auto)]
+
 ghost use Rattle.std.specs.Prelude.{◌≡◌, ◌+◌, ◌-◌, ◌<◌, ◌≤◌, length};
 ghost use Rattle.entity.specs.Logic.{Anything};
 ghost use Rattle.function.specs.Known.{Checked};
@@ -28,7 +30,7 @@ use visits::States;
 
 // What a take needs beside the table of slots that the asking left: the counter as the patch would leave it, how many slots its formula has then, the
 // greatest position met, and the cache's stamp and the frame's counter at the asking.
-#[derive(Drop)]
+#[derive(Clone, Copy)]
 pub struct FramePreview {
     pub to: u16,
     pub made: u16,

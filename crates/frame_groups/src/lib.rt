@@ -1,5 +1,7 @@
 // A formula's call by groups in a frame (02 k and l), beside those of crate `frame_calls`. All groups of a call have one grant, as the formula has
 // one share.
+#![tactic(auto)]
+
 ghost use Rattle.std.specs.Prelude.{◌<◌, length};
 ghost use Rattle.entity.specs.Logic.{Anything};
 ghost use Rattle.function.specs.Known.{Checked};

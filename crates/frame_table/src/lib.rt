@@ -1,5 +1,7 @@
 // The table of a frame that formulas share (02 l): its limit, the one counter of its slots, and of each formula its promised share and how many slots
 // it made.
+#![tactic(auto)]
+
 ghost use Rattle.std.specs.Prelude.{◌≡◌, true, ◌+◌, ◌<◌, ◌≤◌, leb, length};
 ghost use Rattle.frame_table.specs.Table.{number_of, counter_of, slots_of, made_of, lacks_of, lacks_beside, others_lack_of, reach_of, opens_next};
 ghost use Rattle.frame_table.specs.Opening.{sum_of, Filled, FrameAs};

@@ -1,5 +1,7 @@
 // The function as one lent table of numbers (specs/Table.antt), read by accessors: values with bank, rebuild cost and class, N and L; and its test.
 // An accessor asks that its value is one of the function's, and that there are no more values than the limit allows.
+#![tactic(auto)]
+
 ghost use Rattle.std.specs.Prelude.{◌≡◌, true, ◌<◌, ◌≤◌};
 ghost use Rattle.reginfo.specs.RegInfo.{num_classes};
 ghost use Rattle.reginfo.specs.Table.{reg_info_of};

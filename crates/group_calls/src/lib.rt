@@ -1,4 +1,6 @@
 // One function's calls by groups (02 k), patch by patch, beside those of crate `calls`: of a function alone, and under a grant.
+#![tactic(auto)]
+
 ghost use Rattle.std.specs.Prelude.{length};
 ghost use Rattle.entity.specs.Logic.{Anything};
 ghost use Rattle.reginfo.specs.Table.{reg_info_of};

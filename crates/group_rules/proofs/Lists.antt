@@ -66,6 +66,7 @@ any-mem {A} p (y ∷ l) e = ⊎_elim (λ h. (y, Memᴰ.head refl, h)) (λ h. let
 
 pub mem-any : {A : Type 0} (p : A → Bool) (l : List A) (x : A) → Memᴰ x l → p x ≡ true → any_in p l ≡ true
 unfolding any_in
+mem-any {A = A} p [] x x4 h = elim x4 [ ]
 mem-any p (y ∷ l) x (Memᴰ.head e) h = or_left (p y) (any_in p l) (ap p (sym e) ∙ h)
 mem-any p (y ∷ l) x (Memᴰ.tail m) h = or_right (p y) (any_in p l) (mem-any p l x m h)
 
@@ -73,6 +74,7 @@ pub any-sub : {A : Type 0} (p : A → Bool) (l m : List A) → Sub l m → any_i
 any-sub p l m s e = let z = any-mem p l e in mem-any p m z.0 (s z.0 z.1) z.2
 
 pub mem-at : {A : Type 0} (d : A) (l : List A) (x : A) → Memᴰ x l → (i : ℕ) × (i < length l) × (get_or l i d ≡ x)
+mem-at {A = A} d [] x x3 = elim x3 [ ]
 mem-at d (y ∷ l) x (Memᴰ.head e) = (0, omega arith, sym e)
 mem-at d (y ∷ l) x (Memᴰ.tail m) = let z = mem-at d l x m in (suc z.0, omega (arith, z.1), z.2)
 
@@ -103,6 +105,7 @@ has-mem x (y ∷ l) e = ⊎_elim (λ h. Memᴰ.head (eqb-true x y h)) (λ h. Mem
 
 pub mem-has : (x : ℕ) (l : List ℕ) → Memᴰ x l → has x l ≡ true
 unfolding has
+mem-has x [] x'' = elim x'' [ ]
 mem-has x (y ∷ l) (Memᴰ.head e) = or_left (eqb x y) (has x l) (eq-eqb x y e)
 mem-has x (y ∷ l) (Memᴰ.tail m) = or_right (eqb x y) (has x l) (mem-has x l m)
 

@@ -90,6 +90,7 @@ module _ (t : RegInfo) (f : Function) where
       every_map room (part t p (labels_of t p)) (firsts (labels_of t p)) (λ g m. part-passes t f ta p q.0 room q.1 g (mem-has g (firsts (labels_of t p)) m))
 
   every-mem : (room : ℕ) (l : List Patch) → Passing room l → (q : Patch) → Memᴰ q l → first_of (whole_conditions t f q room) ≡ none
+  every-mem room [] h q x'' = elim x'' [ ]
   every-mem room (x ∷ l) h q (Memᴰ.head e) = subst (λ (z : Patch). first_of (whole_conditions t f z room) ≡ none) (sym e) h.0
   every-mem room (x ∷ l) h q (Memᴰ.tail m) = every-mem room l h.1 q m
 

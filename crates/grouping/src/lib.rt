@@ -1,5 +1,7 @@
 // A patch resolved group by group (02 k), on a copy of the cache and into a list of its own, so that a group that is out of slots leaves the caller's
 // list and cache as they were.
+#![tactic(auto)]
+
 ghost use Rattle.std.specs.Prelude.{◌≡◌, false, ℕ, ◌<◌, ◌≤◌, eqb, ltb, length, get_or};
 ghost use Rattle.entity.specs.Logic.{pick, Anything};
 ghost use Rattle.reginfo.specs.Table.{reg_info_of};

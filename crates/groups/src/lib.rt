@@ -1,5 +1,7 @@
 // Which entries of a patch belong together, and which units are free for a group (02 k). The entries are given as numbers, four to an entry
 // (parallel_moves, specs/Given.antt), and have passed their tests.
+#![tactic(auto)]
+
 ghost use Rattle.std.specs.Prelude.{◌≡◌, ℕ, ◌+◌, ◌*◌, ◌<◌, ◌≤◌, eqb, ltb, length, get_or};
 ghost use Rattle.entity.specs.Logic.{pick, or, cells, Anything};
 ghost use Rattle.entity.specs.Place.{place_at};

@@ -1,5 +1,7 @@
 // The library for C and Rust: a patch of an opened function resolved by groups (02 k). It stands in an archive of its own, so that what it shares
 // with resolving is compiled into each. What the working tables held does not matter.
+#![tactic(auto)]
+
 ghost use Rattle.std.specs.Prelude.{length};
 ghost use Rattle.entity.specs.Logic.{Anything};
 ghost use Rattle.reginfo.specs.Table.{reg_info_of};

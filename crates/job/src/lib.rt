@@ -1,4 +1,6 @@
 // The opening of a job, and one patch after the other read and resolved.
+#![tactic(auto)]
+
 ghost use Rattle.std.specs.Prelude.{◌≡◌, true, ℕ, ◌≤◌, length, drop};
 ghost use Rattle.entity.specs.Logic.{has, Anything};
 ghost use Rattle.reginfo.specs.Refused.{target_refusal};

@@ -1,4 +1,6 @@
 // Numbers, targets and functions as bytes, put one behind the other into working bytes: "job bytes out, in shortest numbers" (02 a).
+#![tactic(auto)]
+
 ghost use Rattle.std.specs.Prelude.{◌≡◌, [], ◌∷◌, map, ◌+◌, ◌*◌, ◌<◌, ◌≤◌, length, get_or};
 ghost use Rattle.entity.specs.Logic.{cells, indices};
 ghost use Rattle.reginfo.specs.Refused.{Accepted};

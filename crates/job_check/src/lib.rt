@@ -1,5 +1,7 @@
 // A job read to its end and not resolved: the number by which reading refuses it, as 16 and 17 belong to resolving. What the working tables held does
 // not matter.
+#![tactic(auto)]
+
 ghost use Rattle.std.specs.Prelude.{◌≡◌, drop};
 ghost use Rattle.entity.specs.Logic.{Anything};
 ghost use Rattle.reginfo.specs.Table.{reg_info_of};

@@ -1,4 +1,6 @@
 // The function, read from a job's bytes into the lent table that `function` reads, with its setting, which is given beside them.
+#![tactic(auto)]
+
 ghost use Rattle.std.specs.Prelude.{◌≡◌, ◌≤◌, length};
 ghost use Rattle.reginfo.specs.Refused.{Accepted};
 ghost use Rattle.reginfo.specs.Table.{reg_info_of};

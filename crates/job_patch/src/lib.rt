@@ -1,4 +1,6 @@
 // A patch read from a job's bytes; its entries are tested and added as they are read.
+#![tactic(auto)]
+
 ghost use Rattle.std.specs.Prelude.{length, drop, ◌≡◌, ◌≤◌};
 ghost use Rattle.entity.specs.Place.{place_at};
 ghost use Rattle.small_set.specs.Set.{empty_set};

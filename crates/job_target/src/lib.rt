@@ -1,4 +1,6 @@
 // The target, read from a job's bytes into the lent table that `reginfo` reads.
+#![tactic(auto)]
+
 ghost use Rattle.std.specs.Prelude.{◌≡◌, [], map, ◌+◌, ◌*◌, ◌<◌, ◌≤◌, length, get_or};
 ghost use Rattle.entity.specs.Logic.{any_in, cells, indices};
 ghost use Rattle.reginfo.specs.Table.{bank_at, reg_at, class_at, reg_info_of};

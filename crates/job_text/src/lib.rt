@@ -1,5 +1,7 @@
 // The text of a job's answer, patch by patch, put behind what a lent buffer holds; and how long an answer can be. Whoever writes what the buffer
 // holds goes on with `emptied`. What the working tables held does not matter.
+#![tactic(auto)]
+
 ghost use Rattle.std.specs.Prelude.{◌≡◌, false, ◌+◌, ◌<◌, ◌≤◌, length, take, drop};
 ghost use Rattle.entity.specs.Logic.{Anything};
 ghost use Rattle.function.specs.Table.{function_of};

@@ -1,5 +1,7 @@
 // A job written from its numbers or from the tables of its opening, with the reader's number for what reading would refuse (02 a): "checked target,
 // function and patches in, job bytes out, in shortest numbers". What the working bytes and tables held does not matter.
+#![tactic(auto)]
+
 ghost use Rattle.std.specs.Prelude.{List, ◌++◌, ℕ, length};
 ghost use Rattle.entity.specs.Logic.{Anything};
 ghost use Rattle.reginfo.specs.Table.{reg_info_of};

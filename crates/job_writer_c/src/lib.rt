@@ -1,5 +1,7 @@
 // The library for C and Rust, writing: a job from its numbers, or of an opened function; and the shipped target that one may be made on. What the
 // working bytes and tables held does not matter. Asked is of `parallel_moves_write_opened` only: what `parallel_moves_open` left.
+#![tactic(auto)]
+
 ghost use Rattle.std.specs.Prelude.{◌≡◌, List, ◌++◌, ℕ, length, take};
 ghost use Rattle.entity.specs.Logic.{Anything};
 ghost use Rattle.reginfo.specs.Table.{reg_info_of};

@@ -53,6 +53,7 @@ once-distinct (x ∷ l) e = go (has x l) (twice l) e (once-distinct l)
 
 -- where a rebuild stands in its list
 in-at : (t : RegInfo) (f : Function) (l : List Remat) (q : Place) (x : ℕ) → In l q x → (i : ℕ) × (i < length l) × (q ≡ (remat_at t f l i).dest) × (x ≡ (remat_at t f l i).value)
+in-at t f [] q x x3 = elim x3 [ ]
 in-at t f (r ∷ l) q x (inl h) = (0, omega arith, h.0, h.1)
 in-at t f (r ∷ l) q x (inr h) = let y = in-at t f l q x h in (suc y.0, omega (arith, y.1), y.2, y.3)
 
@@ -67,6 +68,7 @@ in_split (r ∷ l) m q x (inl h) = inl (inl h)
 in_split (r ∷ l) m q x (inr h) = ⊎_elim (λ y. inl (inr y)) (λ y. inr y) (in_split l m q x h)
 
 in_left : (l m : List Remat) (q : Place) (x : ℕ) → In l q x → In (l ++ m) q x
+in_left [] m q x x3 = elim x3 [ ]
 in_left (r ∷ l) m q x (inl h) = inl h
 in_left (r ∷ l) m q x (inr h) = inr (in_left l m q x h)
 

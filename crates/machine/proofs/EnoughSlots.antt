@@ -63,6 +63,7 @@ none-there zero h = refl
 none-there (suc n) h = absurd (h (omega arith))
 
 every_in : {A : Type 0} (P : A → Type 0) (l : List A) (x : A) → Every P l → Memᴰ x l → P x
+every_in {A = A} P [] x h x4 = elim x4 [ ]
 every_in P (y ∷ l) x h (Memᴰ.head e) = subst P (sym e) h.0
 every_in P (y ∷ l) x h (Memᴰ.tail m) = every_in P l x h.1 m
 

@@ -89,6 +89,7 @@ any-map p g (x ∷ l) = ap (or (p (g x))) (any-map p g l)
 
 any-in : {A : Type 0} (p : A → Bool) (l : List A) (x : A) → Memᴰ x l → p x ≡ true → any_in p l ≡ true
 unfolding any_in
+any-in {A = A} p [] x x4 h = elim x4 [ ]
 any-in p (y ∷ l) x (Memᴰ.head e) h = rw (← e, h)
 any-in p (y ∷ l) x (Memᴰ.tail m) h = rw (any-in p l x m h) (or-true (p y))
 

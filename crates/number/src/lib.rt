@@ -1,4 +1,6 @@
 // A job's numbers in their only form, read from bytes.
+#![tactic(auto)]
+
 ghost use Rattle.std.specs.Prelude.{◌≡◌, ◌<◌, ◌≤◌, eqb, ltb, length, get_or};
 ghost use Rattle.entity.specs.Logic.{pick};
 ghost use Rattle.number.specs.Answer.{NumberAt};

@@ -36,7 +36,7 @@ use Rattle.slots.proofs.Stamps.{fresh-cleared}
 use Rattle.slots.proofs.Laws.{fits_more}
 use Rattle.scratch.specs.declared.ScratchAllocator.{ScratchAllocator}
 use Rattle.scratch.specs.State.{T, F, made_of, cache_in}
-use Rattle.scratch.specs.Contracts.{Tables, state_of}
+use Rattle.scratch.specs.Promises.{Tables, state_of}
 use Rattle.scratch.proofs.Bounds.{stocked}
 use Rattle.entries.specs.Table.{sorted_of}
 use Rattle.entries.specs.Known.{EntriesOk}

@@ -22,7 +22,7 @@ use Rattle.slots.specs.Steps.{Begun}
 use Rattle.scratch.specs.declared.Evicted.TheVariants.{Nothing}
 use Rattle.scratch.specs.declared.ScratchAllocator.{ScratchAllocator}
 use Rattle.scratch.specs.State.{T, F, made_of, evicted_in, Fits, Stacked, owed}
-use Rattle.scratch.specs.Contracts.{Tables, tables, state_of}
+use Rattle.scratch.specs.Promises.{Tables, tables, state_of}
 use Rattle.scratch.proofs.Bounds.{fewer, refit}
 use Rattle.entries.specs.Table.{sorted_of}
 use Rattle.entries.specs.Known.{free_in, EntriesOk}

@@ -14,7 +14,7 @@ use Rattle.slots.specs.Stacks.{cache_of, stamp_of, met_of, stacks_of, SlotsFit, 
 use Rattle.slots.specs.Steps.{Committed}
 use Rattle.scratch.specs.declared.ScratchAllocator.{ScratchAllocator}
 use Rattle.scratch.specs.State.{T, F, made_of}
-use Rattle.scratch.specs.Contracts.{Tables, state_of, FitsIn}
+use Rattle.scratch.specs.Promises.{Tables, state_of, FitsIn}
 use Rattle.entries.specs.Table.{sorted_of}
 use Rattle.entries.specs.Known.{EntriesOk}
 use Rattle.parallel_moves.specs.declared.asking.Asked as A

@@ -23,7 +23,7 @@ use visits::States;
 
 // What a take needs beside the table of slots that the asking left: the slots made then, the greatest position met, and the cache's stamp at
 // the asking. The table alone is not enough: it says what changes in the cache's stacks, and so means something only of the cache that was asked.
-#[derive(Drop)]
+#[derive(Clone, Copy)]
 pub struct Preview {
     pub made: u16,
     pub position: u16,

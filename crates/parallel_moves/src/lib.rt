@@ -1,5 +1,7 @@
 // `resolve` of a patch, built of entries or given as numbers (numbered.rt), under a grant of slots; a patch that is asked for and taken (asking.rt);
 // and demand 3 of every list of such calls.
+#![tactic(auto)]
+
 mod asking;
 mod numbered;
 
@@ -9,7 +11,7 @@ ghost use Rattle.small_set.specs.Set.{set_of};
 ghost use Rattle.function.specs.Known.{Checked};
 ghost use Rattle.function.specs.Table.{function_of};
 ghost use Rattle.entries.specs.Known.{EntriesOk, free_in};
-ghost use Rattle.scratch.specs.Contracts.{tables};
+ghost use Rattle.scratch.specs.Promises.{tables};
 ghost use Rattle.parallel_moves.specs.Given.{own, GrantOk, CacheOk};
 ghost use Rattle.parallel_moves.specs.Answers.{Resolves, ResolvesGranted};
 ghost use Rattle.parallel_moves.specs.Steps.{Ran, CanHandOver, HandedOver};
@@ -30,7 +32,7 @@ use visits::States;
 
 // The counter that slot numbers come from, and how far it may go. Given beside the cache, since formulas that share a frame have a cache each and one
 // counter for all (02 l).
-#[derive(Drop)]
+#[derive(Clone, Copy)]
 pub struct Grant {
     pub made: u16,
     pub limit: u16,

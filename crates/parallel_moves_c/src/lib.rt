@@ -1,5 +1,7 @@
 // The library for C and Rust, whole jobs: a job answered as words, and their text. What the working tables held does not matter, and nothing is asked
 // of what is lent.
+#![tactic(auto)]
+
 ghost use Rattle.entity.specs.Logic.{Anything};
 ghost use Rattle.std.specs.Prelude.{length};
 ghost use Rattle.answer_text.specs.Lines.{answer_text, Printed};

@@ -1,5 +1,7 @@
 // The entries of a patch as numbers, four to an entry (parallel_moves, specs/Given.antt): a second reading, of bytes that were read as a patch (02
 // k).
+#![tactic(auto)]
+
 ghost use Rattle.std.specs.Prelude.{◌≡◌, ◌+◌, ◌*◌, ◌≤◌, length, drop, take};
 ghost use Rattle.reading.specs.Answer.{next_of};
 ghost use Rattle.patch_numbers.specs.Numbers.{passed, last, four, fours, counted, numbers_in};

@@ -31,6 +31,10 @@ of-exact n h =
 -- two whole numbers multiplied: their product, rounded once
 mul-value : (f : Format) (x y : Float) (a b : ℕ) → HasValue x false a 1 → HasValue y false b 1 → mul f x y ≡ round f false (a * b) 1
 unfolding mul
+mul-value f (fin s m e) (lib.Ieee.inf _) a b v w = elim w [ ]
+mul-value f (fin s m e) lib.Ieee.nan a b v w = elim w [ ]
+mul-value f (lib.Ieee.inf _) y a b v w = elim v [ ]
+mul-value f lib.Ieee.nan y a b v w = elim v [ ]
 mul-value f (fin s m e) (fin t n d) a b v w =
     ap (λ (r : Bool). round f (unlike r t) (m * up e * (n * up d)) (down e * down d)) v.0
     ∙ ap (λ (r : Bool). round f (unlike false r) (m * up e * (n * up d)) (down e * down d)) w.0

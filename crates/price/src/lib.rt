@@ -1,10 +1,12 @@
 // What the edits of a patch cost, added up in three ways, and the record of an edge, exact (02 e).
+#![tactic(auto)]
+
 ghost use Rattle.std.specs.Prelude.{◌≡◌, true, ◌*◌, ◌^◌, ◌<◌, ◌≤◌, length};
 ghost use Rattle.price.specs.Price.{prices_in, price_in, total_of, in_range};
 ghost use Rattle.price.specs.Exact.{Priced, PriceIs};
 
 // In quarter cycles: what an M, an R, an S and an L costs.
-#[derive(Drop)]
+#[derive(Clone, Copy)]
 pub struct Prices {
     pub moves: u32,
     pub remats: u32,
@@ -13,7 +15,7 @@ pub struct Prices {
 }
 
 // What an edge's patch costs, how often the edge ran, and their product.
-#[derive(Drop)]
+#[derive(Clone, Copy)]
 pub struct Edge {
     pub total: u64,
     pub runs: f64,

@@ -1,5 +1,7 @@
 // The library for C and Rust, prices (02 e and f): of a patch of an answer, of the edits of a call, and which of two lists is the cheaper. Nothing is
 // asked of a caller.
+#![tactic(auto)]
+
 ghost use Rattle.std.specs.Prelude.{◌≡◌, true, false, ◌≤◌, ◌<◌, length};
 ghost use Rattle.std.proofs.Math.Option.{some};
 ghost use Rattle.price.specs.Price.{prices_in};

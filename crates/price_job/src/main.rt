@@ -2,6 +2,8 @@
 // where run counts are given, one for each patch, the run count and the product; after a number the last line is `refused` and the number. An
 // argument that is no decimal number, or is missing, counts as outside its range, and more run counts than a job has patches are 2; what is expected
 // is then said on standard error too. So is what could not be read or written.
+#![tactic(auto)]
+
 ghost use Rattle.std.specs.Prelude.{◌≡◌, true, ◌≤◌, length, take};
 ghost use Rattle.entity.specs.Logic.{Anything};
 ghost use Rattle.price.specs.Price.{in_range};

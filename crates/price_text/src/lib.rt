@@ -1,4 +1,6 @@
 // The lines of what the patches of an answer cost, from their words, written into lent bytes (02 e).
+#![tactic(auto)]
+
 ghost use Rattle.std.specs.Prelude.{◌≡◌, true, false, ◌+◌, ◌*◌, ◌^◌, ◌<◌, ◌≤◌, length, take, drop};
 ghost use Rattle.price.specs.Price.{in_range, total_of};
 ghost use Rattle.edges.specs.Patches.{patches_of};

@@ -1,5 +1,7 @@
 // The text of a patch and of a refusal, as the program `resolve` prints it, written into lent bytes from an offset on. Each step answers the offset
 // past its text.
+#![tactic(auto)]
+
 ghost use Rattle.std.specs.Prelude.{◌≤◌, List, ◌++◌, length, take};
 ghost use Rattle.entity.specs.Place.{reg, slot, place_at};
 ghost use Rattle.rules.specs.Edit as rule;

@@ -1,4 +1,6 @@
 // A `Reader`: "A reader stands on the job bytes and its next offset."
+#![tactic(auto)]
+
 ghost use Rattle.std.specs.Prelude.{◌≡◌};
 ghost use Rattle.number.specs.Answer.{NumberAt};
 

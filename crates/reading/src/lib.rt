@@ -1,4 +1,6 @@
 // A job's numbers read, each held against a limit.
+#![tactic(auto)]
+
 ghost use Rattle.reading.specs.Reading.{below, between};
 ghost use Rattle.reading.specs.Answer.{ReadAt};
 

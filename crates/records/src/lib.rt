@@ -1,5 +1,7 @@
 // Records of a job and the text that its answer should have: read one by one from standard input, and answered. A record is the function's number
 // of kept evictions, which may be any, the job's length and the text's, four bytes each, the lowest first, the job, and the text.
+#![tactic(auto)]
+
 ghost use Rattle.std.specs.Prelude.{◌≡◌, ◌+◌, ◌<◌, ◌≤◌, true, length};
 ghost use Rattle.answer_text.specs.Lines.{Printed};
 ghost use Rattle.records.specs.Bytes.{length_at, same_list};

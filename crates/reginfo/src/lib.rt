@@ -1,5 +1,7 @@
 // The target as one lent table of numbers (specs/Table.antt), read by accessors; its rules 3 to 7 as definitions; overlap. An accessor asks that its
 // register, class or bank is one of the target's, and that there are no more of them than the limits allow.
+#![tactic(auto)]
+
 ghost use Rattle.std.specs.Prelude.{◌≡◌, ◌<◌, ◌≤◌, length, get_or};
 ghost use Rattle.entity.specs.Logic.{has, meets};
 ghost use Rattle.entity.specs.Place.{reg, slot, place_at, same_place};

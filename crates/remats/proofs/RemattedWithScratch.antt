@@ -24,7 +24,7 @@ use Rattle.search.specs.Search.{barred_by}
 use Rattle.scratch.specs.declared.ScratchAllocator.{ScratchAllocator}
 use Rattle.scratch.specs.declared.finding.Scratch.{Scratch}
 use Rattle.scratch.specs.State.{T, F, evicted_in, allocator_of, Fits, owed}
-use Rattle.scratch.specs.Contracts.{Tables, tables, state_of, FitsIn, Brought, Found, Moved, Released}
+use Rattle.scratch.specs.Promises.{Tables, tables, state_of, FitsIn, Brought, Found, Moved, Released}
 use Rattle.scratch.proofs.Bounds.{fewer, refit, pushed}
 use Rattle.scratch.proofs.Unlimited.{same_class, all_placed, owed-is}
 use Rattle.entries.specs.Table.{remat_as}

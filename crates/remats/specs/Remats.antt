@@ -16,7 +16,7 @@ use Rattle.rules.specs.Sorted.{RematOk}
 use Rattle.edit.specs.Buffer.{count_of, Written}
 use Rattle.scratch.specs.declared.ScratchAllocator.{ScratchAllocator}
 use Rattle.scratch.specs.State.{T, F, evicted_in, allocator_of, owed}
-use Rattle.scratch.specs.Contracts.{Tables, state_of, FitsIn}
+use Rattle.scratch.specs.Promises.{Tables, state_of, FitsIn}
 
 -- a rebuild that an edit can name
 pub record RematFits (t : List ℕ) (r : Remat) : Type 0 where

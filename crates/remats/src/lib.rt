@@ -1,4 +1,6 @@
 // 01, Ordering: the rebuilds of a patch, those without scratch and those with.
+#![tactic(auto)]
+
 ghost use Rattle.std.specs.Prelude.{◌≡◌, true, false, [], ◌∷◌, ◌++◌, map, ◌+◌, ◌*◌, ◌<◌, ◌≤◌, length, get_or, drop};
 ghost use Rattle.entity.specs.Place.{place_at};
 ghost use Rattle.function.specs.Function.{remat_cost, remat_class, can_rematerialize};
@@ -10,7 +12,7 @@ ghost use Rattle.rules.specs.Sorted.{RematOk};
 ghost use Rattle.edit.specs.Buffer.{count_of};
 ghost use Rattle.entries.specs.Table.{remat_as, sorted_of};
 ghost use Rattle.scratch.specs.State.{T, F, Fits, Movable};
-ghost use Rattle.scratch.specs.Contracts.{tables};
+ghost use Rattle.scratch.specs.Promises.{tables};
 ghost use Rattle.visits.specs.Marks.{remats_of, remats_with_scratch_of};
 ghost use Rattle.edit.specs.Word.{word_of};
 ghost use Rattle.remats.specs.Remats.{RematsFit, RematsOk, Rematted, through_scratch, Through, RemattedWithScratch, only_remats, last_first};

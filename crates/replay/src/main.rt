@@ -1,4 +1,6 @@
 // A program: answers each job of the records on standard input, with its setting, and holds the text of its answer against the recorded one.
+#![tactic(auto)]
+
 ghost use Rattle.std.specs.Prelude.{◌<◌, ◌≡◌};
 ghost use Rattle.replay.specs.Replayed.{is_replayed};
 

@@ -1,6 +1,8 @@
 // The program `resolve`: reads a job on standard input and prints the edits of its patches, or the number by which it is refused. The argument, `1`
 // or `2`, is the function's number of kept evictions, 1 without any; another one, or a second, is refused with 22, whatever the job. What could not
 // be read or written is said on standard error.
+#![tactic(auto)]
+
 ghost use Rattle.std.specs.Prelude.{◌≡◌, length};
 ghost use Rattle.entity.specs.Logic.{Anything};
 ghost use Rattle.job_text.specs.Standing.{Stands, Piece};

@@ -1,6 +1,8 @@
 // A program: each job of the records on standard input is written anew, from the numbers that its bytes are and from the tables that its opening is
 // read into, and held against the job, byte for byte. Where the writer refuses it, its number is held against the recorded text's. 02 a: "any
 // accepted job read and written again has its old bytes".
+#![tactic(auto)]
+
 ghost use Rattle.std.specs.Prelude.{◌≡◌, List, ℕ, ◌<◌, ◌≤◌, eqb, length};
 ghost use Rattle.entity.specs.Logic.{or};
 ghost use Rattle.function.specs.Known.{Checked};

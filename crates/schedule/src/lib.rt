@@ -1,4 +1,6 @@
 // A call of a formula in a shared frame (02 l), given as a job's numbers: read, answered, and the answer's text put into lent bytes.
+#![tactic(auto)]
+
 ghost use Rattle.std.specs.Prelude.{◌≡◌, List, ◌<◌, ◌≤◌, length, take, drop};
 ghost use Rattle.function.specs.Known.{Checked};
 ghost use Rattle.rules.specs.Edit as rule;
@@ -27,7 +29,7 @@ use reginfo::RegInfo;
 use slots::{EmergencySpillSlotCache, Slots};
 
 // What a formula's last asking left to take.
-#[derive(Drop)]
+#[derive(Clone, Copy)]
 pub enum Left {
     Nothing,
     Answer(FramePreview),

@@ -19,7 +19,7 @@ use Rattle.scratch.specs.declared.Evicted.{Evicted}
 use Rattle.scratch.specs.declared.Held.{Held}
 use Rattle.scratch.specs.declared.ScratchAllocator.{ScratchAllocator}
 use Rattle.scratch.specs.State.{T, made_of, evicted_in, Keeps, Stacked, Stocked, HeldFits, AllFit, owed, Fits}
-use Rattle.scratch.specs.Contracts.{Holds}
+use Rattle.scratch.specs.Promises.{Holds}
 
 -- lists of slots below 8,192
 abbrev Low : List ℕ → Type 0

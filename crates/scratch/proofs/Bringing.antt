@@ -24,7 +24,7 @@ use Rattle.scratch.specs.declared.Evicted.{Evicted}
 use Rattle.scratch.specs.declared.Evicted.TheVariants.{Nothing, One, Two}
 use Rattle.scratch.specs.declared.ScratchAllocator.{ScratchAllocator}
 use Rattle.scratch.specs.State.{T, F, evicted_in, held_of, evicted_of, Keeps, HeldFits, AllFit, owed}
-use Rattle.scratch.specs.Contracts.{Tables, tables, state_of, unevict_for_ends, Back, Brought, Holds}
+use Rattle.scratch.specs.Promises.{Tables, tables, state_of, unevict_for_ends, Back, Brought, Holds}
 use Rattle.scratch.proofs.Bounds.{fewer, pushed, put_back, let_go, all_fit}
 use Rattle.scratch.proofs.Steps.{all-is, all_none, but-all, but-none, but-one, but-two, for-none, for-apart, for-met, for-two, for-both, for-older, for-neither, ends-none, ends-apart, ends-met, room-none}
 use Rattle.scratch.proofs.Unlimited.{length-evicted}

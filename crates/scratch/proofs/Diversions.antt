@@ -18,7 +18,7 @@ use Rattle.rules.specs.Scratch.{get_scratch_reg, make_unavailable, do_move, rele
 use Rattle.scratch.specs.declared.ScratchAllocator.{ScratchAllocator}
 use Rattle.scratch.specs.declared.finding.Scratch.{Scratch}
 use Rattle.scratch.specs.State.{T, F, allocator_of, PlaceFits}
-use Rattle.scratch.specs.Contracts.{Tables, tables, state_of, Found, Moved, Released}
+use Rattle.scratch.specs.Promises.{Tables, tables, state_of, Found, Moved, Released}
 use Rattle.scratch.specs.Diversions.{Diversion, Undiverting, count_at, alloc_at, scratch_at, diversion_at, divert_by, undivert_by, Noted, Diverts, Ended, Undiverts}
 use Rattle.scratch.proofs.Bounds.{fewer}
 

@@ -37,7 +37,7 @@ use Rattle.scratch.specs.declared.finding.Scratch.{Scratch}
 use Rattle.scratch.specs.declared.finding.Taken.{Taken}
 use Rattle.function.specs.Known.{Checked}
 use Rattle.scratch.specs.State.{T, F, made_of, evicted_in, held_of, evicted_of, cache_in, allocator_of, Stocked, Fits, PlaceFits, Evictable}
-use Rattle.scratch.specs.Contracts.{Tables, tables, failing, unevict_for_ends, state_of, Acquired, Brought, Holds, Found, Moved, Released}
+use Rattle.scratch.specs.Promises.{Tables, tables, failing, unevict_for_ends, state_of, Acquired, Brought, Holds, Found, Moved, Released}
 use Rattle.scratch.proofs.Packed.{one_more}
 use Rattle.scratch.proofs.Bounds.{top-low, fewer, pushed, put_back, taken, met-one, one-made, hold}
 use Rattle.scratch.proofs.Steps.{took, made, reuse-member, reuse-stranger, find-has}

@@ -16,7 +16,7 @@ use Rattle.scratch.specs.declared.Evicted.{Evicted}
 use Rattle.scratch.specs.declared.Evicted.TheVariants.{Nothing, One, Two}
 use Rattle.scratch.specs.declared.ScratchAllocator.{ScratchAllocator}
 use Rattle.scratch.specs.State.{T, F, evicted_in, evicted_of, owed}
-use Rattle.scratch.specs.Contracts.{Tables, state_of}
+use Rattle.scratch.specs.Promises.{Tables, state_of}
 
 pub same-bank : (f : List ℕ) (v : ℕ) → value_bank (F f) v ≡ value_bank (function_of f) v
 unfolding value_bank

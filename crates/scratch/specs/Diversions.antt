@@ -11,7 +11,7 @@ use Rattle.rules.specs.Scratch as rules
 use Rattle.scratch.specs.declared.ScratchAllocator.{ScratchAllocator}
 use Rattle.scratch.specs.declared.diverting.Divert.{Divert}
 use Rattle.scratch.specs.State.{T, F, PlaceFits}
-use Rattle.scratch.specs.Contracts.{Tables, state_of, FitsIn}
+use Rattle.scratch.specs.Promises.{Tables, state_of, FitsIn}
 
 pub record Diversion : Type 0 where
   pub ref_count : ℕ

@@ -1,3 +1,3 @@
 pub mod State
-pub mod Contracts
+pub mod Promises
 pub mod Diversions

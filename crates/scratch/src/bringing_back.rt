@@ -8,7 +8,7 @@ ghost use Rattle.rules.specs.Scratch.{unevict_all, unevict_but, unevict_for_reg,
 ghost use Rattle.function.specs.Table.{function_of};
 ghost use Rattle.function.specs.Known.{Checked};
 ghost use Rattle.scratch.specs.State.{T, F, evicted_in, HeldFits, owed, Fits, Evictable};
-ghost use Rattle.scratch.specs.Contracts.{tables, unevict_for_ends, Back, Brought};
+ghost use Rattle.scratch.specs.Promises.{tables, unevict_for_ends, Back, Brought};
 
 use crate::{Evicted, Held, ScratchAllocator};
 use edit::Edits;

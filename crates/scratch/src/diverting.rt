@@ -6,7 +6,7 @@ ghost use Rattle.function.specs.Table.{function_of};
 ghost use Rattle.scratch.specs.Diversions.{count_at, alloc_at, scratch_at, Noted, Diverts, Ended, Undiverts};
 ghost use Rattle.function.specs.Known.{Checked};
 ghost use Rattle.scratch.specs.State.{Fits, PlaceFits};
-ghost use Rattle.scratch.specs.Contracts.{tables};
+ghost use Rattle.scratch.specs.Promises.{tables};
 
 use crate::ScratchAllocator;
 use edit::Edits;

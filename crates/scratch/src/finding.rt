@@ -5,7 +5,7 @@ ghost use Rattle.rules.specs.Scratch.{slot_scratch, evict_last, reuse, get_scrat
 ghost use Rattle.search.specs.Search.{barred_by};
 ghost use Rattle.function.specs.Known.{Checked};
 ghost use Rattle.scratch.specs.State.{T, F, evicted_in, held_of, evicted_of, Stocked, HeldFits, owed, Fits, Evictable};
-ghost use Rattle.scratch.specs.Contracts.{tables, failing, Acquired, Found};
+ghost use Rattle.scratch.specs.Promises.{tables, failing, Acquired, Found};
 
 use crate::{Evicted, Held, ScratchAllocator};
 use edit::Edits;

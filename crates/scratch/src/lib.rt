@@ -2,6 +2,8 @@
 // the edits made so far, the available units, and what the patch did to the cache's stacks of slots. Here it is packed and read, and units
 // are marked; finding.rt searches for a scratch and evicts, bringing_back.rt brings back, moving.rt has the edits of a move, diverting.rt the
 // diversions.
+#![tactic(auto)]
+
 mod bringing_back;
 mod diverting;
 mod finding;
@@ -12,7 +14,7 @@ ghost use Rattle.entity.specs.Place.{place_at};
 ghost use Rattle.reginfo.specs.Known.{KnownPlace};
 ghost use Rattle.rules.specs.Scratch.{make_available, make_unavailable};
 ghost use Rattle.scratch.specs.State.{T, F, word_of, held_at, made_of, evicted_in, Small, AllSmall, allocator_of, Keeps, owed};
-ghost use Rattle.scratch.specs.Contracts.{Holds};
+ghost use Rattle.scratch.specs.Promises.{Holds};
 
 pub use diverting::{Diversions, Divert, first_of, ref_count, scratch_of, set_count};
 use entity::{Allocation, PhysReg, RegBank, SpillSlot};
@@ -21,7 +23,7 @@ use reginfo::RegInfo;
 use small_set::RegUnitSet;
 
 // An evicted register, its slot, and the bank whose size the slot has.
-#[derive(Drop)]
+#[derive(Clone, Copy)]
 pub struct Held {
     pub reg: PhysReg,
     pub slot: SpillSlot,
@@ -37,7 +39,7 @@ pub enum Evicted {
 }
 
 // The evicted registers and the number of slots made, in one number (specs/State): what each step hands back is one word.
-#[derive(Drop)]
+#[derive(Clone, Copy)]
 pub struct ScratchAllocator {
     pub packed: u64,
 }

@@ -8,7 +8,7 @@ ghost use Rattle.rules.specs.Scratch.{make_available, make_unavailable, move_edi
 ghost use Rattle.slots.specs.Stacks.{SlotsFit};
 ghost use Rattle.function.specs.Known.{Checked};
 ghost use Rattle.scratch.specs.State.{T, F, allocator_of, Fits, PlaceFits, Movable};
-ghost use Rattle.scratch.specs.Contracts.{tables, Moved, Released};
+ghost use Rattle.scratch.specs.Promises.{tables, Moved, Released};
 
 use crate::ScratchAllocator;
 use edit::Edits;

@@ -25,7 +25,7 @@ use Rattle.scratch.specs.declared.ScratchAllocator.{ScratchAllocator}
 use Rattle.scratch.specs.declared.finding.Scratch.{Scratch}
 use Rattle.scratch.specs.declared.diverting.Divert.{Divert}
 use Rattle.scratch.specs.State.{T, F, made_of, evicted_in, Stacked, owed, PlaceFits, allocator_of}
-use Rattle.scratch.specs.Contracts.{Tables, tables, state_of, FitsIn, Brought, Found, Moved, Released}
+use Rattle.scratch.specs.Promises.{Tables, tables, state_of, FitsIn, Brought, Found, Moved, Released}
 use Rattle.scratch.specs.Diversions.{Diversion, Diverting, count_at, alloc_at, scratch_at, diversion_at, divert_by, Diverts, Undiverts}
 use Rattle.scratch.proofs.Bounds.{fewer}
 use Rattle.scratch.proofs.Unlimited.{same-bank}

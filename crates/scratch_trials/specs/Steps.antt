@@ -10,7 +10,7 @@ use Rattle.rules.specs.Scratch as rules
 use Rattle.edit.specs.Buffer.{count_of}
 use Rattle.scratch.specs.declared.ScratchAllocator.{ScratchAllocator}
 use Rattle.scratch.specs.State.{allocator_of, Fits}
-use Rattle.scratch.specs.Contracts.{Tables, state_of}
+use Rattle.scratch.specs.Promises.{Tables, state_of}
 use Rattle.scratch.specs.Diversions.{Diversion, divert_by, undivert_by}
 
 -- an allocator that has made nothing

@@ -1,5 +1,7 @@
 // 01's trials of the allocator alone: slot 0 to slot 1, slots swapped, and a rebuild into a slot, step by step. For each it is printed
 // whether the edits are those that 01 gives.
+#![tactic(auto)]
+
 ghost use Rattle.std.specs.Prelude.{◌≡◌, true, false, ◌<◌, ◌≤◌};
 ghost use Rattle.entity.specs.Logic.{Anything};
 ghost use Rattle.entity.specs.Place.{place_at};
@@ -12,7 +14,7 @@ ghost use Rattle.reginfo.specs.Refused as reginfo;
 ghost use Rattle.edit.specs.Buffer.{count_of};
 ghost use Rattle.function.specs.Known.{Checked};
 ghost use Rattle.scratch.specs.State.{T, F, Fits, PlaceFits};
-ghost use Rattle.scratch.specs.Contracts.{tables};
+ghost use Rattle.scratch.specs.Promises.{tables};
 ghost use Rattle.scratch.specs.Diversions.{count_at, diversion_at};
 ghost use Rattle.search.specs.Search.{barred_by};
 ghost use Rattle.scratch_trials.specs.Steps.{Started, slot_to_slot, slots_swapped, rematted, Ends};

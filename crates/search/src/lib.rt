@@ -1,4 +1,6 @@
 // The search for a scratch register, and the marks on a register's units.
+#![tactic(auto)]
+
 ghost use Rattle.std.specs.Prelude.{◌≡◌, ◌<◌};
 ghost use Rattle.entity.specs.Place.{place_at};
 ghost use Rattle.reginfo.specs.RegInfo.{num_classes, allocation_order};

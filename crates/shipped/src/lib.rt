@@ -1,4 +1,6 @@
 // The shipped target: a constant table of 32 units and 56 registers, 192 numbers with their rule.
+#![tactic(auto)]
+
 ghost use Rattle.std.specs.Prelude.{◌≡◌, ◌+◌, ◌<◌, ◌≤◌, length, get_or};
 ghost use Rattle.reginfo.specs.Table.{reg_info_of, Indexed};
 ghost use Rattle.shipped.specs.Shipped.{shipped_units, shipped_row, shipped};

@@ -1,6 +1,8 @@
 // The emergency slot cache: 32 stacks by size, what a patch takes and puts back beside them, the commit, and a stamp that every settled patch raises.
 // Both tables are lent and may hold anything before they are cleared or begun. A patch leaves the cache alone until it is committed, so that a
 // refusal leaves it as it was and asking changes nothing (02 g).
+#![tactic(auto)]
+
 ghost use Rattle.std.specs.Prelude.{◌≡◌, ℕ, ◌+◌, ◌<◌, ◌≤◌, length, get_or, ltb};
 ghost use Rattle.entity.specs.Logic.{pick};
 ghost use Rattle.slots.specs.Stacks.{depth_of, cache_of, stamp_of, left_of, own_of, met_of, stacks_of, CacheFits, SlotsFit, Untouched};

@@ -1,4 +1,6 @@
 // The set of register units, one flag for each unit in a lent table: lent, since a set that is passed by value is copied at each step.
+#![tactic(auto)]
+
 ghost use Rattle.std.specs.Prelude.{◌≡◌, ◌<◌, length};
 ghost use Rattle.small_set.specs.Set.{set_of, empty_set, inserted, removed};
 

@@ -1,4 +1,6 @@
 // The sparse map of a unit's writer: units to numbers, in one lent table that may hold anything before it is cleared.
+#![tactic(auto)]
+
 ghost use Rattle.std.specs.Prelude.{◌≡◌, ◌<◌, ◌≤◌, length, get_or};
 ghost use Rattle.std.proofs.Math.Option.{none};
 ghost use Rattle.sparse.specs.Map.{map_of, keys_of, found_of, Linked, Placed, Emptied, Inserted, Shortened};

@@ -1,4 +1,6 @@
 // Standard input read to its end, and standard output written to the last byte.
+#![tactic(auto)]
+
 ghost use Rattle.std.specs.Prelude.{ℕ, length};
 ghost use Rattle.streams.specs.Moving.{MovedIn, GotIn};
 

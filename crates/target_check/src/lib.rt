@@ -1,5 +1,7 @@
 // The test of a lent target: accepted, or the least number of 2 to 7 whose condition holds. It writes the index of each class's members, and no other
 // cell.
+#![tactic(auto)]
+
 ghost use Rattle.std.specs.Prelude.{◌≡◌, true, false, [], ◌∷◌, ◌<◌, ◌≤◌, ◌+◌, ◌*◌, length};
 ghost use Rattle.entity.specs.Logic.{has, twice, cells};
 ghost use Rattle.reginfo.specs.RegInfo.{RegInfo, num_regs, num_classes, reg_units, class_members, allocation_order};

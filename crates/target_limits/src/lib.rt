@@ -1,4 +1,6 @@
 // The limits of a target, tested over a lent table of any numbers. Each test is a condition of reginfo's specs/Refused.antt.
+#![tactic(auto)]
+
 ghost use Rattle.std.specs.Prelude.{◌≡◌, true, false, ◌<◌, ◌≤◌, ◌+◌, ◌*◌, length};
 ghost use Rattle.entity.specs.Logic.{no, has, twice, cells};
 ghost use Rattle.reginfo.specs.RegInfo.{num_banks, num_regs, num_classes, reg_memory, class_slots, reg_units, class_members, allocation_order};
@@ -239,7 +241,7 @@ fn banks_unfit(t: &RegInfo) -> bool
 
 fn regs_unfit(t: &RegInfo) -> bool
     requires { num_regs (reg_info_of t.now) ≤ 512 }
-    ensures* { λ r. ⌜ r ≡ some_below (num_regs (reg_info_of t.now)) (λ r. no (reg_fits (reg_info_of t.now) r)) ⌝ }
+    ensures { result ≡ some_below (num_regs (reg_info_of t.now)) (λ r. no (reg_fits (reg_info_of t.now) r)) }
 {
     let mut i: u16 = 0;
     let mut left = num_regs(t);

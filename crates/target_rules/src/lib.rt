@@ -1,4 +1,6 @@
 // The rules 4 to 7 of a target, tested over a lent table whose target is within the limits.
+#![tactic(auto)]
+
 ghost use Rattle.std.specs.Prelude.{◌≡◌, true, false, ◌<◌, ◌≤◌, ◌+◌, length};
 ghost use Rattle.entity.specs.Logic.{any_in, cells};
 ghost use Rattle.reginfo.specs.RegInfo.{num_banks, num_regs, num_classes, bank_for_class, class_members, allocation_order, is_memory_reg};

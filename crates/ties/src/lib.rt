@@ -1,5 +1,7 @@
 // Which kept moves hold the same content in every start (02 m), as one lent table of numbers (specs/Ties.antt): moves of one value, moves from one
 // source, and what these link in a chain.
+#![tactic(auto)]
+
 ghost use Rattle.std.specs.Prelude.{◌≡◌, ℕ, ◌+◌, ◌<◌, ◌≤◌, length, get_or, eqb, ltb};
 ghost use Rattle.entity.specs.Logic.{pick, and, or};
 ghost use Rattle.reginfo.specs.Table.{reg_info_of};

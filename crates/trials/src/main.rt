@@ -1,5 +1,7 @@
 // A program: answers each job of the records on standard input, with its setting, and prints the text of its answer after a line with the trial's
 // number.
+#![tactic(auto)]
+
 ghost use Rattle.std.specs.Prelude.{◌<◌};
 
 use records::Record;

@@ -2,6 +2,8 @@
 // from the seed, and prints what becomes of them with one kept eviction and with two, at these prices; or `refused` and the number. An argument that
 // is no decimal number, or is missing, counts as outside its range, and one more is 2; what is expected is then said on standard error too. So is
 // what could not be read or written.
+#![tactic(auto)]
+
 ghost use Rattle.std.specs.Prelude.{◌≡◌, true, ℕ, ◌+◌, ◌-◌, ◌<◌, ◌≤◌, eqb, length};
 ghost use Rattle.entity.specs.Logic.{Anything, and};
 ghost use Rattle.reginfo.specs.Table.{reg_info_of};

@@ -1,4 +1,6 @@
 // Patches drawn from a seed, resolved at a setting, and counted (02 n).
+#![tactic(auto)]
+
 ghost use Rattle.std.specs.Prelude.{◌≡◌, true, ◌+◌, ◌*◌, ◌%◌, ◌^◌, ◌<◌, ◌≤◌, length, get_or, set, replicate};
 ghost use Rattle.entity.specs.Logic.{Anything};
 ghost use Rattle.entity.specs.Place.{place_at};

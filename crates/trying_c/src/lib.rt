@@ -1,4 +1,6 @@
 // The library for C and Rust: one and two kept evictions compared on patches drawn from a seed (02 n). Nothing is asked of a caller.
+#![tactic(auto)]
+
 ghost use Rattle.std.specs.Prelude.{◌≡◌};
 ghost use Rattle.entity.specs.Logic.{Anything};
 ghost use Rattle.price.specs.Price.{prices_in};

@@ -23,7 +23,7 @@ use Rattle.scratch.specs.declared.Evicted.{Evicted}
 use Rattle.scratch.specs.declared.Evicted.TheVariants.{Nothing, One, Two}
 use Rattle.scratch.specs.declared.ScratchAllocator.{ScratchAllocator}
 use Rattle.scratch.specs.State.{T, F, evicted_in, evicted_of, Fits}
-use Rattle.scratch.specs.Contracts.{Tables, state_of, FitsIn, Brought}
+use Rattle.scratch.specs.Promises.{Tables, state_of, FitsIn, Brought}
 use Rattle.scratch.proofs.Bounds.{fewer}
 use Rattle.visits.specs.Marks.{moves_of, states_of, all_new, is_done, is_noted}
 use Rattle.closing.specs.State.{Work, MovesOk, unclosed, Stands}

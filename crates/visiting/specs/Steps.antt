@@ -6,7 +6,7 @@ use Rattle.rules.specs.Counts.{news}
 use Rattle.scratch.specs.declared.ScratchAllocator.{ScratchAllocator}
 use Rattle.scratch.specs.declared.Evicted.TheVariants.{Nothing}
 use Rattle.scratch.specs.State.{T, F, evicted_in}
-use Rattle.scratch.specs.Contracts.{Tables, state_of, FitsIn}
+use Rattle.scratch.specs.Promises.{Tables, state_of, FitsIn}
 use Rattle.visits.specs.Marks.{moves_of, states_of}
 use Rattle.closing.specs.State.{Work, Stands}
 use Rattle.closing.specs.Steps.{PaidFor, Gone}

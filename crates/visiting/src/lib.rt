@@ -1,10 +1,12 @@
 // 01, Ordering: the kept moves in depth. Visiting a move calls the walk over its writers, which calls the visit.
+#![tactic(auto)]
+
 ghost use Rattle.std.specs.Prelude.{◌≡◌, true, reverse, ◌*◌, ◌<◌, length};
 ghost use Rattle.entity.specs.Logic.{indices, Anything};
 ghost use Rattle.rules.specs.Edit.{each};
 ghost use Rattle.rules.specs.Order.{ParallelMoves, is_new, writers, visit, visit_unless_memory};
 ghost use Rattle.scratch.specs.State.{T, F, Fits};
-ghost use Rattle.scratch.specs.Contracts.{tables};
+ghost use Rattle.scratch.specs.Promises.{tables};
 ghost use Rattle.visits.specs.Marks.{moves_of, states_of};
 ghost use Rattle.closing.specs.State.{work, Given};
 ghost use Rattle.visiting.specs.Steps.{Visits, Visited, Passed, Moves};

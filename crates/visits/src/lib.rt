@@ -1,4 +1,6 @@
 // 01, Ordering: the tables that a visit of the kept moves works in, and its steps that need no scratch.
+#![tactic(auto)]
+
 ghost use Rattle.std.specs.Prelude.{◌≡◌, true, false, ℕ, ◌+◌, ◌<◌, ◌≤◌, length, get_or, replicate};
 ghost use Rattle.entity.specs.Logic.{or, any_in};
 ghost use Rattle.entity.specs.Place.{place_at};

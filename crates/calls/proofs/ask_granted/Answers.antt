@@ -1,0 +1,21 @@
+-- `ask_granted` meets its contract: refused for its free units, or the call of its patch.
+use Rattle.calls.proofs.Freeing.{refused-asked, taken-asked}
+use borrow.Author.Rules.{rules}
+use Rattle.calls.proofs.ask_granted.Goals as goal
+
+pub returns-in-Refused : goal.returns-in-Refused
+returns-in-Refused c =
+    let args = c.args in
+    (refused-asked args.g args.t.now args.f.now args.free.now args.numbers.now args.list.now args.cache.now _ _ _ (rw c.in-Refused.is at c.take_given.ensures), search rules)
+
+pub ask_patch_granted-requires : goal.ask_patch_granted-requires
+ask_patch_granted-requires c =
+    let pre = c.requires in
+    (pre.0, pre.1)
+
+pub returns : goal.returns
+returns c =
+    let args = c.args in
+    let take-given = c.take_given in
+    let some-given = c.some_given-given in
+    (taken-asked args.g args.t.now args.f.now args.free.now args.numbers.now args.list.now args.cache.now _ _ _ _ (rw c.in_default.is at take-given.ensures) (rw some-given.ensures at c.ask_patch_granted.ensures.0), search rules)

@@ -1,0 +1,6 @@
+-- `parallel_moves_examine_5` meets its contract: that of `examine_job`, told.
+use borrow.Author.Rules.{rules}
+use Rattle.examine_c.proofs.parallel_moves_examine_5.Goals as goal
+
+pub returns : goal.returns
+returns c = (rw c.examine_job-r.ensures.0 at c.told.ensures, (tt, tt, tt, tt, tt, tt, tt, tt, tt, tt))

@@ -1,0 +1,6 @@
+use mathlib.Core.Path.{refl}
+use borrow.Author.Rules.{rules}
+use Rattle.frame_calls.proofs.grant.Goals as goal
+
+pub returns : goal.returns
+returns c = rw (c.counter.ensures, c.reach.ensures) refl

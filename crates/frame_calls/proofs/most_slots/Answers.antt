@@ -1,0 +1,10 @@
+use mathlib.Core.Path.{◌∙◌}
+use Rattle.frame_calls.proofs.Opening.{most-first, most_other}
+use borrow.Author.Rules.{rules}
+use Rattle.frame_calls.proofs.most_slots.Goals as goal
+
+pub returns-then-i-eq0 : goal.returns-then-i-eq0
+returns-then-i-eq0 c = most-first c.args.frame.now _ c.if-i-eq0.true
+
+pub returns : goal.returns
+returns c = c.slots.ensures ∙ most_other c.args.frame.now _ c.if-i-eq0.false

@@ -1,0 +1,24 @@
+-- `add_part` meets its contract: entry by entry of the group.
+use mathlib.Core.Path.{◌∙◌}
+use native.Mathlib.Omega.{arith}
+use Prim.Native.Nat.{◌+◌, ◌-◌}
+use mathlib.Core.List.{List}
+use Rattle.reginfo.specs.Table.{reg_info_of}
+use Rattle.rules.specs.Patch.{Entry}
+use Rattle.group_rules.specs.Groups.{near}
+use Rattle.group_rules.specs.Refusals.{no_entry}
+use Rattle.group_rules.proofs.Labelled.{labelled}
+use Rattle.group_rules.proofs.Parts.{near-comm}
+use Rattle.parallel_moves.specs.Given.{entries_of}
+use Rattle.groups.specs.Given.{count_of, labels_in}
+use Rattle.groups.proofs.Entries.{how-many, inside, at}
+use Rattle.groups.proofs.Chain.{rest, At, at_next, at-end, at_first}
+use Rattle.grouping.proofs.Adding.{entry-is, owned, Adding, adding-start, adding-more, adding-stop, part-stopped, part-added}
+use borrow.Author.Rules.{rules}
+use Rattle.grouping.proofs.add_part.Given as goal
+
+abbrev pub invariant-loop-k : goal.invariant-loop-k
+invariant-loop-k l = (l : List Entry) × At (labels_in (reg_info_of l.t) l.numbers) (entries_of l.numbers) (count_of l.numbers) l.first l.k l × Adding l.t l.f (owned (reg_info_of l.t) l.numbers l.first) l.e l.w l
+
+abbrev pub decreases-loop-k : goal.decreases-loop-k
+decreases-loop-k l = 256 - l.k

@@ -1,0 +1,28 @@
+use Prim.Native.Nat.{◌-◌, ◌≤◌}
+use mathlib.Core.Path.{◌≡◌, refl}
+use native.Mathlib.Omega.{arith}
+use lib.ListN.{length}
+use borrow.Author.Rules.{rules}
+use Rattle.entity.proofs.Laws.{has_get_d}
+use Rattle.reginfo.specs.RegInfo.{reg_units}
+use Rattle.reginfo.specs.Table.{reg_info_of}
+use Rattle.groups.proofs.Free.{Reopening, reopening-more, reopening-end}
+use Rattle.groups.proofs.reopen_reg.Goals as goal
+
+pub num_reg_units-n-requires : goal.num_reg_units-n-requires
+num_reg_units-n-requires c = c.requires.known
+
+pub loop-j-init : goal.loop-j-init
+loop-j-init c = (omega arith, c.num_reg_units-n.ensures, λ u. refl)
+
+pub reg_unit-requires : goal.reg_unit-requires
+reg_unit-requires c = let l = c.loop-j in let p = c.requires in (p.known, omega (arith, l.invariant.1, c.loop-j-test.true), omega (arith, l.invariant.1, c.loop-j-test.true, p.few))
+
+pub reopen_unit-requires : goal.reopen_unit-requires
+reopen_unit-requires c = let l = c.loop-j in let p = c.requires in rw c.reg_unit.ensures (p.low _ (has_get_d (reg_units (reg_info_of c.args.t.now) c.args.r.0) l.j (omega (arith, l.invariant.1, c.loop-j-test.true))))
+
+pub loop-j-preserved : goal.loop-j-preserved
+loop-j-preserved c = let l = c.loop-j in (omega (arith, c.loop-j-test.true), l.invariant.1, reopening-more (reg_units (reg_info_of c.args.t.now) c.args.r.0) l.j c.args.free.now _ l.out _ (omega (arith, l.invariant.1, c.loop-j-test.true)) (rw (← c.reg_unit.ensures) c.reopen_unit.ensures) l.invariant.2)
+
+pub returns : goal.returns
+returns c = let l = c.loop-j in reopening-end (reg_units (reg_info_of c.args.t.now) c.args.r.0) l.j c.args.free.now _ l.out (omega (arith, l.invariant.1, c.loop-j-test.false)) l.invariant.2

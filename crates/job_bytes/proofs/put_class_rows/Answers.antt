@@ -1,0 +1,46 @@
+use Prim.Native.Nat.{ℕ, ◌+◌, ◌-◌}
+use mathlib.Core.Path.{◌≡◌, ap, sym}
+use native.Mathlib.Omega.{arith}
+use Rattle.job_numbers.specs.Numbers.{class_numbers}
+use Rattle.reginfo.specs.Table.{class_at}
+use Rattle.job_bytes.proofs.Putting.{Left, all_left, none_left, one-over, one-put}
+use Rattle.job_bytes.proofs.Parts.{rows, rows_more, rows_none}
+use borrow.Author.Rules.{rules}
+use Rattle.job_bytes.proofs.put_class_rows.Goals as goal
+
+pub loop-left-init : goal.loop-left-init
+loop-left-init c =
+    let args = c.args in
+    let wide = c.wide-left in
+    (omega (arith, wide.ensures.0), all_left _ (ap (λ (k : ℕ). rows class_numbers (class_at args.t.now) 0 k) (sym wide.ensures.0)))
+
+pub put_class-requires : goal.put_class-requires
+put_class-requires c =
+    let pre = c.requires in
+    let loop = c.loop-left in
+    let loop-test = c.loop-left-test in
+    let few = pre.1 loop.c (omega (arith, loop.invariant.0, loop-test.true)) in
+    (omega (arith, loop.invariant.0, loop-test.true, pre.0), few.0, few.1)
+
+pub returns-in-Over : goal.returns-in-Over
+returns-in-Over c =
+    let args = c.args in
+    let loop = c.loop-left in
+    let loop-test = c.loop-left-test in
+    let put-class = c.put_class in
+    one-over loop.invariant.1 (rows class_numbers (class_at args.t.now) (loop.c + 1) (loop.left - 1)) (rows_more class_numbers (class_at args.t.now) loop.c loop.left loop-test.true) put-class.ensures c.in-Over.is
+
+pub loop-left-preserved : goal.loop-left-preserved
+loop-left-preserved c =
+    let args = c.args in
+    let loop = c.loop-left in
+    let loop-test = c.loop-left-test in
+    let put-class = c.put_class in
+    (omega (arith, loop.invariant.0, loop-test.true), one-put loop.invariant.1 (rows class_numbers (class_at args.t.now) (loop.c + 1) (loop.left - 1)) (rows_more class_numbers (class_at args.t.now) loop.c loop.left loop-test.true) put-class.ensures c.in-At.is)
+
+pub returns : goal.returns
+returns c =
+    let args = c.args in
+    let loop = c.loop-left in
+    let loop-test = c.loop-left-test in
+    none_left loop.invariant.1 (rows_none class_numbers (class_at args.t.now) loop.c loop.left loop-test.false)

@@ -1,0 +1,20 @@
+-- `put_list` meets its contract: the count, then the cells.
+use Rattle.entity.specs.Logic.{cells}
+use Rattle.job_numbers.specs.Numbers.{bytes_of}
+use Rattle.job_bytes.proofs.Putting.{first-over, then-puts}
+use Rattle.job_bytes.proofs.Parts.{list-bytes}
+use borrow.Author.Rules.{rules}
+use Rattle.job_bytes.proofs.put_list.Goals as goal
+
+pub returns-in-Over : goal.returns-in-Over
+returns-in-Over c =
+    let args = c.args in
+    let put-cell = c.put_cell in
+    first-over (bytes_of (cells args.t.now args.start args.n)) (list-bytes args.t.now args.start args.n) put-cell.ensures c.in-Over.is
+
+pub returns-in-At : goal.returns-in-At
+returns-in-At c =
+    let args = c.args in
+    let put-cell = c.put_cell in
+    let put-cells = c.put_cells in
+    then-puts (bytes_of (cells args.t.now args.start args.n)) (list-bytes args.t.now args.start args.n) put-cell.ensures c.in-At.is put-cells.ensures

@@ -1,0 +1,23 @@
+-- `check_job` meets its contract: the opening, then the patches.
+use Rattle.job_check.proofs.Passing.{unopened, opened, all-checked}
+use borrow.Author.Rules.{rules}
+use Rattle.job_check.proofs.check_job.Goals as goal
+
+pub check_patches-requires : goal.check_patches-requires
+check_patches-requires c =
+    let args = c.args in
+    let read-opening = c.read_opening in
+    opened args.s.now read-opening.new.1.1.0 read-opening.new.1.1.1.0 _ _ (rw c.in-Is.is at read-opening.ensures)
+
+pub returns-in-Refused : goal.returns-in-Refused
+returns-in-Refused c =
+    let args = c.args in
+    let read-opening = c.read_opening in
+    (unopened args.s.now read-opening.new.1.1.0 read-opening.new.1.1.1.0 _ (rw c.in-Refused.is at read-opening.ensures), (tt, tt, tt, tt, tt))
+
+pub returns-in-Is : goal.returns-in-Is
+returns-in-Is c =
+    let args = c.args in
+    let read-opening = c.read_opening in
+    let check-patches = c.check_patches in
+    (all-checked args.s.now read-opening.new.1.1.0 read-opening.new.1.1.1.0 _ _ _ (rw c.in-Is.is at read-opening.ensures) check-patches.ensures.0, (tt, tt, tt, tt, tt))

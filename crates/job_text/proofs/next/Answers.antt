@@ -1,0 +1,80 @@
+use mathlib.Core.Path.{refl, ◌∙◌}
+use Rattle.job_text.proofs.Standing.{refused-here, ends-here, ended-stands, ended-less, next-stands}
+use Rattle.answer.proofs.Nexting.{next-refused, resolved}
+use native.Mathlib.Omega.{arith}
+use borrow.Author.Rules.{rules}
+use Rattle.job_text.proofs.next.Goals as goal
+
+pub returns-then-left-eq0 : goal.returns-then-left-eq0
+returns-then-left-eq0 c =
+    let s = c in
+    let p = s.args.p in
+    let T = s.args.t.now in
+    let F = s.args.f.now in
+    let S = s.args.s.now in
+    let C = s.args.cache.now in
+    let O = s.args.out.now in
+    let h = s.requires.0 in
+    let e = s.requires.1 in
+    let end = c.finish in
+    ((ended-stands T F S C O p e _ h T F C end.new.out _ end.result (ends-here T F S C O p e (omega (arith, c.if-left-eq0.true))) end.ensures.0 end.ensures.1, end.ensures.0.kept, ended-less T F S C O p e _ h end.result end.ensures.0), (tt, tt, tt, tt, tt, tt, tt, tt, tt, tt, tt))
+
+pub answer_patch-requires : goal.answer_patch-requires
+answer_patch-requires c =
+    let s = c in
+    let g = s.requires.0.going s.requires.1 in
+    (g.checked, g.cached)
+
+pub put_patch-held-requires : goal.put_patch-held-requires
+put_patch-held-requires c =
+    let s = c in
+    let p = s.args.p in
+    let T = s.args.t.now in
+    let F = s.args.f.now in
+    let S = s.args.s.now in
+    let C = s.args.cache.now in
+    let h = s.requires.0 in
+    let e = s.requires.1 in
+    let a = c.answer_patch in
+    let len = c.told.ensures in
+    let g = resolved T F S p.at s.args.list.now len C a.new.list a.new.cache _ _ _ (rw c.in-Edits.is at a.ensures.0) in
+    (s.requires.2, omega (arith, (h.going e).few, c.if-left-eq0.false), omega (arith, g.within, a.auto.1.1.1.1.1.0, len), c.wide-made.ensures.1)
+
+pub overflow_sub-result : goal.overflow_sub-result
+overflow_sub-result c = omega (arith, c.if-left-eq0.false)
+
+pub overflow_add-result : goal.overflow_add-result
+overflow_add-result c = let s = c in omega (arith, (s.requires.0.going s.requires.1).few)
+
+pub returns-in-Refused : goal.returns-in-Refused
+returns-in-Refused c =
+    let s = c in
+    let p = s.args.p in
+    let T = s.args.t.now in
+    let F = s.args.f.now in
+    let S = s.args.s.now in
+    let C = s.args.cache.now in
+    let O = s.args.out.now in
+    let h = s.requires.0 in
+    let e = s.requires.1 in
+    let a = c.answer_patch in
+    let end = c.refuse in
+    let r = next-refused T F S p.at s.args.list.now c.told.ensures C a.new.list a.new.cache _ (rw c.in-Refused.is at a.ensures.0) in
+    ((ended-stands T F S C O p e _ h T F a.new.cache end.new.out _ end.result (refused-here T F S C O p e _ (omega (arith, c.if-left-eq0.false)) r) end.ensures.0 end.ensures.1, end.ensures.0.kept, ended-less T F S C O p e _ h end.result end.ensures.0), (tt, tt, tt, tt, tt, tt, tt, tt, tt, tt, tt))
+
+pub returns-in-Edits : goal.returns-in-Edits
+returns-in-Edits c =
+    let s = c in
+    let p = s.args.p in
+    let T = s.args.t.now in
+    let F = s.args.f.now in
+    let S = s.args.s.now in
+    let C = s.args.cache.now in
+    let O = s.args.out.now in
+    let h = s.requires.0 in
+    let e = s.requires.1 in
+    let a = c.answer_patch in
+    let put = c.put_patch-held in
+    let len = c.told.ensures in
+    let g = resolved T F S p.at s.args.list.now len C a.new.list a.new.cache _ _ _ (rw c.in-Edits.is at a.ensures.0) in
+    ((next-stands T F S C O p e _ h s.args.list.now len a.new.list a.new.cache _ _ _ (omega (arith, c.if-left-eq0.false)) g _ put.result put.new.out put.ensures.1 (c.wide-made.ensures.0 ∙ c.made.ensures) put.ensures.0, refl, rw e (omega (arith, c.if-left-eq0.false))), (tt, tt, tt, tt, tt, tt, tt, tt, tt, tt, tt))

@@ -1,0 +1,28 @@
+use Rattle.job_text.proofs.Standing.{none-refused, one-refused}
+use Rattle.answer_text.specs.Lines.{refusal_text}
+use Rattle.print.specs.Put.{Put}
+use Rattle.print.specs.Text.{refused_line}
+use mathlib.Core.List.{List}
+use mathlib.Core.Path.{◌≡◌, subst}
+use Prim.Native.Nat.{ℕ}
+use Rattle.print.proofs.Lengths.{refused-short}
+use native.Mathlib.Omega.{arith}
+use borrow.Author.Rules.{rules}
+use Rattle.job_text.proofs.refuse.Goals as goal
+
+pub returns-then-number-eq0 : goal.returns-then-number-eq0
+returns-then-number-eq0 c =
+    let s = c in
+    (c.end.ensures.0, none-refused s.args.number (omega (arith, c.if-number-eq0.true)) c.end.ensures.1 (omega (arith, s.requires)))
+
+pub put_refused-requires : goal.put_refused-requires
+put_refused-requires c = record { fits = omega (arith, refused-short c.byte.result (omega (arith, c.byte.ensures.1)), c.requires) }
+
+pub returns : goal.returns
+returns c =
+    let s = c in
+    let put = c.put_refused in
+    let x = c.end-2.ensures.0 in
+    let n : c.byte.result ≡ s.args.number = c.byte.ensures.0 in
+    let e : refused_line c.byte.result ≡ refusal_text s.args.number = rw n (one-refused s.args.number (λ z. omega (arith, c.if-number-eq0.false))) in
+    (record { over = x.over; kept = x.kept; short = omega (arith, c.end-2.ensures.1, put.ensures.next, refused-short c.byte.result (omega (arith, c.byte.ensures.1))) }, rw c.end-2.ensures.1 (subst (λ (l : List ℕ). Put s.args.out.now put.new.out s.args.p.held l put.result) e put.ensures))

@@ -1,0 +1,41 @@
+-- `put_job` meets its contract: one part behind the other.
+use mathlib.Core.List.{◌++◌}
+use Rattle.reginfo.specs.Table.{reg_info_of}
+use Rattle.function.specs.Table.{function_of}
+use Rattle.job_numbers.specs.Numbers.{target_numbers, function_numbers, bytes_of}
+use Rattle.function.proofs.Laws.{few-values}
+use Rattle.job_bytes.proofs.Putting.{first-over, then-puts, bytes-append}
+use borrow.Author.Rules.{rules}
+use Rattle.job_writer.proofs.put_job.Goals as goal
+
+pub put_function-requires : goal.put_function-requires
+put_function-requires c =
+    let pre = c.requires in
+    few-values _ _ pre.function
+
+pub returns-in-Over : goal.returns-in-Over
+returns-in-Over c =
+    let args = c.args in
+    let put-target = c.put_target in
+    first-over (bytes_of (function_numbers (function_of args.f.now) ++ args.numbers.now))
+    (bytes-append (target_numbers (reg_info_of args.t.now)) (function_numbers (function_of args.f.now) ++ args.numbers.now)) put-target.ensures c.in-Over.is
+
+pub returns-in-Over-put_function : goal.returns-in-Over-put_function
+returns-in-Over-put_function c =
+    let args = c.args in
+    let put-target = c.put_target in
+    let put_function = c.put_function in
+    let enum-told2 = c.enum_told-in-Over-put_function-1 in
+    then-puts (bytes_of (function_numbers (function_of args.f.now) ++ args.numbers.now))
+    (bytes-append (target_numbers (reg_info_of args.t.now)) (function_numbers (function_of args.f.now) ++ args.numbers.now)) put-target.ensures c.in-At.is
+    (first-over (bytes_of args.numbers.now) (bytes-append (function_numbers (function_of args.f.now)) args.numbers.now) put_function.ensures enum-told2.given.1)
+
+pub returns-in-At-put_function : goal.returns-in-At-put_function
+returns-in-At-put_function c =
+    let args = c.args in
+    let put-target = c.put_target in
+    let put_function = c.put_function in
+    let put-numbers = c.put_numbers in
+    then-puts (bytes_of (function_numbers (function_of args.f.now) ++ args.numbers.now))
+    (bytes-append (target_numbers (reg_info_of args.t.now)) (function_numbers (function_of args.f.now) ++ args.numbers.now)) put-target.ensures c.in-At.is
+    (then-puts (bytes_of args.numbers.now) (bytes-append (function_numbers (function_of args.f.now)) args.numbers.now) put_function.ensures c.in-At-put_function.is put-numbers.ensures)

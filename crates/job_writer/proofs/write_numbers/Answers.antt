@@ -1,0 +1,19 @@
+-- `write_numbers` meets its contract: the numbers are put, and the job is finished.
+use lib.ListN.{length}
+use Rattle.job_writer.proofs.Finishing.{put-within}
+use borrow.Author.Rules.{rules}
+use Rattle.job_writer.proofs.write_numbers.Goals as goal
+
+pub finish-requires : goal.finish-requires
+finish-requires c =
+    let args = c.args in
+    let put-numbers = c.put_numbers-put in
+    let told = c.told in
+    put-within (length put-numbers.new.0) args.numbers.now args.work.now put-numbers.new.0 put-numbers.result told.ensures put-numbers.ensures
+
+pub returns : goal.returns
+returns c =
+    let args = c.args in
+    let put-numbers = c.put_numbers-put in
+    let finish = c.finish in
+    (finish.ensures.0 args.numbers.now args.work.now put-numbers.ensures, (tt, tt, tt, tt, tt, tt))

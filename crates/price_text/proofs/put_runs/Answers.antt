@@ -1,0 +1,42 @@
+-- `put_runs` meets its contract: the words one after the other.
+use borrow.Author.Rules.{rules}
+use Rattle.print.proofs.Putting.{front-room, next-room, then-put}
+use Rattle.price_text.proofs.put_runs.Goals as goal
+
+pub put_text-a-requires : goal.put_text-a-requires
+put_text-a-requires c = front-room _ c.requires
+
+pub put_number-b-requires : goal.put_number-b-requires
+put_number-b-requires c =
+    let a = c in
+    front-room _ (next-room a.put_text-a.ensures a.requires)
+
+pub put_text-c-requires : goal.put_text-c-requires
+put_text-c-requires c =
+    let b = c in
+    let a = b in
+    front-room _ (next-room b.put_number-b.ensures (next-room a.put_text-a.ensures a.requires))
+
+pub put_number-d-requires : goal.put_number-d-requires
+put_number-d-requires c =
+    let d = c in
+    let b = d in
+    let a = b in
+    front-room _ (next-room d.put_text-c.ensures (next-room b.put_number-b.ensures (next-room a.put_text-a.ensures a.requires)))
+
+pub put_text-requires : goal.put_text-requires
+put_text-requires c =
+    let e = c in
+    let d = e in
+    let b = d in
+    let a = b in
+    next-room e.put_number-d.ensures (next-room d.put_text-c.ensures (next-room b.put_number-b.ensures (next-room a.put_text-a.ensures a.requires)))
+
+pub returns : goal.returns
+returns c =
+    let f = c in
+    let e = f in
+    let d = e in
+    let b = d in
+    let a = b in
+    then-put a.put_text-a.ensures (then-put b.put_number-b.ensures (then-put d.put_text-c.ensures (then-put e.put_number-d.ensures f.put_text.ensures)))

@@ -1,0 +1,18 @@
+-- `put_refused` meets its contract: the word, then the number.
+use borrow.Author.Rules.{rules}
+use Rattle.print.proofs.Putting.{front-room, next-room, then-put}
+use Rattle.print.proofs.put_refused.Goals as goal
+
+pub put_text-at-requires : goal.put_text-at-requires
+put_text-at-requires c = front-room _ c.requires
+
+pub put_last-requires : goal.put_last-requires
+put_last-requires c =
+    let a = c in
+    next-room a.put_text-at.ensures a.requires
+
+pub returns : goal.returns
+returns c =
+    let b = c in
+    let a = b in
+    then-put a.put_text-at.ensures b.put_last.ensures

@@ -1,0 +1,25 @@
+-- `put_remat` meets its contract: the words of the line one after the other.
+use borrow.Author.Rules.{rules}
+use Rattle.print.proofs.Putting.{front-room, next-room, then-put}
+use Rattle.print.proofs.put_remat.Goals as goal
+
+pub put_text-a-requires : goal.put_text-a-requires
+put_text-a-requires c = front-room _ c.requires
+
+pub put_place-b-requires : goal.put_place-b-requires
+put_place-b-requires c =
+    let a = c in
+    front-room _ (next-room a.put_text-a.ensures a.requires)
+
+pub put_value-requires : goal.put_value-requires
+put_value-requires c =
+    let b = c in
+    let a = b in
+    next-room b.put_place-b.ensures (next-room a.put_text-a.ensures a.requires)
+
+pub returns : goal.returns
+returns c =
+    let d = c in
+    let b = d in
+    let a = b in
+    then-put a.put_text-a.ensures (then-put b.put_place-b.ensures d.put_value.ensures)

@@ -1,0 +1,42 @@
+-- `put_spill` meets its contract: the words of the line one after the other.
+use borrow.Author.Rules.{rules}
+use Rattle.print.proofs.Putting.{front-room, next-room, then-put}
+use Rattle.print.proofs.put_spill.Goals as goal
+
+pub put_text-a-requires : goal.put_text-a-requires
+put_text-a-requires c = front-room _ c.requires
+
+pub put_slot-b-requires : goal.put_slot-b-requires
+put_slot-b-requires c =
+    let a = c in
+    front-room _ (next-room a.put_text-a.ensures a.requires)
+
+pub put_text-c-requires : goal.put_text-c-requires
+put_text-c-requires c =
+    let b = c in
+    let a = b in
+    front-room _ (next-room b.put_slot-b.ensures (next-room a.put_text-a.ensures a.requires))
+
+pub put_register-d-requires : goal.put_register-d-requires
+put_register-d-requires c =
+    let d = c in
+    let b = d in
+    let a = b in
+    front-room _ (next-room d.put_text-c.ensures (next-room b.put_slot-b.ensures (next-room a.put_text-a.ensures a.requires)))
+
+pub put_text-requires : goal.put_text-requires
+put_text-requires c =
+    let e = c in
+    let d = e in
+    let b = d in
+    let a = b in
+    next-room e.put_register-d.ensures (next-room d.put_text-c.ensures (next-room b.put_slot-b.ensures (next-room a.put_text-a.ensures a.requires)))
+
+pub returns : goal.returns
+returns c =
+    let f = c in
+    let e = f in
+    let d = e in
+    let b = d in
+    let a = b in
+    then-put a.put_text-a.ensures (then-put b.put_slot-b.ensures (then-put d.put_text-c.ensures (then-put e.put_register-d.ensures f.put_text.ensures)))

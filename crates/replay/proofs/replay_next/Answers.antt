@@ -1,0 +1,32 @@
+use native.Mathlib.Omega.{arith}
+use Prim.Native.Nat.{ℕ}
+use mathlib.Core.Path.{sym}
+use lib.ListN.{length-replicate}
+use lib.Seq.{length-take-le}
+use Rattle.records.proofs.Showing.{within}
+use borrow.Author.Rules.{rules}
+use Rattle.replay.proofs.replay_next.Goals as goal
+
+pub slice_bounds-job-end : goal.slice_bounds-job-end
+slice_bounds-job-end c =
+    let p = c.read_record in
+    let w = within p.new.job p.new.text p.result _ _ _ p.ensures c.in-Is.is in
+    omega (arith, w.0, p.auto.0, length-replicate {A = ℕ} 16384 0)
+
+pub slice_bounds-replayed-end : goal.slice_bounds-replayed-end
+slice_bounds-replayed-end c =
+    let p = c.read_record in
+    let w = within p.new.job p.new.text p.result _ _ _ p.ensures c.in-Is.is in
+    sym (length-take-le _ p.new.job w.0)
+
+pub slice_bounds-text-end : goal.slice_bounds-text-end
+slice_bounds-text-end c =
+    let p = c.read_record in
+    let w = within p.new.job p.new.text p.result _ _ _ p.ensures c.in-Is.is in
+    omega (arith, w.1, p.auto.1.0, length-replicate {A = ℕ} 65536 0)
+
+pub slice_bounds-replayed-end-in-Is : goal.slice_bounds-replayed-end-in-Is
+slice_bounds-replayed-end-in-Is c =
+    let p = c.read_record in
+    let w = within p.new.job p.new.text p.result _ _ _ p.ensures c.in-Is.is in
+    sym (length-take-le _ p.new.text w.1)

@@ -1,0 +1,13 @@
+-- `decode` meets its contract: number by number.
+use Prim.Native.Nat.{◌-◌}
+use native.Mathlib.Omega.{arith}
+use lib.ListN.{length}
+use Rattle.rewrite.proofs.Rewriting.{Decoding, begun, no_number, ahead, one_number, all-numbers}
+use borrow.Author.Rules.{rules}
+use Rattle.rewrite.proofs.decode.Given as goal
+
+abbrev pub invariant-loop-at : goal.invariant-loop-at
+invariant-loop-at l = Decoding l.s l.numbers l.at l.n
+
+abbrev pub decreases-loop-at : goal.decreases-loop-at
+decreases-loop-at l = length l.s - l.at

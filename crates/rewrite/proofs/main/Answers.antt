@@ -1,0 +1,51 @@
+use Prim.Native.Nat.{◌-◌, ◌≤◌}
+use mathlib.Core.Logic.{⊎_elim}
+use native.Mathlib.Omega.{arith}
+use borrow.Author.Rules.{rules}
+use Rattle.rewrite.proofs.main.Goals as goal
+
+pub loop-k-init : goal.loop-k-init
+loop-k-init c = (omega arith, omega arith, omega arith, omega arith)
+
+pub rewrite_next-requires : goal.rewrite_next-requires
+rewrite_next-requires c = c.loop-k-test.true
+
+pub overflow_add-same : goal.overflow_add-same
+overflow_add-same c =
+    let i = c.loop-k.invariant in
+    omega (arith, i.0, i.1, i.2, i.3, c.loop-k-test.true)
+
+pub overflow_add-refused : goal.overflow_add-refused
+overflow_add-refused c =
+    let i = c.loop-k.invariant in
+    omega (arith, i.0, i.1, i.2, i.3, c.loop-k-test.true)
+
+pub overflow_add-others : goal.overflow_add-others
+overflow_add-others c =
+    let i = c.loop-k.invariant in
+    omega (arith, i.0, i.1, i.2, i.3, c.loop-k-test.true)
+
+pub overflow_add-differ : goal.overflow_add-differ
+overflow_add-differ c =
+    let i = c.loop-k.invariant in
+    omega (arith, i.0, i.1, i.2, i.3, c.loop-k-test.true)
+
+pub returns-in-End : goal.returns-in-End
+returns-in-End c = tt
+
+pub overflow_add-k-in-loop-k : goal.overflow_add-k-in-loop-k
+overflow_add-k-in-loop-k c =
+    let i = c.loop-k.invariant in
+    omega (arith, i.0, i.1, i.2, i.3, c.loop-k-test.true)
+
+pub loop-k-smaller : goal.loop-k-smaller
+loop-k-smaller c =
+    let i = c.loop-k.invariant in
+    omega (arith, i.0, i.1, i.2, i.3, c.loop-k-test.true)
+
+pub loop-k-preserved : goal.loop-k-preserved
+loop-k-preserved c =
+    ⊎_elim (λ w. (omega arith, omega arith, omega arith, omega arith)) (⊎_elim (λ w. (omega arith, omega arith, omega arith, omega arith)) (⊎_elim (λ w. (omega arith, omega arith, omega arith, omega arith)) (λ w. (omega arith, omega arith, omega arith, omega arith)))) c.match-rewrite_next.branch
+
+pub returns : goal.returns
+returns c = tt

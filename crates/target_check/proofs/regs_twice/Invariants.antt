@@ -1,0 +1,23 @@
+-- A search over the registers.
+use Prim.Native.Nat.{ℕ, ◌+◌}
+use mathlib.Core.Path.{◌≡◌, sym, ◌∙◌}
+use mathlib.Core.Bool.{Bool}
+use mathlib.Core.List.{List}
+use native.Mathlib.Omega.{arith}
+use borrow.Author.Rules.{rules}
+use Rattle.entity.specs.Logic.{any_in, twice, indices}
+use Rattle.entity.proofs.Laws.{indices_step}
+use Rattle.reginfo.specs.RegInfo.{num_regs, reg_units}
+use Rattle.reginfo.specs.Table.{reg_info_of}
+use Rattle.target_limits.proofs.Laws.{any_here, any-on}
+use Rattle.target_limits.proofs.Limits.{counts_of, regs-few}
+use Rattle.target_check.proofs.regs_twice.Given as goal
+
+abbrev pub bad : List ℕ → ℕ → Bool
+bad t r = twice (reg_units (reg_info_of t) r)
+
+abbrev pub invariant-loop-left : goal.invariant-loop-left
+invariant-loop-left l = (any_in (bad l.t) (indices 0 (num_regs (reg_info_of l.t))) ≡ any_in (bad l.t) (indices l.i l.left)) × (l.i + l.left ≡ num_regs (reg_info_of l.t))
+
+abbrev pub decreases-loop-left : goal.decreases-loop-left
+decreases-loop-left l = l.left

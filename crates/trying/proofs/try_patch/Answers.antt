@@ -1,0 +1,57 @@
+use Prim.Native.Nat.{◌+◌}
+use native.Mathlib.Omega.{arith}
+use mathlib.Core.Path.{sym, ◌∙◌}
+use borrow.Author.Rules.{rules}
+use Rattle.reginfo.specs.Table.{reg_info_of}
+use Rattle.function.specs.Table.{function_of}
+use Rattle.slots.specs.Stacks.{cache_of}
+use Rattle.trying.specs.Tried.{tries}
+use Rattle.trying.specs.Steps.{Ready}
+use Rattle.trying.proofs.Trying.{Toward, toward-start, room-less, drawn-over-by, taken-by, ready-again, left_out}
+use Rattle.trying.proofs.try_patch.Goals as goal
+
+pub loop-left-init : goal.loop-left-init
+loop-left-init c = let s = c in (toward-start _ _ 9 _, s.requires.0)
+
+pub try_once-requires : goal.try_once-requires
+try_once-requires c =
+    let s = c in
+    let l = c.loop-left in
+    (l.invariant.1, room-less l.tally 1 (0 + l.left) (omega (arith, c.loop-left-test.true)) (l.invariant.0.room 0 s.requires.1))
+
+pub shape_of-numbers-in-Accepted : goal.shape_of-numbers-in-Accepted
+shape_of-numbers-in-Accepted c = c.try_once.auto.1.1.1.1.1.1.0 ∙ c.loop-left.invariant.1.numbers-long ∙ sym c.requires.0.numbers-long
+
+pub shape_of-list-in-Accepted : goal.shape_of-list-in-Accepted
+shape_of-list-in-Accepted c = c.try_once.auto.1.1.1.1.1.1.1.0 ∙ c.loop-left.invariant.1.list-long ∙ sym c.requires.0.list-long
+
+pub returns-in-Accepted : goal.returns-in-Accepted
+returns-in-Accepted c =
+    let s = c in
+    let l = c.loop-left in
+    let o = c.try_once in
+    let h = c.loop-left-test.true in
+    let r = tries (reg_info_of s.args.t.now) (function_of s.args.f.now) 9 s.args.seed (cache_of s.args.cache.now) in
+    (taken-by s.args.t.now s.args.f.now s.args.p r 9 s.args.tally.now l.s l.left l.tally l.cache o.new.tally o.new.cache o.result _ l.invariant.0 h o.ensures.0 c.in-Accepted.is, (tt, tt, tt, tt, tt, tt, tt, tt, tt, tt, tt))
+
+pub loop-left-preserved : goal.loop-left-preserved
+loop-left-preserved c =
+    let s = c in
+    let l = c.loop-left in
+    let o = c.try_once in
+    let h = c.loop-left-test.true in
+    let r = tries (reg_info_of s.args.t.now) (function_of s.args.f.now) 9 s.args.seed (cache_of s.args.cache.now) in
+    (drawn-over-by s.args.t.now s.args.f.now s.args.p r 9 s.args.tally.now l.s l.left l.tally l.cache o.new.tally o.new.cache o.result _ l.invariant.0 h o.ensures.0 c.in-Refused.is, ready-again s.args.t.now s.args.f.now s.args.p l.cache o.new.cache l.numbers o.new.numbers l.list o.new.list l.invariant.1 o.ensures.0.ok o.auto.1.1.1.1.1.1.0 o.auto.1.1.1.1.1.1.1.0)
+
+pub shape_of-numbers : goal.shape_of-numbers
+shape_of-numbers c = c.loop-left.invariant.1.numbers-long ∙ sym c.requires.0.numbers-long
+
+pub shape_of-list : goal.shape_of-list
+shape_of-list c = c.loop-left.invariant.1.list-long ∙ sym c.requires.0.list-long
+
+pub returns : goal.returns
+returns c =
+    let s = c in
+    let l = c.loop-left in
+    let r = tries (reg_info_of s.args.t.now) (function_of s.args.f.now) 9 s.args.seed (cache_of s.args.cache.now) in
+    (left_out s.args.t.now s.args.f.now s.args.p r 9 s.args.tally.now l.s l.left l.tally l.cache l.invariant.0 c.loop-left-test.false l.invariant.1.ok, (tt, tt, tt, tt, tt, tt, tt, tt, tt, tt, tt))

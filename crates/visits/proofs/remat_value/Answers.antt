@@ -1,0 +1,9 @@
+-- `remat_value` meets its contract.
+use borrow.Author.Rules.{rules}
+use Rattle.entries.specs.Table.{remat_at}
+use Rattle.visits.proofs.Marks.{remat-is}
+use Rattle.visits.proofs.remat_value.Goals as goal
+
+pub returns : goal.returns
+unfolding remat_at
+returns c = rw (remat-is c.args.e.now c.args.i c.requires.0)

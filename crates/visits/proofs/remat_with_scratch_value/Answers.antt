@@ -1,0 +1,10 @@
+-- `remat_with_scratch_value` meets its contract.
+use borrow.Author.Rules.{rules}
+use Rattle.entries.specs.Table.{remat_at}
+use Rattle.entries.proofs.Table.{scratch-is}
+use Rattle.rules.specs.Order.{no_remat}
+use Rattle.visits.proofs.remat_with_scratch_value.Goals as goal
+
+pub returns : goal.returns
+unfolding remat_at
+returns c = rw (scratch-is c.args.e.now c.args.i no_remat c.requires.0)
