@@ -35,7 +35,7 @@ unfolding digits_of
 digits-line zero x o = o
 digits-line (suc most) zero o = o
 digits-line {l} (suc most) (suc x) o =
-    rw (append_assoc (digits_of most (suc x / 10)) ((48 + suc x % 10) ∷ []) l) (digits-line most (suc x / 10) (more (λ e. omega arith) o))
+    rw (append_assoc (digits_of most (suc x / 10)) ((48 + suc x % 10) ∷ []) l) (digits-line {l = (48 + suc x % 10) ∷ l} most (suc x / 10) (more (λ e. omega arith) o))
 
 decimal-line : {l : List ℕ} (x : ℕ) → OneLine l → OneLine (decimal x ++ l)
 unfolding decimal

@@ -49,6 +49,7 @@ both a b h k = rw (h, k)
 
 pub all-mem : {A : Type 0} (p : A → Bool) (l : List A) → all_in p l ≡ true → (x : A) → Memᴰ x l → p x ≡ true
 unfolding all_in
+all-mem {A = A} p [] h x x4 = elim x4 [ ]
 all-mem p (y ∷ l) h x (Memᴰ.head e) = rw e (and-true (p y) (all_in p l) h).0
 all-mem p (y ∷ l) h x (Memᴰ.tail m) = all-mem p l (and-true (p y) (all_in p l) h).1 x m
 

@@ -55,6 +55,7 @@ has-every P [] h = tt
 has-every P (x ∷ l) h = (h x (has-head x l), has-every P l (λ s k. h s (has-tail s x l k)))
 
 every-mem : {A : Type 0} (P : A → Type 0) (l : List A) → Every P l → (x : A) → Memᴰ x l → P x
+every-mem {A = A} P [] h x x4 = elim x4 [ ]
 every-mem P (y ∷ l) h x (Memᴰ.head e) = rw e h.0
 every-mem P (y ∷ l) h x (Memᴰ.tail m) = every-mem P l h.1 x m
 

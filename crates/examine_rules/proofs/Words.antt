@@ -55,6 +55,7 @@ words_are (w ∷ ws) es h =
 -- each word is one of the edits
 read-in : (ws : List ℕ) (es : List Edit) → edits_in ws ≡ some es → (w : ℕ) → Memᴰ w ws → (e : Edit) × Memᴰ e es × (edit_in w ≡ some e)
 unfolding edits_in
+read-in [] es h u x'' = elim x'' [ ]
 read-in (w ∷ ws) es h u (Memᴰ.head k) =
     let x = some-front (edit_in w) (edits_in ws) es h in
     (x.0, subst (λ (l : List Edit). Memᴰ x.0 l) (sym x.4) (Memᴰ.head refl), ap edit_in k ∙ x.2)
@@ -64,6 +65,7 @@ read-in (w ∷ ws) es h u (Memᴰ.tail m) =
     (y.0, subst (λ (l : List Edit). Memᴰ y.0 l) (sym x.4) (Memᴰ.tail y.1), y.2)
 
 none_in : {A : Type 0} (e : Edit) (l : List Edit) → l ≡ [] → Memᴰ e l → A
+none_in {A = A} e [] q x'' = elim x'' [ ]
 none_in e (x ∷ l) q (Memᴰ.head k) = absurd (cons≢nil q)
 none_in e (x ∷ l) q (Memᴰ.tail m) = absurd (cons≢nil q)
 

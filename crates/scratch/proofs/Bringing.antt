@@ -148,7 +148,7 @@ module _ (t f cache : List ℕ) where
         by (inr x) = alike k w k' w' (unevict_but (T t) (F f) 1) (unevict_but (T t) (F f) (pred (function_of f).kept)) (ap (λ (n : ℕ). unevict_but (T t) (F f) (pred n) (state_of t f cache k w)) x) h
 
     -- with room for one more
-    room-owed : (r : ℕ) → Checked t f → Brought t f cache k w k' w' (make_room (T t) (F f) r) → owed (evicted_in k') ≤ 1
+    pub room-owed : (r : ℕ) → Checked t f → Brought t f cache k w k' w' (make_room (T t) (F f) r) → owed (evicted_in k') ≤ 1
     room-owed r ok h = by (one-or-two (T t) (function_of f) ok.function)
       where
         by : ((function_of f).kept ≡ 1) ⊎ ((function_of f).kept ≡ 2) → owed (evicted_in k') ≤ 1

@@ -179,7 +179,7 @@ unfolding move_at
 value-is e m h = ap (λ (k : KeptMove). k.value) (kept-is e m (omega (arith, kept-count e)))
 
 same_code : (a b : ℕ) → same_place (place_at a) (place_at b) ≡ true → a ≡ b
-same_code a b h = sym (code-there a) ∙ ap code_of (machine-entries.same_place (place_at a) (place_at b) h) ∙ code-there b
+same_code a b h = sym (code-there a) ∙ ap code_of (machine-entries.same_place_lem (place_at a) (place_at b) h) ∙ code-there b
 
 itself : (p q : Place) → p ≡ q → same_place p q ≡ true
 itself p q h = subst (λ (r : Place). same_place p r ≡ true) h (alike p)

@@ -20,4 +20,4 @@ returns-in-Is c =
     let s = c in
     let read = c.read_opening in
     let p = c.answer_patches in
-    (all-answered resolve_by_groups _ s.args.s.now read.new.t read.new.f _ _ s.args.words.now _ p.new.words p.result (rw c.in-Is.is at read.ensures) c.clear.ensures p.ensures.0, ((tt, tt, tt, tt, tt, tt, tt, tt, tt, tt, tt, tt, tt), (tt, tt, tt, tt, tt, tt, tt)))
+    (all-answered resolve_by_groups _ s.args.s.now read.new.t read.new.f _ _ s.args.words.now _ p.new.words p.result (rw c.in-Is.is at read.ensures) c.clear.ensures p.ensures.wholly, ((tt, tt, tt, tt, tt, tt, tt, tt, tt, tt, tt, tt, tt), (tt, tt, tt, tt, tt, tt, tt)))

@@ -32,14 +32,14 @@ returns-then-from-n c =
     let s = c in
     let b = c.behind-from in
     let p = c.answer_patch in
-    let g = called resolve_by_groups s.args.t.now s.args.f.now s.args.s.now _ s.args.cache.now p.new.list p.new.cache _ _ _ _ (rw c.in-Edits.is at p.ensures.0) in
-    (no-head resolve_by_groups s.args.t.now s.args.f.now s.args.s.now s.args.at s.args.words.now s.args.n b.result s.requires.2 b.ensures s.args.cache.now p.new.list p.new.cache _ _ _ g p.auto.1.1.1.1.1.0 c.if-from-n.true, ((tt, tt, tt, tt, tt, tt, tt, tt, tt, tt), (tt, tt, tt, tt, tt, tt, tt)))
+    let g = called resolve_by_groups s.args.t.now s.args.f.now s.args.s.now _ s.args.cache.now p.new.list p.new.cache _ _ _ _ (rw c.in-Edits.is at p.ensures.step_at) in
+    (no-head resolve_by_groups s.args.t.now s.args.f.now s.args.s.now s.args.at s.args.words.now s.args.n b.result s.requires.2 b.ensures s.args.cache.now p.new.list p.new.cache _ _ _ g p.auto.list c.if-from-n.true, ((tt, tt, tt, tt, tt, tt, tt, tt, tt, tt), (tt, tt, tt, tt, tt, tt, tt)))
 
 pub head-requires : goal.head-requires
 head-requires c =
     let s = c in
     let p = c.answer_patch in
-    let g = called resolve_by_groups s.args.t.now s.args.f.now s.args.s.now _ s.args.cache.now p.new.list p.new.cache _ _ _ _ (rw c.in-Edits.is at p.ensures.0) in
+    let g = called resolve_by_groups s.args.t.now s.args.f.now s.args.s.now _ s.args.cache.now p.new.list p.new.cache _ _ _ _ (rw c.in-Edits.is at p.ensures.step_at) in
     (few resolve_by_groups s.args.t.now s.args.f.now s.args.s.now _ s.args.cache.now p.new.list p.new.cache groups-bounded s.args.at _ _ _ s.requires.0 g, c.wide.ensures.1, c.wide-in-Edits.ensures.1)
 
 pub offset_bounds-words-n : goal.offset_bounds-words-n
@@ -55,7 +55,7 @@ bounds-words-n c =
     let b = c.behind-from in
     let p = c.answer_patch in
     let o = one_left s.args.words.now s.args.n b.result s.requires.2 b.ensures c.if-from-n.false in
-    omega (arith, o.1, back-length s.args.words.now s.args.n b.result p.new.list (from-within s.args.words.now s.args.n b.result s.requires.2 b.ensures) p.auto.1.1.1.1.1.0)
+    omega (arith, o.1, back-length s.args.words.now s.args.n b.result p.new.list (from-within s.args.words.now s.args.n b.result s.requires.2 b.ensures) p.auto.list)
 
 pub overflow_add-result : goal.overflow_add-result
 overflow_add-result c =
@@ -63,20 +63,20 @@ overflow_add-result c =
     let b = c.behind-from in
     let p = c.answer_patch in
     let o = one_left s.args.words.now s.args.n b.result s.requires.2 b.ensures c.if-from-n.false in
-    let g = called resolve_by_groups s.args.t.now s.args.f.now s.args.s.now _ s.args.cache.now p.new.list p.new.cache (patch (reg_info_of s.args.t.now) (function_of s.args.f.now) (drop s.args.at s.args.s.now)) _ _ _ (rw c.in-Edits.is at p.ensures.0) in
-    omega (arith, edits-fit s.args.words.now s.args.n b.result o.0 o.1 g.es 0 0 p.new.list g.listed p.auto.1.1.1.1.1.0, g.counted, s.well_formed.1.1.1.1.1.1.1.1.1.1.1.1.1.1.1.1.1.1.1.1.1.1.0)
+    let g = called resolve_by_groups s.args.t.now s.args.f.now s.args.s.now _ s.args.cache.now p.new.list p.new.cache (patch (reg_info_of s.args.t.now) (function_of s.args.f.now) (drop s.args.at s.args.s.now)) _ _ _ (rw c.in-Edits.is at p.ensures.step_at) in
+    omega (arith, edits-fit s.args.words.now s.args.n b.result o.0 o.1 g.es 0 0 p.new.list g.listed p.auto.list, g.counted, s.well_formed.1.1.1.1.1.1.1.1.1.1.1.1.1.1.1.1.1.1.1.1.1.1.0)
 
 pub returns-in-Refused : goal.returns-in-Refused
 returns-in-Refused c =
     let s = c in
     let b = c.behind-from in
     let p = c.answer_patch in
-    (next-refused resolve_by_groups s.args.t.now s.args.f.now s.args.s.now s.args.at s.args.words.now s.args.n b.result s.requires.2 b.ensures s.args.cache.now p.new.list p.new.cache _ (rw c.in-Refused.is at p.ensures.0), ((tt, tt, tt, tt, tt, tt, tt, tt, tt, tt), (tt, tt, tt, tt, tt, tt, tt)))
+    (next-refused resolve_by_groups s.args.t.now s.args.f.now s.args.s.now s.args.at s.args.words.now s.args.n b.result s.requires.2 b.ensures s.args.cache.now p.new.list p.new.cache _ (rw c.in-Refused.is at p.ensures.step_at), ((tt, tt, tt, tt, tt, tt, tt, tt, tt, tt), (tt, tt, tt, tt, tt, tt, tt)))
 
 pub returns-else-from-n : goal.returns-else-from-n
 returns-else-from-n c =
     let s = c in
     let b = c.behind-from in
     let p = c.answer_patch in
-    let g = called resolve_by_groups s.args.t.now s.args.f.now s.args.s.now _ s.args.cache.now p.new.list p.new.cache _ _ _ _ (rw c.in-Edits.is at p.ensures.0) in
-    (next-put resolve_by_groups s.args.t.now s.args.f.now s.args.s.now s.args.at s.args.words.now s.args.n b.result s.requires.2 b.ensures s.args.cache.now p.new.list p.new.cache _ _ _ g p.auto.1.1.1.1.1.0 c.if-from-n.false (few resolve_by_groups s.args.t.now s.args.f.now s.args.s.now _ s.args.cache.now p.new.list p.new.cache groups-bounded s.args.at _ _ _ s.requires.0 g) _ _ _ c.wide.ensures.1 (c.wide.ensures.0 ∙ c.made.ensures) c.wide-in-Edits.ensures.1 c.wide-in-Edits.ensures.0 c.head.ensures, ((tt, tt, tt, tt, tt, tt, tt, tt, tt, tt), (tt, tt, tt, tt, tt, tt, tt)))
+    let g = called resolve_by_groups s.args.t.now s.args.f.now s.args.s.now _ s.args.cache.now p.new.list p.new.cache _ _ _ _ (rw c.in-Edits.is at p.ensures.step_at) in
+    (next-put resolve_by_groups s.args.t.now s.args.f.now s.args.s.now s.args.at s.args.words.now s.args.n b.result s.requires.2 b.ensures s.args.cache.now p.new.list p.new.cache _ _ _ g p.auto.list c.if-from-n.false (few resolve_by_groups s.args.t.now s.args.f.now s.args.s.now _ s.args.cache.now p.new.list p.new.cache groups-bounded s.args.at _ _ _ s.requires.0 g) _ _ _ c.wide.ensures.1 (c.wide.ensures.0 ∙ c.made.ensures) c.wide-in-Edits.ensures.1 c.wide-in-Edits.ensures.0 c.head.ensures, ((tt, tt, tt, tt, tt, tt, tt, tt, tt, tt), (tt, tt, tt, tt, tt, tt, tt)))

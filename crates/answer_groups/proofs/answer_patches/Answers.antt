@@ -16,14 +16,14 @@ pub answer_next-requires : goal.answer_next-requires
 answer_next-requires c = let s = c in let l = c.loop-left in (s.requires.0, l.invariant.cached, room resolve_by_groups s.args.t.now s.args.f.now s.args.s.now _ s.args.words.now l.cache l.words l.at l.n l.left l.invariant)
 
 pub shape_of-words-in-Refused : goal.shape_of-words-in-Refused
-shape_of-words-in-Refused c = c.answer_next.auto.1.1.1.1.1.1.1.1.1.1.1.1.1.1.1.1.1.1.1.1.1.1.0 ∙ put-length c.loop-left.invariant.put
+shape_of-words-in-Refused c = c.answer_next.auto.words ∙ put-length c.loop-left.invariant.put
 
 pub returns-in-Refused : goal.returns-in-Refused
 returns-in-Refused c =
     let s = c in
     let l = c.loop-left in
     let p = c.answer_next in
-    (refused-here resolve_by_groups s.args.t.now s.args.f.now s.args.s.now _ s.args.words.now l.cache l.words l.at l.n l.left l.invariant p.new.cache p.new.words _ (omega (arith, c.loop-left-test.true)) (rw c.in-Refused.is at p.ensures.0), ((tt, tt, tt, tt, tt, tt, tt, tt, tt, tt, tt), (tt, tt, tt, tt, tt, tt, tt)))
+    (refused-here resolve_by_groups s.args.t.now s.args.f.now s.args.s.now _ s.args.words.now l.cache l.words l.at l.n l.left l.invariant p.new.cache p.new.words _ (omega (arith, c.loop-left-test.true)) (rw c.in-Refused.is at p.ensures.next_as), ((tt, tt, tt, tt, tt, tt, tt, tt, tt, tt, tt), (tt, tt, tt, tt, tt, tt, tt)))
 
 pub overflow_sub-left : goal.overflow_sub-left
 overflow_sub-left c = omega (arith, c.loop-left-test.true)
@@ -36,7 +36,7 @@ loop-left-preserved c =
     let s = c in
     let l = c.loop-left in
     let p = c.answer_next in
-    goes_on resolve_by_groups s.args.t.now s.args.f.now s.args.s.now _ s.args.words.now l.cache l.words l.at l.n l.left l.invariant p.new.cache p.new.words _ _ (omega (arith, c.loop-left-test.true)) (rw c.in-At.is at p.ensures.0)
+    goes_on resolve_by_groups s.args.t.now s.args.f.now s.args.s.now _ s.args.words.now l.cache l.words l.at l.n l.left l.invariant p.new.cache p.new.words _ _ (omega (arith, c.loop-left-test.true)) (rw c.in-At.is at p.ensures.next_as)
 
 pub shape_of-words-then-at-s : goal.shape_of-words-then-at-s
 shape_of-words-then-at-s c = put-length c.loop-left.invariant.put

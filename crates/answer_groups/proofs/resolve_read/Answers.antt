@@ -20,4 +20,4 @@ returns-in-Refused c =
 pub returns-in-Is : goal.returns-in-Is
 returns-in-Is c =
     let a = c.args in
-    (λ p rest q is. c.resolve_kept.ensures.0 p (numbered (reg_info_of a.t.now) (function_of a.f.now) a.s.now a.at _ p rest q _ _ a.free.now (rw c.in-Is.is at c.read_numbers.ensures) is), ((tt, tt, tt, tt, tt, tt, tt, tt, tt), (tt, tt, tt, tt, tt, tt, tt)))
+    (λ p rest q is. c.resolve_kept.ensures.call_at p (numbered (reg_info_of a.t.now) (function_of a.f.now) a.s.now a.at _ p rest q _ _ a.free.now (rw c.in-Is.is at c.read_numbers.ensures) is), ((tt, tt, tt, tt, tt, tt, tt, tt, tt), (tt, tt, tt, tt, tt, tt, tt)))

@@ -14,7 +14,7 @@ pub put_word-requires : goal.put_word-requires
 put_word-requires c = let l = c.loop-i in at_most _ _ l.out l.n l.k l.i l.invariant
 
 pub shape_of-out-in_default : goal.shape_of-out-in_default
-shape_of-out-in_default c = let p = c in p.put_word.auto.0 ∙ put-length p.loop-i.invariant.put
+shape_of-out-in_default c = let p = c in p.put_word.auto.out ∙ put-length p.loop-i.invariant.put
 
 pub returns-in_default : goal.returns-in_default
 returns-in_default c =
@@ -43,7 +43,7 @@ pub put_refusal-requires : goal.put_refusal-requires
 put_refusal-requires c = let l = c.loop-i in at_most _ _ l.out l.n l.k l.i l.invariant
 
 pub shape_of-out : goal.shape_of-out
-shape_of-out c = let p = c in p.put_refusal.auto.0 ∙ put-length p.loop-i.invariant.put
+shape_of-out c = let p = c in p.put_refusal.auto.out ∙ put-length p.loop-i.invariant.put
 
 pub returns : goal.returns
 returns c =

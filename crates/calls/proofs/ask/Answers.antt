@@ -23,4 +23,4 @@ pub returns : goal.returns
 returns c =
     let own-grant = c.own_grant-g in
     let args = c.args in
-    (asked-own own-grant.result args.t.now args.f.now args.free.now args.numbers.now args.list.now args.cache.now own-grant.ensures _ _ _ c.ask_granted.ensures.0, search rules)
+    record { asks = asked-own own-grant.result args.t.now args.f.now args.free.now args.numbers.now args.list.now args.cache.now own-grant.ensures _ _ _ c.ask_granted.ensures.asks; anything = search rules }

@@ -6,7 +6,7 @@ use Rattle.calls.proofs.ask_granted.Goals as goal
 pub returns-in-Refused : goal.returns-in-Refused
 returns-in-Refused c =
     let args = c.args in
-    (refused-asked args.g args.t.now args.f.now args.free.now args.numbers.now args.list.now args.cache.now _ _ _ (rw c.in-Refused.is at c.take_given.ensures), search rules)
+    record { asks = refused-asked args.g args.t.now args.f.now args.free.now args.numbers.now args.list.now args.cache.now _ _ _ (rw c.in-Refused.is at c.take_given.ensures); anything = search rules }
 
 pub ask_patch_granted-requires : goal.ask_patch_granted-requires
 ask_patch_granted-requires c =
@@ -18,4 +18,4 @@ returns c =
     let args = c.args in
     let take-given = c.take_given in
     let some-given = c.some_given-given in
-    (taken-asked args.g args.t.now args.f.now args.free.now args.numbers.now args.list.now args.cache.now _ _ _ _ (rw c.in_default.is at take-given.ensures) (rw some-given.ensures at c.ask_patch_granted.ensures.0), search rules)
+    record { asks = taken-asked args.g args.t.now args.f.now args.free.now args.numbers.now args.list.now args.cache.now _ _ _ _ (rw c.in_default.is at take-given.ensures) (rw some-given.ensures at c.ask_patch_granted.ensures.asks_patch_granted); anything = search rules }

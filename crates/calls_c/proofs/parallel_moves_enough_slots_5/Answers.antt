@@ -7,7 +7,7 @@ pub enough_slots-requires : goal.enough_slots-requires
 enough_slots-requires c = let a = c.args in tables-known _ _ (calls.opened a.kept_evictions a.bytes.now) (rw c.in-Yes.is at c.open_tables.ensures)
 
 pub returns-in-Yes : goal.returns-in-Yes
-returns-in-Yes c = let a = c.args in (planned _ _ (calls.opened a.kept_evictions a.bytes.now) _ (rw c.in-Yes.is at c.open_tables.ensures) c.enough_slots.ensures.0, (tt, tt))
+returns-in-Yes c = let a = c.args in record { planned_by = planned _ _ (calls.opened a.kept_evictions a.bytes.now) _ (rw c.in-Yes.is at c.open_tables.ensures) c.enough_slots.ensures.0; anything = (tt, tt) }
 
 pub returns-in-Refused : goal.returns-in-Refused
-returns-in-Refused c = let a = c.args in (not-planned _ _ (calls.opened a.kept_evictions a.bytes.now) _ (rw c.in-Refused.is at c.open_tables.ensures), (tt, tt))
+returns-in-Refused c = let a = c.args in record { planned_by = not-planned _ _ (calls.opened a.kept_evictions a.bytes.now) _ (rw c.in-Refused.is at c.open_tables.ensures); anything = (tt, tt) }

@@ -3,4 +3,4 @@ use borrow.Author.Rules.{rules}
 use Rattle.examine_c.proofs.parallel_moves_examine_5.Goals as goal
 
 pub returns : goal.returns
-returns c = (rw c.examine_job-r.ensures.0 at c.told.ensures, (tt, tt, tt, tt, tt, tt, tt, tt, tt, tt))
+returns c = record { told_as = rw c.examine_job-r.ensures.result_value at c.told.ensures; anything = (tt, tt, tt, tt, tt, tt, tt, tt, tt, tt) }

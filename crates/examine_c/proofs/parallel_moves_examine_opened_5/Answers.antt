@@ -8,4 +8,4 @@ pub examine_call-r-requires : goal.examine_call-r-requires
 examine_call-r-requires c = (c.requires, omega (arith, c.slot_limit-most.ensures, low-limit _ _ c.requires.function))
 
 pub returns : goal.returns
-returns c = (rw (c.examine_call-r.ensures.0, c.slot_limit-most.ensures) at c.told.ensures, (tt, tt, tt, tt, tt, tt, tt, tt))
+returns c = record { told_as = rw (c.examine_call-r.ensures.result_value, c.slot_limit-most.ensures) at c.told.ensures; anything = (tt, tt, tt, tt, tt, tt, tt, tt) }

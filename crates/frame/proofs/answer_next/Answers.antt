@@ -11,7 +11,7 @@ use Rattle.frame.proofs.answer_next.Goals as goal
 pub slice_bounds-buf-end : goal.slice_bounds-buf-end
 slice_bounds-buf-end c =
     let r = c.read_schedule in
-    omega (arith, read-within r.new.buf r.result _ r.ensures c.in-Is.is, r.auto.0, length-replicate {A = ℕ} 4000 0)
+    omega (arith, read-within r.new.buf r.result _ r.ensures c.in-Is.is, r.auto.buf, length-replicate {A = ℕ} 4000 0)
 
 pub slice_bounds-answer-end : goal.slice_bounds-answer-end
 slice_bounds-answer-end c =

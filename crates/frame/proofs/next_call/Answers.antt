@@ -21,7 +21,7 @@ returns-then-formula-eq1 c =
     let b = c.between in
     let w = named a.s.now a.p.at n.result b.result b.ensures _ _ c.in-Is.is in
     let k = c.call-r in
-    called a.frame.now a.s.now a.p.at a.p.calls 0 a.t1.now a.f1.now a.cache1.now a.slots1.now a.p.one 1 a.t2.now a.f2.now a.cache2.now a.slots2.now a.p.two c.requires.0 _ w.ahead k.new.frame k.new.cache k.new.slots k.result.left k.result.at k.ensures.1
+    called a.frame.now a.s.now a.p.at a.p.calls 0 a.t1.now a.f1.now a.cache1.now a.slots1.now a.p.one 1 a.t2.now a.f2.now a.cache2.now a.slots2.now a.p.two c.requires.0 _ w.ahead k.new.frame k.new.cache k.new.slots k.result.left k.result.at k.ensures.frame_ok
 
 pub call-r-requires-in-Is : goal.call-r-requires-in-Is
 call-r-requires-in-Is c =
@@ -45,5 +45,5 @@ returns-else-formula-eq1 c =
     let b = c.between in
     let w = named a.s.now a.p.at n.result b.result b.ensures _ _ c.in-Is.is in
     let k = c.call-r-in-Is in
-    let y = called a.frame.now a.s.now a.p.at a.p.calls 1 a.t2.now a.f2.now a.cache2.now a.slots2.now a.p.two 0 a.t1.now a.f1.now a.cache1.now a.slots1.now a.p.one (exchanged a.frame.now a.s.now a.p.at a.p.calls 0 a.t1.now a.f1.now a.cache1.now a.slots1.now a.p.one 1 a.t2.now a.f2.now a.cache2.now a.slots2.now a.p.two c.requires.0) _ w.ahead k.new.frame k.new.cache k.new.slots k.result.left k.result.at k.ensures.1 in
+    let y = called a.frame.now a.s.now a.p.at a.p.calls 1 a.t2.now a.f2.now a.cache2.now a.slots2.now a.p.two 0 a.t1.now a.f1.now a.cache1.now a.slots1.now a.p.one (exchanged a.frame.now a.s.now a.p.at a.p.calls 0 a.t1.now a.f1.now a.cache1.now a.slots1.now a.p.one 1 a.t2.now a.f2.now a.cache2.now a.slots2.now a.p.two c.requires.0) _ w.ahead k.new.frame k.new.cache k.new.slots k.result.left k.result.at k.ensures.frame_ok in
     (exchanged k.new.frame a.s.now k.result.at (a.p.calls + 1) 1 a.t2.now a.f2.now k.new.cache k.new.slots k.result.left 0 a.t1.now a.f1.now a.cache1.now a.slots1.now a.p.one y.0, y.1)

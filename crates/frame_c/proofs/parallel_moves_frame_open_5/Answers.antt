@@ -6,10 +6,10 @@ pub returns-in-Yes : goal.returns-in-Yes
 returns-in-Yes c =
     let open-frame = c.open_frame in
     let start = c in
-    frame-open start.args.limit start.args.shares.now start.args.frame.now open-frame.new.0 (rw c.in-Yes.is at open-frame.ensures)
+    frame-open start.args.limit start.args.shares.now start.args.frame.now open-frame.new.frame (rw c.in-Yes.is at open-frame.ensures)
 
 pub returns-in-Refused : goal.returns-in-Refused
 returns-in-Refused c =
     let open-frame = c.open_frame in
     let start = c in
-    frame_refused start.args.limit start.args.shares.now start.args.frame.now open-frame.new.0 _ (rw c.in-Refused.is at open-frame.ensures)
+    frame_refused start.args.limit start.args.shares.now start.args.frame.now open-frame.new.frame _ (rw c.in-Refused.is at open-frame.ensures)

@@ -8,10 +8,10 @@ pub returns-in-Edits : goal.returns-in-Edits
 returns-in-Edits c =
     let resolve-in = c.resolve_in in
     let start = c in
-    (gave-edits start.args.frame.now resolve-in.new.0 start.args.formula start.args.function.now start.args.position.now start.args.list.now resolve-in.new.1.1.1.1.1.1.1.0 start.args.cache.now resolve-in.new.1.1.1.1.1.1.0 (answer_of start.args.frame.now start.args.formula start.args.target.now start.args.function.now start.args.free.now start.args.numbers.now (length start.args.list.now) start.args.cache.now) _ _ (rw c.in-Edits.is at resolve-in.ensures.0), resolve-in.ensures.1)
+    record { resolved_by = gave-edits start.args.frame.now resolve-in.new.frame start.args.formula start.args.function.now start.args.position.now start.args.list.now resolve-in.new.list start.args.cache.now resolve-in.new.cache (answer_of start.args.frame.now start.args.formula start.args.target.now start.args.function.now start.args.free.now start.args.numbers.now (length start.args.list.now) start.args.cache.now) _ _ (rw c.in-Edits.is at resolve-in.ensures.gives_in); anything = resolve-in.ensures.anything }
 
 pub returns-in-Refused : goal.returns-in-Refused
 returns-in-Refused c =
     let resolve-in = c.resolve_in in
     let start = c in
-    (gave-number start.args.frame.now resolve-in.new.0 start.args.formula start.args.function.now start.args.position.now start.args.list.now resolve-in.new.1.1.1.1.1.1.1.0 start.args.cache.now resolve-in.new.1.1.1.1.1.1.0 (answer_of start.args.frame.now start.args.formula start.args.target.now start.args.function.now start.args.free.now start.args.numbers.now (length start.args.list.now) start.args.cache.now) _ (rw c.in-Refused.is at resolve-in.ensures.0), resolve-in.ensures.1)
+    record { resolved_by = gave-number start.args.frame.now resolve-in.new.frame start.args.formula start.args.function.now start.args.position.now start.args.list.now resolve-in.new.list start.args.cache.now resolve-in.new.cache (answer_of start.args.frame.now start.args.formula start.args.target.now start.args.function.now start.args.free.now start.args.numbers.now (length start.args.list.now) start.args.cache.now) _ (rw c.in-Refused.is at resolve-in.ensures.gives_in); anything = resolve-in.ensures.anything }

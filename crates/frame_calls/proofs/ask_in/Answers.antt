@@ -16,7 +16,7 @@ shown-requires c =
     let pre = c.requires in
     let grant = c.grant-g in
     let ask-granted = c.ask_granted in
-    (few start.args.frame.now pre.1 start.args.i pre.2 start.args.t.now start.args.f.now start.args.cache.now _ grant.ensures, asked-on start.args.frame.now pre.1 start.args.i pre.2 start.args.t.now start.args.f.now start.args.cache.now _ grant.ensures start.args.free.now start.args.numbers.now start.args.list.now ask-granted.new.1.1.1.1.1.1.0 ask-granted.new.1.1.1.1.1.1.1.1.1.1.1.1.0 ask-granted.result ask-granted.ensures.0 _ _ c.in-Ready.is, own-low start.args.frame.now pre.1 _ pre.2)
+    (few start.args.frame.now pre.1 start.args.i pre.2 start.args.t.now start.args.f.now start.args.cache.now _ grant.ensures, asked-on start.args.frame.now pre.1 start.args.i pre.2 start.args.t.now start.args.f.now start.args.cache.now _ grant.ensures start.args.free.now start.args.numbers.now start.args.list.now ask-granted.new.list ask-granted.new.slots ask-granted.result ask-granted.ensures.asks _ _ c.in-Ready.is, own-low start.args.frame.now pre.1 _ pre.2)
 
 pub returns-in-Refused : goal.returns-in-Refused
 returns-in-Refused c =
@@ -24,7 +24,7 @@ returns-in-Refused c =
     let pre = c.requires in
     let grant = c.grant-g in
     let ask-granted = c.ask_granted in
-    (refused-asking start.args.frame.now pre.1 start.args.i pre.2 start.args.t.now start.args.f.now start.args.cache.now _ grant.ensures start.args.free.now start.args.numbers.now start.args.list.now ask-granted.new.1.1.1.1.1.1.0 ask-granted.new.1.1.1.1.1.1.1.1.1.1.1.1.0 ask-granted.result ask-granted.ensures.0 _ c.in-Refused.is, ask-granted.ensures.1)
+    record { asks_in = refused-asking start.args.frame.now pre.1 start.args.i pre.2 start.args.t.now start.args.f.now start.args.cache.now _ grant.ensures start.args.free.now start.args.numbers.now start.args.list.now ask-granted.new.list ask-granted.new.slots ask-granted.result ask-granted.ensures.asks _ c.in-Refused.is; anything = ask-granted.ensures.anything }
 
 pub returns-in-Ready : goal.returns-in-Ready
 returns-in-Ready c =
@@ -32,4 +32,4 @@ returns-in-Ready c =
     let pre = c.requires in
     let grant = c.grant-g in
     let ask-granted = c.ask_granted in
-    (accepted-asking start.args.frame.now pre.1 start.args.i pre.2 start.args.t.now start.args.f.now start.args.cache.now _ grant.ensures start.args.free.now start.args.numbers.now start.args.list.now ask-granted.new.1.1.1.1.1.1.0 ask-granted.new.1.1.1.1.1.1.1.1.1.1.1.1.0 ask-granted.result ask-granted.ensures.0 _ _ c.in-Ready.is _ c.shown.ensures, ask-granted.ensures.1)
+    record { asks_in = accepted-asking start.args.frame.now pre.1 start.args.i pre.2 start.args.t.now start.args.f.now start.args.cache.now _ grant.ensures start.args.free.now start.args.numbers.now start.args.list.now ask-granted.new.list ask-granted.new.slots ask-granted.result ask-granted.ensures.asks _ _ c.in-Ready.is _ c.shown.ensures; anything = ask-granted.ensures.anything }

@@ -17,7 +17,7 @@ go_on-requires c =
     let grant = c.grant-g in
     let resolve-granted = c.resolve_granted in (
       few start.args.frame.now pre.1 start.args.i pre.2 start.args.t.now start.args.f.now start.args.cache.now _ grant.ensures,
-      rw c.made.ensures (led_on start.args.frame.now pre.1 start.args.i pre.2 start.args.t.now start.args.f.now start.args.cache.now _ grant.ensures start.args.free.now start.args.numbers.now start.args.list.now resolve-granted.new.1.1.1.1.1.1.0 resolve-granted.new.1.1.1.1.1.0 resolve-granted.result resolve-granted.ensures.0 _ _ c.in-Edits.is),
+      rw c.made.ensures (led_on start.args.frame.now pre.1 start.args.i pre.2 start.args.t.now start.args.f.now start.args.cache.now _ grant.ensures start.args.free.now start.args.numbers.now start.args.list.now resolve-granted.new.list resolve-granted.new.cache resolve-granted.result resolve-granted.ensures.gives_granted _ _ c.in-Edits.is),
       own-low start.args.frame.now pre.1 _ pre.2,
     )
 
@@ -27,7 +27,7 @@ returns-in-Refused c =
     let pre = c.requires in
     let grant = c.grant-g in
     let resolve-granted = c.resolve_granted in
-    (refused-call start.args.frame.now pre.1 start.args.i pre.2 start.args.t.now start.args.f.now start.args.cache.now _ grant.ensures start.args.free.now start.args.numbers.now start.args.list.now resolve-granted.new.1.1.1.1.1.1.0 resolve-granted.new.1.1.1.1.1.0 resolve-granted.result resolve-granted.ensures.0 _ c.in-Refused.is, resolve-granted.ensures.1)
+    record { gives_in = refused-call start.args.frame.now pre.1 start.args.i pre.2 start.args.t.now start.args.f.now start.args.cache.now _ grant.ensures start.args.free.now start.args.numbers.now start.args.list.now resolve-granted.new.list resolve-granted.new.cache resolve-granted.result resolve-granted.ensures.gives_granted _ c.in-Refused.is; anything = resolve-granted.ensures.anything }
 
 pub returns-in-Edits : goal.returns-in-Edits
 returns-in-Edits c =
@@ -35,4 +35,4 @@ returns-in-Edits c =
     let pre = c.requires in
     let grant = c.grant-g in
     let resolve-granted = c.resolve_granted in
-    (accepted-call start.args.frame.now pre.1 start.args.i pre.2 start.args.t.now start.args.f.now start.args.cache.now _ grant.ensures start.args.free.now start.args.numbers.now start.args.list.now resolve-granted.new.1.1.1.1.1.1.0 resolve-granted.new.1.1.1.1.1.0 resolve-granted.result resolve-granted.ensures.0 _ _ c.in-Edits.is _ (rw c.made.ensures at c.go_on.ensures), resolve-granted.ensures.1)
+    record { gives_in = accepted-call start.args.frame.now pre.1 start.args.i pre.2 start.args.t.now start.args.f.now start.args.cache.now _ grant.ensures start.args.free.now start.args.numbers.now start.args.list.now resolve-granted.new.list resolve-granted.new.cache resolve-granted.result resolve-granted.ensures.gives_granted _ _ c.in-Edits.is _ (rw c.made.ensures at c.go_on.ensures); anything = resolve-granted.ensures.anything }

@@ -18,7 +18,7 @@ go_on-requires c =
     let grant = c.grant-g in
     let resolve-groups-granted = c.resolve_groups_granted in (
       few start.args.frame.now pre.1 start.args.i pre.2 start.args.t.now start.args.f.now start.args.cache.now _ grant.ensures,
-      rw c.made.ensures (led_on start.args.frame.now pre.1 start.args.i pre.2 start.args.t.now start.args.f.now start.args.cache.now _ grant.ensures start.args.free.now start.args.numbers.now start.args.list.now resolve-groups-granted.new.1.1.1.1.1.1.0 resolve-groups-granted.new.1.1.1.1.1.0 resolve-groups-granted.result resolve-groups-granted.ensures.0 _ _ c.in-Edits.is),
+      rw c.made.ensures (led_on start.args.frame.now pre.1 start.args.i pre.2 start.args.t.now start.args.f.now start.args.cache.now _ grant.ensures start.args.free.now start.args.numbers.now start.args.list.now resolve-groups-granted.new.list resolve-groups-granted.new.cache resolve-groups-granted.result resolve-groups-granted.ensures.gives_granted _ _ c.in-Edits.is),
       own-low start.args.frame.now pre.1 _ pre.2,
     )
 
@@ -28,7 +28,7 @@ returns-in-Refused c =
     let pre = c.requires in
     let grant = c.grant-g in
     let resolve-groups-granted = c.resolve_groups_granted in
-    (refused-call start.args.frame.now pre.1 start.args.i pre.2 start.args.t.now start.args.f.now start.args.cache.now _ grant.ensures start.args.free.now start.args.numbers.now start.args.list.now resolve-groups-granted.new.1.1.1.1.1.1.0 resolve-groups-granted.new.1.1.1.1.1.0 resolve-groups-granted.result resolve-groups-granted.ensures.0 _ c.in-Refused.is, ((tt, tt, tt, tt, tt, tt, tt, tt, tt, tt), (tt, tt, tt, tt, tt, tt)))
+    (refused-call start.args.frame.now pre.1 start.args.i pre.2 start.args.t.now start.args.f.now start.args.cache.now _ grant.ensures start.args.free.now start.args.numbers.now start.args.list.now resolve-groups-granted.new.list resolve-groups-granted.new.cache resolve-groups-granted.result resolve-groups-granted.ensures.gives_granted _ c.in-Refused.is, ((tt, tt, tt, tt, tt, tt, tt, tt, tt, tt), (tt, tt, tt, tt, tt, tt)))
 
 pub returns-in-Edits : goal.returns-in-Edits
 returns-in-Edits c =
@@ -36,4 +36,4 @@ returns-in-Edits c =
     let pre = c.requires in
     let grant = c.grant-g in
     let resolve-groups-granted = c.resolve_groups_granted in
-    (accepted-call start.args.frame.now pre.1 start.args.i pre.2 start.args.t.now start.args.f.now start.args.cache.now _ grant.ensures start.args.free.now start.args.numbers.now start.args.list.now resolve-groups-granted.new.1.1.1.1.1.1.0 resolve-groups-granted.new.1.1.1.1.1.0 resolve-groups-granted.result resolve-groups-granted.ensures.0 _ _ c.in-Edits.is _ (rw c.made.ensures at c.go_on.ensures), ((tt, tt, tt, tt, tt, tt, tt, tt, tt, tt), (tt, tt, tt, tt, tt, tt)))
+    (accepted-call start.args.frame.now pre.1 start.args.i pre.2 start.args.t.now start.args.f.now start.args.cache.now _ grant.ensures start.args.free.now start.args.numbers.now start.args.list.now resolve-groups-granted.new.list resolve-groups-granted.new.cache resolve-groups-granted.result resolve-groups-granted.ensures.gives_granted _ _ c.in-Edits.is _ (rw c.made.ensures at c.go_on.ensures), ((tt, tt, tt, tt, tt, tt, tt, tt, tt, tt), (tt, tt, tt, tt, tt, tt)))

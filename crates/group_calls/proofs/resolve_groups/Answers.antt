@@ -18,4 +18,4 @@ resolve_groups-requires c =
 pub returns : goal.returns
 returns c =
     let a = c.args in
-    (free-taken a.t.now a.f.now a.free.now a.numbers.now a.list.now a.cache.now _ _ _ _ (rw c.in_default.is at c.take_free.ensures) c.resolve_groups.ensures.0, ((tt, tt, tt, tt, tt, tt, tt, tt, tt, tt), (tt, tt, tt, tt, tt, tt)))
+    (free-taken a.t.now a.f.now a.free.now a.numbers.now a.list.now a.cache.now _ _ _ _ (rw c.in_default.is at c.take_free.ensures) c.resolve_groups.ensures.groups, ((tt, tt, tt, tt, tt, tt, tt, tt, tt, tt), (tt, tt, tt, tt, tt, tt)))

@@ -43,7 +43,7 @@ hand_over-requires c =
     let whole-refusal = c.whole_refusal in
     let begin = c.begin in
     let resolve-parts = c.resolve_parts in
-    let h = can-hand-over args.t.now args.f.now args.free.now args.numbers.now args.g pre.0 args.cache.now args.list.now (rw c.in_default.is at whole-refusal.ensures.0) _ _ _ begin.ensures.0 _ _ (rw c.in-Edits.is at resolve-parts.ensures.0) in (omega (arith, h.0, c.told_words-in-Edits.ensures), h.1, h.2)
+    let h = can-hand-over args.t.now args.f.now args.free.now args.numbers.now args.g pre.0 args.cache.now args.list.now (rw c.in_default.is at whole-refusal.ensures.0) _ _ _ begin.ensures.0 _ _ (rw c.in-Edits.is at resolve-parts.ensures.parts_give) in (omega (arith, h.0, c.told_words-in-Edits.ensures), h.1, h.2)
 
 pub returns-in-Refused-resolve_parts : goal.returns-in-Refused-resolve_parts
 returns-in-Refused-resolve_parts c =
@@ -51,7 +51,7 @@ returns-in-Refused-resolve_parts c =
     let pre = c.requires in
     let whole-refusal = c.whole_refusal in
     let begin = c.begin in
-    (part_out args.t.now args.f.now args.free.now args.numbers.now args.g pre.0 args.cache.now args.list.now (rw c.in_default.is at whole-refusal.ensures.0) _ _ _ begin.ensures.0 _ (rw c.in-Refused-resolve_parts.is at c.resolve_parts.ensures.0), ((tt, tt, tt, tt, tt, tt, tt, tt, tt), (tt, tt, tt, tt, tt, tt)))
+    (part_out args.t.now args.f.now args.free.now args.numbers.now args.g pre.0 args.cache.now args.list.now (rw c.in_default.is at whole-refusal.ensures.0) _ _ _ begin.ensures.0 _ (rw c.in-Refused-resolve_parts.is at c.resolve_parts.ensures.parts_give), ((tt, tt, tt, tt, tt, tt, tt, tt, tt), (tt, tt, tt, tt, tt, tt)))
 
 pub returns-in-Edits : goal.returns-in-Edits
 returns-in-Edits c =
@@ -60,4 +60,4 @@ returns-in-Edits c =
     let whole-refusal = c.whole_refusal in
     let begin = c.begin in
     let resolve-parts = c.resolve_parts in
-    (all-given args.t.now args.f.now args.free.now args.numbers.now args.g pre.0 args.cache.now args.list.now (rw c.in_default.is at whole-refusal.ensures.0) _ _ _ begin.ensures.0 _ _ (rw c.in-Edits.is at resolve-parts.ensures.0) _ _ c.hand_over.ensures, ((tt, tt, tt, tt, tt, tt, tt, tt, tt), (tt, tt, tt, tt, tt, tt)))
+    (all-given args.t.now args.f.now args.free.now args.numbers.now args.g pre.0 args.cache.now args.list.now (rw c.in_default.is at whole-refusal.ensures.0) _ _ _ begin.ensures.0 _ _ (rw c.in-Edits.is at resolve-parts.ensures.parts_give) _ _ c.hand_over.ensures, ((tt, tt, tt, tt, tt, tt, tt, tt, tt), (tt, tt, tt, tt, tt, tt)))

@@ -11,7 +11,7 @@ add_part-requires c =
 pub returns-in-Refused : goal.returns-in-Refused
 returns-in-Refused c =
     let args = c.args in
-    (part-refused args.t.now args.f.now args.numbers.now args.first _ _ args.limit args.free.now args.list.now args.work.now _ (rw c.in-Refused.is at c.add_part.ensures), (tt, tt, tt, tt, tt, tt, tt, tt, tt))
+    record { part_gives = part-refused args.t.now args.f.now args.numbers.now args.first _ _ args.limit args.free.now args.list.now args.work.now _ (rw c.in-Refused.is at c.add_part.ensures); anything = (tt, tt, tt, tt, tt, tt, tt, tt, tt) }
 
 pub part_given-requires : goal.part_given-requires
 part_given-requires c =
@@ -31,4 +31,4 @@ returns c =
     let add-part = c.add_part in
     let part_Free = c.part_given in
     let made = c.made in
-    (part-resolved args.t.now args.f.now args.numbers.now args.first _ _ args.limit args.free.now args.list.now args.work.now _ _ _ _ (rw c.in_default.is at add-part.ensures) part_Free.ensures (rw made.ensures at c.resolve_granted.ensures.0), (tt, tt, tt, tt, tt, tt, tt, tt, tt))
+    record { part_gives = part-resolved args.t.now args.f.now args.numbers.now args.first _ _ args.limit args.free.now args.list.now args.work.now _ _ _ _ (rw c.in_default.is at add-part.ensures) part_Free.ensures (rw made.ensures at c.resolve_granted.ensures.resolves_granted); anything = (tt, tt, tt, tt, tt, tt, tt, tt, tt) }

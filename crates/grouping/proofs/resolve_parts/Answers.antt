@@ -80,7 +80,7 @@ shape_of-joined-in-Refused c =
     let args = c.args in
     let pre = c.requires in
     let loop-test = c.loop-i-test in
-    let l = loop in back-length l.joined resolve-part.new.1.1.1.1.1.1.1.1.1.1.0 l.count (omega (arith, l.invariant.2, count_most args.limit args.t.now args.f.now pre.0 pre.4.limit (given args.free.now args.numbers.now) (pre.5 (given args.free.now args.numbers.now) (is-given args.free.now args.numbers.now)) (cache_of args.work.now) (count_of args.numbers.now) l.i l.work l.joined l.count l.met (omega (arith, l.invariant.1, loop-test.true)) (l.invariant.3 (given args.free.now args.numbers.now) (is-given args.free.now args.numbers.now)))) resolve-part.auto.1.1.1.1.1.1.1.1.1.1.0 ∙ l.invariant.2 ∙ sym pre.6
+    let l = loop in back-length l.joined resolve-part.new.list l.count (omega (arith, l.invariant.2, count_most args.limit args.t.now args.f.now pre.0 pre.4.limit (given args.free.now args.numbers.now) (pre.5 (given args.free.now args.numbers.now) (is-given args.free.now args.numbers.now)) (cache_of args.work.now) (count_of args.numbers.now) l.i l.work l.joined l.count l.met (omega (arith, l.invariant.1, loop-test.true)) (l.invariant.3 (given args.free.now args.numbers.now) (is-given args.free.now args.numbers.now)))) resolve-part.auto.list ∙ l.invariant.2 ∙ sym pre.6
 
 pub returns-in-Refused : goal.returns-in-Refused
 returns-in-Refused c =
@@ -91,7 +91,7 @@ returns-in-Refused c =
     let is-first = c.is_first in
     let if1 = c.if-not-is_first in
     let resolve-part = c.resolve_part in
-    let l = loop in (λ p num. rw (going-refused args.limit args.t.now args.f.now pre.0 pre.4.limit p (pre.5 p num) (cache_of args.work.now) (count_of args.numbers.now) l.i l.work l.joined l.count l.met (omega (arith, l.invariant.1, loop-test.true)) (l.invariant.3 p num) (first-here args.t.now args.free.now args.numbers.now args.labels.now pre.2.labelled l.i (omega (arith, l.invariant.1, loop-test.true)) p num ∙ sym is-first.ensures ∙ not-false is-first.result if1.false-raw) (length (take (length l.joined - l.count) (drop l.count l.joined))) (part_length l.joined l.count ∙ ap (λ (z : ℕ). z - l.count) l.invariant.2) (take (length l.joined - l.count) (drop l.count l.joined)) resolve-part.new.1.1.1.1.1.1.1.1.1.1.0 _ l.invariant.2 _ (rw c.in-Refused.is at (resolve-part.ensures.0 p num))) refl, (tt, tt, tt, tt, tt, tt, tt, tt, tt))
+    let l = loop in record { parts_give = λ p num. rw (going-refused args.limit args.t.now args.f.now pre.0 pre.4.limit p (pre.5 p num) (cache_of args.work.now) (count_of args.numbers.now) l.i l.work l.joined l.count l.met (omega (arith, l.invariant.1, loop-test.true)) (l.invariant.3 p num) (first-here args.t.now args.free.now args.numbers.now args.labels.now pre.2.labelled l.i (omega (arith, l.invariant.1, loop-test.true)) p num ∙ sym is-first.ensures ∙ not-false is-first.result if1.false-raw) (length (take (length l.joined - l.count) (drop l.count l.joined))) (part_length l.joined l.count ∙ ap (λ (z : ℕ). z - l.count) l.invariant.2) (take (length l.joined - l.count) (drop l.count l.joined)) resolve-part.new.list _ l.invariant.2 _ (rw c.in-Refused.is at (resolve-part.ensures.part_gives p num))) refl; anything = (tt, tt, tt, tt, tt, tt, tt, tt, tt) }
 
 pub overflow_add-count : goal.overflow_add-count
 overflow_add-count c =
@@ -102,7 +102,7 @@ overflow_add-count c =
     let is-first = c.is_first in
     let if1 = c.if-not-is_first in
     let resolve-part = c.resolve_part in
-    let l = loop in let g = going_more args.limit args.t.now args.f.now pre.0 pre.4.limit (given args.free.now args.numbers.now) (pre.5 (given args.free.now args.numbers.now) (is-given args.free.now args.numbers.now)) (cache_of args.work.now) (count_of args.numbers.now) l.i l.work l.joined l.count l.met (omega (arith, l.invariant.1, loop-test.true)) (l.invariant.3 (given args.free.now args.numbers.now) (is-given args.free.now args.numbers.now)) (first-here args.t.now args.free.now args.numbers.now args.labels.now pre.2.labelled l.i (omega (arith, l.invariant.1, loop-test.true)) (given args.free.now args.numbers.now) (is-given args.free.now args.numbers.now) ∙ sym is-first.ensures ∙ not-false is-first.result if1.false-raw) (length (take (length l.joined - l.count) (drop l.count l.joined))) (part_length l.joined l.count ∙ ap (λ (z : ℕ). z - l.count) l.invariant.2) (take (length l.joined - l.count) (drop l.count l.joined)) resolve-part.new.1.1.1.1.1.1.1.1.1.1.0 _ l.invariant.2 _ _ _ (back_is l.joined resolve-part.new.1.1.1.1.1.1.1.1.1.1.0 l.count) (rw c.in-Edits.is at (resolve-part.ensures.0 (given args.free.now args.numbers.now) (is-given args.free.now args.numbers.now))) in omega (arith, g.few (count_of args.numbers.now - (l.i + 1)) (omega (arith, l.invariant.1, loop-test.true)), most args.limit args.t.now args.f.now pre.0 pre.4.limit (given args.free.now args.numbers.now) (pre.5 (given args.free.now args.numbers.now) (is-given args.free.now args.numbers.now)))
+    let l = loop in let g = going_more args.limit args.t.now args.f.now pre.0 pre.4.limit (given args.free.now args.numbers.now) (pre.5 (given args.free.now args.numbers.now) (is-given args.free.now args.numbers.now)) (cache_of args.work.now) (count_of args.numbers.now) l.i l.work l.joined l.count l.met (omega (arith, l.invariant.1, loop-test.true)) (l.invariant.3 (given args.free.now args.numbers.now) (is-given args.free.now args.numbers.now)) (first-here args.t.now args.free.now args.numbers.now args.labels.now pre.2.labelled l.i (omega (arith, l.invariant.1, loop-test.true)) (given args.free.now args.numbers.now) (is-given args.free.now args.numbers.now) ∙ sym is-first.ensures ∙ not-false is-first.result if1.false-raw) (length (take (length l.joined - l.count) (drop l.count l.joined))) (part_length l.joined l.count ∙ ap (λ (z : ℕ). z - l.count) l.invariant.2) (take (length l.joined - l.count) (drop l.count l.joined)) resolve-part.new.list _ l.invariant.2 _ _ _ (back_is l.joined resolve-part.new.list l.count) (rw c.in-Edits.is at (resolve-part.ensures.part_gives (given args.free.now args.numbers.now) (is-given args.free.now args.numbers.now))) in omega (arith, g.few (count_of args.numbers.now - (l.i + 1)) (omega (arith, l.invariant.1, loop-test.true)), most args.limit args.t.now args.f.now pre.0 pre.4.limit (given args.free.now args.numbers.now) (pre.5 (given args.free.now args.numbers.now) (is-given args.free.now args.numbers.now)))
 
 pub overflow_add-i-in-Edits : goal.overflow_add-i-in-Edits
 overflow_add-i-in-Edits c =
@@ -125,7 +125,7 @@ loop-i-preserved c =
     let pre = c.requires in
     let is-first = c.is_first in
     let if1 = c.if-not-is_first in
-    let l = loop in (omega (arith, loop-test.true), l.invariant.1, back-length l.joined resolve-part.new.1.1.1.1.1.1.1.1.1.1.0 l.count (omega (arith, l.invariant.2, count_most args.limit args.t.now args.f.now pre.0 pre.4.limit (given args.free.now args.numbers.now) (pre.5 (given args.free.now args.numbers.now) (is-given args.free.now args.numbers.now)) (cache_of args.work.now) (count_of args.numbers.now) l.i l.work l.joined l.count l.met (omega (arith, l.invariant.1, loop-test.true)) (l.invariant.3 (given args.free.now args.numbers.now) (is-given args.free.now args.numbers.now)))) resolve-part.auto.1.1.1.1.1.1.1.1.1.1.0 ∙ l.invariant.2, λ p num. rw c.greater-met.ensures (going_more args.limit args.t.now args.f.now pre.0 pre.4.limit p (pre.5 p num) (cache_of args.work.now) (count_of args.numbers.now) l.i l.work l.joined l.count l.met (omega (arith, l.invariant.1, loop-test.true)) (l.invariant.3 p num) (first-here args.t.now args.free.now args.numbers.now args.labels.now pre.2.labelled l.i (omega (arith, l.invariant.1, loop-test.true)) p num ∙ sym is-first.ensures ∙ not-false is-first.result if1.false-raw) (length (take (length l.joined - l.count) (drop l.count l.joined))) (part_length l.joined l.count ∙ ap (λ (z : ℕ). z - l.count) l.invariant.2) (take (length l.joined - l.count) (drop l.count l.joined)) resolve-part.new.1.1.1.1.1.1.1.1.1.1.0 _ l.invariant.2 _ _ _ (back_is l.joined resolve-part.new.1.1.1.1.1.1.1.1.1.1.0 l.count) (rw c.in-Edits.is at (resolve-part.ensures.0 p num))))
+    let l = loop in (omega (arith, loop-test.true), l.invariant.1, back-length l.joined resolve-part.new.list l.count (omega (arith, l.invariant.2, count_most args.limit args.t.now args.f.now pre.0 pre.4.limit (given args.free.now args.numbers.now) (pre.5 (given args.free.now args.numbers.now) (is-given args.free.now args.numbers.now)) (cache_of args.work.now) (count_of args.numbers.now) l.i l.work l.joined l.count l.met (omega (arith, l.invariant.1, loop-test.true)) (l.invariant.3 (given args.free.now args.numbers.now) (is-given args.free.now args.numbers.now)))) resolve-part.auto.list ∙ l.invariant.2, λ p num. rw c.greater-met.ensures (going_more args.limit args.t.now args.f.now pre.0 pre.4.limit p (pre.5 p num) (cache_of args.work.now) (count_of args.numbers.now) l.i l.work l.joined l.count l.met (omega (arith, l.invariant.1, loop-test.true)) (l.invariant.3 p num) (first-here args.t.now args.free.now args.numbers.now args.labels.now pre.2.labelled l.i (omega (arith, l.invariant.1, loop-test.true)) p num ∙ sym is-first.ensures ∙ not-false is-first.result if1.false-raw) (length (take (length l.joined - l.count) (drop l.count l.joined))) (part_length l.joined l.count ∙ ap (λ (z : ℕ). z - l.count) l.invariant.2) (take (length l.joined - l.count) (drop l.count l.joined)) resolve-part.new.list _ l.invariant.2 _ _ _ (back_is l.joined resolve-part.new.list l.count) (rw c.in-Edits.is at (resolve-part.ensures.part_gives p num))))
 
 pub shape_of-joined : goal.shape_of-joined
 shape_of-joined c = let l = c.loop-i in l.invariant.2 ∙ sym c.requires.6
@@ -134,4 +134,4 @@ pub returns : goal.returns
 returns c =
     let args = c.args in
     let pre = c.requires in
-    let l = c.loop-i in (λ p num. going_end args.limit args.t.now args.f.now pre.0 pre.4.limit p (pre.5 p num) (cache_of args.work.now) (count_of args.numbers.now) l.i l.work l.joined l.count l.met (omega (arith, l.invariant.0, l.invariant.1, c.loop-i-test.false)) (l.invariant.3 p num), (tt, tt, tt, tt, tt, tt, tt, tt, tt))
+    let l = c.loop-i in record { parts_give = λ p num. going_end args.limit args.t.now args.f.now pre.0 pre.4.limit p (pre.5 p num) (cache_of args.work.now) (count_of args.numbers.now) l.i l.work l.joined l.count l.met (omega (arith, l.invariant.0, l.invariant.1, c.loop-i-test.false)) (l.invariant.3 p num); anything = (tt, tt, tt, tt, tt, tt, tt, tt, tt) }

@@ -19,10 +19,10 @@ pub returns-in-Refused : goal.returns-in-Refused
 returns-in-Refused c =
     let a = c.args in
     let read = c.read_patch in
-    (step-refused a.t.now a.f.now a.s.now (patch (reg_info_of a.t.now) (function_of a.f.now) (drop a.at a.s.now)) read.new.free read.new.e read.new.w resolve _ a.list.now a.cache.now (rw c.in-Refused.is at read.ensures), search rules)
+    record { step_at = step-refused a.t.now a.f.now a.s.now (patch (reg_info_of a.t.now) (function_of a.f.now) (drop a.at a.s.now)) read.new.free read.new.e read.new.w resolve _ a.list.now a.cache.now (rw c.in-Refused.is at read.ensures); anything = search rules }
 
 pub returns-in-At : goal.returns-in-At
 returns-in-At c =
     let a = c.args in
     let read = c.read_patch in
-    (step-read a.t.now a.f.now a.s.now (patch (reg_info_of a.t.now) (function_of a.f.now) (drop a.at a.s.now)) read.new.free read.new.e read.new.w a.at _ _ a.list.now _ a.cache.now _ refl (rw c.in-At.is at read.ensures) c.resolve_before.ensures.0, search rules)
+    record { step_at = step-read a.t.now a.f.now a.s.now (patch (reg_info_of a.t.now) (function_of a.f.now) (drop a.at a.s.now)) read.new.free read.new.e read.new.w a.at _ _ a.list.now _ a.cache.now _ refl (rw c.in-At.is at read.ensures) c.resolve_before.ensures.by_index; anything = search rules }

@@ -9,7 +9,7 @@ use borrow.Author.Rules.{rules}
 use Rattle.job.proofs.resolve_before.Goals as goal
 
 pub returns-in-Refused : goal.returns-in-Refused
-returns-in-Refused c = let a = c.args in (λ p q. call-refused a.f.now a.next a.list.now _ a.cache.now _ (resolve_sorted (reg_info_of a.t.now) (function_of a.f.now) p (length a.list.now) (cache_of a.cache.now) (sorted_of a.e.now)) _ (rw c.in-Refused.is at (c.resolve.ensures.0 p q)), search rules)
+returns-in-Refused c = let a = c.args in record { by_index = λ p q. call-refused a.f.now a.next a.list.now _ a.cache.now _ (resolve_sorted (reg_info_of a.t.now) (function_of a.f.now) p (length a.list.now) (cache_of a.cache.now) (sorted_of a.e.now)) _ (rw c.in-Refused.is at (c.resolve.ensures.resolves p q)); anything = search rules }
 
 pub returns-in-Edits : goal.returns-in-Edits
-returns-in-Edits c = let a = c.args in (λ p q. call-edits a.f.now a.next a.list.now _ a.cache.now _ (resolve_sorted (reg_info_of a.t.now) (function_of a.f.now) p (length a.list.now) (cache_of a.cache.now) (sorted_of a.e.now)) _ _ (rw c.in-Edits.is at (c.resolve.ensures.0 p q)), search rules)
+returns-in-Edits c = let a = c.args in record { by_index = λ p q. call-edits a.f.now a.next a.list.now _ a.cache.now _ (resolve_sorted (reg_info_of a.t.now) (function_of a.f.now) p (length a.list.now) (cache_of a.cache.now) (sorted_of a.e.now)) _ _ (rw c.in-Edits.is at (c.resolve.ensures.resolves p q)); anything = search rules }

@@ -28,9 +28,8 @@ returns-in-Over-put_list c =
     let args = c.args in
     let put_two = c.put_two in
     let put-list = c.put_list in
-    let enum-told2 = c.enum_told-in-Over-put_list-1 in
     then-puts (member_bytes args.t.now args.c ++ order_bytes args.t.now args.c) (class-bytes args.t.now args.c) put_two.ensures c.in-At.is
-    (first-over (order_bytes args.t.now args.c) refl put-list.ensures enum-told2.given.1)
+    (first-over (order_bytes args.t.now args.c) refl put-list.ensures c.in-Over-put_list.is)
 
 pub returns-in-At-put_list : goal.returns-in-At-put_list
 returns-in-At-put_list c =

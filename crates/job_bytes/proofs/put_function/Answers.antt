@@ -27,9 +27,8 @@ returns-in-Over-put_cell c =
     let args = c.args in
     let put_two = c.put_two in
     let put-cell = c.put_cell in
-    let enum-told2 = c.enum_told-in-Over-put_cell-1 in
     then-puts (encoded (get_or args.f.now 16386 0) ++ rows value_numbers (value_at args.f.now) 0 (get_or args.f.now 16384 0)) (function-bytes args.f.now) put_two.ensures c.in-At.is
-    (first-over (rows value_numbers (value_at args.f.now) 0 (get_or args.f.now 16384 0)) refl put-cell.ensures enum-told2.given.1)
+    (first-over (rows value_numbers (value_at args.f.now) 0 (get_or args.f.now 16384 0)) refl put-cell.ensures c.in-Over-put_cell.is)
 
 pub returns-in-At-put_cell : goal.returns-in-At-put_cell
 returns-in-At-put_cell c =

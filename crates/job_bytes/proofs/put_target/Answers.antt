@@ -35,9 +35,8 @@ returns-in-Over-put_banks c =
     let args = c.args in
     let put-cell = c.put_cell in
     let put-banks = c.put_banks in
-    let enum-told2 = c.enum_told-in-Over-put_banks-1 in
     then-puts (banks_bytes args.t.now ++ (regs_bytes args.t.now ++ classes_bytes args.t.now)) (target-bytes args.t.now) put-cell.ensures c.in-At.is
-    (first-over (regs_bytes args.t.now ++ classes_bytes args.t.now) refl put-banks.ensures enum-told2.given.1)
+    (first-over (regs_bytes args.t.now ++ classes_bytes args.t.now) refl put-banks.ensures c.in-Over-put_banks.is)
 
 pub returns-in-Over-put_regs : goal.returns-in-Over-put_regs
 returns-in-Over-put_regs c =
@@ -45,10 +44,9 @@ returns-in-Over-put_regs c =
     let put-cell = c.put_cell in
     let put-banks = c.put_banks in
     let put-regs = c.put_regs in
-    let enum-told3 = c.enum_told-in-Over-put_regs-1 in
     then-puts (banks_bytes args.t.now ++ (regs_bytes args.t.now ++ classes_bytes args.t.now)) (target-bytes args.t.now) put-cell.ensures c.in-At.is
     (then-puts (regs_bytes args.t.now ++ classes_bytes args.t.now) refl put-banks.ensures c.in-At-put_banks.is
-    (first-over (classes_bytes args.t.now) refl put-regs.ensures enum-told3.given.1))
+    (first-over (classes_bytes args.t.now) refl put-regs.ensures c.in-Over-put_regs.is))
 
 pub returns-in-At-put_regs : goal.returns-in-At-put_regs
 returns-in-At-put_regs c =

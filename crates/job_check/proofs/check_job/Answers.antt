@@ -7,17 +7,17 @@ pub check_patches-requires : goal.check_patches-requires
 check_patches-requires c =
     let args = c.args in
     let read-opening = c.read_opening in
-    opened args.s.now read-opening.new.1.1.0 read-opening.new.1.1.1.0 _ _ (rw c.in-Is.is at read-opening.ensures)
+    opened args.s.now read-opening.new.t read-opening.new.f _ _ (rw c.in-Is.is at read-opening.ensures)
 
 pub returns-in-Refused : goal.returns-in-Refused
 returns-in-Refused c =
     let args = c.args in
     let read-opening = c.read_opening in
-    (unopened args.s.now read-opening.new.1.1.0 read-opening.new.1.1.1.0 _ (rw c.in-Refused.is at read-opening.ensures), (tt, tt, tt, tt, tt))
+    record { result_value = unopened args.s.now read-opening.new.t read-opening.new.f _ (rw c.in-Refused.is at read-opening.ensures); anything = (tt, tt, tt, tt, tt) }
 
 pub returns-in-Is : goal.returns-in-Is
 returns-in-Is c =
     let args = c.args in
     let read-opening = c.read_opening in
     let check-patches = c.check_patches in
-    (all-checked args.s.now read-opening.new.1.1.0 read-opening.new.1.1.1.0 _ _ _ (rw c.in-Is.is at read-opening.ensures) check-patches.ensures.0, (tt, tt, tt, tt, tt))
+    record { result_value = all-checked args.s.now read-opening.new.t read-opening.new.f _ _ _ (rw c.in-Is.is at read-opening.ensures) check-patches.ensures.result_value; anything = (tt, tt, tt, tt, tt) }

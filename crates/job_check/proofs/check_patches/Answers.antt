@@ -17,7 +17,7 @@ returns-in-Refused c =
     let loop = c.loop-left in
     let loop-test = c.loop-left-test in
     let read-accepted = c.read_accepted in
-    (sym (loop.invariant ∙ refused-here args.t.now args.f.now args.s.now read-accepted.new.1.1.1.1.0 read-accepted.new.1.1.1.1.1.0 read-accepted.new.1.1.1.1.1.1.0 loop.left loop.at loop-test.true read-accepted.result read-accepted.ensures _ c.in-Refused.is), (tt, tt, tt))
+    record { result_value = sym (loop.invariant ∙ refused-here args.t.now args.f.now args.s.now read-accepted.new.free read-accepted.new.e read-accepted.new.w loop.left loop.at loop-test.true read-accepted.result read-accepted.ensures _ c.in-Refused.is); anything = (tt, tt, tt) }
 
 pub loop-left-preserved : goal.loop-left-preserved
 loop-left-preserved c =
@@ -25,7 +25,7 @@ loop-left-preserved c =
     let loop = c.loop-left in
     let loop-test = c.loop-left-test in
     let read-accepted = c.read_accepted in
-    loop.invariant ∙ goes_on args.t.now args.f.now args.s.now read-accepted.new.1.1.1.1.0 read-accepted.new.1.1.1.1.1.0 read-accepted.new.1.1.1.1.1.1.0 loop.left loop.at loop-test.true read-accepted.result read-accepted.ensures _ c.in-At.is
+    loop.invariant ∙ goes_on args.t.now args.f.now args.s.now read-accepted.new.free read-accepted.new.e read-accepted.new.w loop.left loop.at loop-test.true read-accepted.result read-accepted.ensures _ c.in-At.is
 
 pub returns-then-at-s : goal.returns-then-at-s
 returns-then-at-s c =
@@ -33,7 +33,7 @@ returns-then-at-s c =
     let loop = c.loop-left in
     let loop-test = c.loop-left-test in
     let if1 = c.if-at-s in
-    (sym (loop.invariant ∙ left_over args.t.now args.f.now args.s.now loop.left loop.at loop-test.false if1.true), (tt, tt, tt))
+    record { result_value = sym (loop.invariant ∙ left_over args.t.now args.f.now args.s.now loop.left loop.at loop-test.false if1.true); anything = (tt, tt, tt) }
 
 pub returns : goal.returns
 returns c =
@@ -41,4 +41,4 @@ returns c =
     let loop = c.loop-left in
     let loop-test = c.loop-left-test in
     let if1 = c.if-at-s in
-    (sym (loop.invariant ∙ all_read args.t.now args.f.now args.s.now loop.left loop.at loop-test.false if1.false), (tt, tt, tt))
+    record { result_value = sym (loop.invariant ∙ all_read args.t.now args.f.now args.s.now loop.left loop.at loop-test.false if1.false); anything = (tt, tt, tt) }

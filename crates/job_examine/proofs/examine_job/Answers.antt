@@ -13,8 +13,8 @@ examine_numbered-requires c = let s = c in let o = opening-got s.args.s.now _ _ 
 
 pub returns-in-Refused : goal.returns-in-Refused
 unfolding examine_job
-returns-in-Refused c = let s = c in (sym (ap (examine_opened (λ f. f.limit) s.args.n s.args.list.now) (opening-refused s.args.s.now _ _ (opening 1 s.args.s.now) _ _ c.read_opening.ensures c.in-Refused.is)), (tt, tt, tt, tt, tt, tt, tt, tt, tt, tt))
+returns-in-Refused c = let s = c in record { result_value = sym (ap (examine_opened (λ f. f.limit) s.args.n s.args.list.now) (opening-refused s.args.s.now _ _ (opening 1 s.args.s.now) _ _ c.read_opening.ensures c.in-Refused.is)); anything = (tt, tt, tt, tt, tt, tt, tt, tt, tt, tt) }
 
 pub returns-in-Is : goal.returns-in-Is
 unfolding examine_job
-returns-in-Is c = let s = c in let o = opening-got s.args.s.now _ _ (opening 1 s.args.s.now) _ _ _ c.read_opening.ensures c.in-Is.is in (c.examine_numbered.ensures.0 ∙ (rw c.slot_limit-most.ensures (o.says (λ f. f.limit) s.args.n s.args.list.now)), (tt, tt, tt, tt, tt, tt, tt, tt, tt, tt))
+returns-in-Is c = let s = c in let o = opening-got s.args.s.now _ _ (opening 1 s.args.s.now) _ _ _ c.read_opening.ensures c.in-Is.is in record { result_value = c.examine_numbered.ensures.result_value ∙ (rw c.slot_limit-most.ensures (o.says (λ f. f.limit) s.args.n s.args.list.now)); anything = (tt, tt, tt, tt, tt, tt, tt, tt, tt, tt) }

@@ -16,11 +16,11 @@ unfolding is_setting
 try_setting-requires-2 c =
     let s = c in
     let o = c.try_setting in
-    (o.ensures.0.checked, refl, s.requires.1, s.requires.2, o.auto.1.1.1.1.1.1.1.1.0 ∙ length-replicate {A = ℕ} 64 0, o.auto.1.1.1.1.1.1.1.1.1.0 ∙ length-replicate {A = ℕ} 1024 0)
+    (o.ensures.setting_tried.checked, refl, s.requires.1, s.requires.2, o.auto.numbers ∙ length-replicate {A = ℕ} 64 0, o.auto.list ∙ length-replicate {A = ℕ} 1024 0)
 
 pub returns : goal.returns
 returns c =
     let s = c in
     let o = c.try_setting in
     let u = c.try_setting-2 in
-    (both-tried s.args.t.now s.args.f.now o.new.f u.new.f s.args.p s.args.seed s.args.patches o.new.tally u.new.tally o.ensures.0 u.ensures.0, (tt, tt, tt, tt, tt, tt, tt, tt, tt, tt, tt))
+    record { both = both-tried s.args.t.now s.args.f.now o.new.f u.new.f s.args.p s.args.seed s.args.patches o.new.tally u.new.tally o.ensures.setting_tried u.ensures.setting_tried; anything = (tt, tt, tt, tt, tt, tt, tt, tt, tt, tt, tt) }

@@ -15,10 +15,10 @@ slice_bounds-settle-end c =
 pub returns-in-Over : goal.returns-in-Over
 returns-in-Over c =
     let args = c.args in
-    (λ ns work₀ h. over-is-2 ns work₀ args.work.now args.out.now args.put h c.in-Over.is, (tt, tt, tt, tt, tt))
+    record { by_index = λ ns work₀ h. over-is-2 ns work₀ args.work.now args.out.now args.put h c.in-Over.is; anything = (tt, tt, tt, tt, tt) }
 
 pub returns-in-At : goal.returns-in-At
 returns-in-At c =
     let args = c.args in
     let settle = c.settle in
-    (λ ns work₀ h. all_settled ns work₀ args.work.now args.out.now args.put _ settle.new.out settle.result h c.in-At.is settle.ensures.0, (tt, tt, tt, tt, tt))
+    record { by_index = λ ns work₀ h. all_settled ns work₀ args.work.now args.out.now args.put _ settle.new.out settle.result h c.in-At.is settle.ensures.written_as; anything = (tt, tt, tt, tt, tt) }

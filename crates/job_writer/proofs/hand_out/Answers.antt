@@ -20,4 +20,4 @@ returns c =
     let args = c.args in
     let if1 = c.if-out-bytes in
     let put-text = c.put_text in
-    handed_out args.bytes.now args.out.now put-text.new.0 put-text.result if1.false put-text.ensures
+    handed_out args.bytes.now args.out.now put-text.new.out put-text.result if1.false put-text.ensures

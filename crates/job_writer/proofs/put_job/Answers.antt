@@ -25,10 +25,9 @@ returns-in-Over-put_function c =
     let args = c.args in
     let put-target = c.put_target in
     let put_function = c.put_function in
-    let enum-told2 = c.enum_told-in-Over-put_function-1 in
     then-puts (bytes_of (function_numbers (function_of args.f.now) ++ args.numbers.now))
     (bytes-append (target_numbers (reg_info_of args.t.now)) (function_numbers (function_of args.f.now) ++ args.numbers.now)) put-target.ensures c.in-At.is
-    (first-over (bytes_of args.numbers.now) (bytes-append (function_numbers (function_of args.f.now)) args.numbers.now) put_function.ensures enum-told2.given.1)
+    (first-over (bytes_of args.numbers.now) (bytes-append (function_numbers (function_of args.f.now)) args.numbers.now) put_function.ensures c.in-Over-put_function.is)
 
 pub returns-in-At-put_function : goal.returns-in-At-put_function
 returns-in-At-put_function c =

@@ -13,11 +13,11 @@ finish-requires c =
     let args = c.args in
     let put-job = c.put_job-put in
     let told = c.told in
-    put-within (length put-job.new.0) (target_numbers (reg_info_of args.t.now) ++ (function_numbers (function_of args.f.now) ++ args.numbers.now)) args.work.now put-job.new.0 put-job.result told.ensures put-job.ensures
+    put-within (length put-job.new.work) (target_numbers (reg_info_of args.t.now) ++ (function_numbers (function_of args.f.now) ++ args.numbers.now)) args.work.now put-job.new.work put-job.result told.ensures put-job.ensures
 
 pub returns : goal.returns
 returns c =
     let args = c.args in
     let put-job = c.put_job-put in
     let finish = c.finish in
-    (finish.ensures.0 (target_numbers (reg_info_of args.t.now) ++ (function_numbers (function_of args.f.now) ++ args.numbers.now)) args.work.now put-job.ensures, (tt, tt, tt, tt, tt, tt))
+    record { written_as = finish.ensures.by_index (target_numbers (reg_info_of args.t.now) ++ (function_numbers (function_of args.f.now) ++ args.numbers.now)) args.work.now put-job.ensures; anything = (tt, tt, tt, tt, tt, tt) }

@@ -9,11 +9,11 @@ finish-requires c =
     let args = c.args in
     let put-numbers = c.put_numbers-put in
     let told = c.told in
-    put-within (length put-numbers.new.0) args.numbers.now args.work.now put-numbers.new.0 put-numbers.result told.ensures put-numbers.ensures
+    put-within (length put-numbers.new.work) args.numbers.now args.work.now put-numbers.new.work put-numbers.result told.ensures put-numbers.ensures
 
 pub returns : goal.returns
 returns c =
     let args = c.args in
     let put-numbers = c.put_numbers-put in
     let finish = c.finish in
-    (finish.ensures.0 args.numbers.now args.work.now put-numbers.ensures, (tt, tt, tt, tt, tt, tt))
+    record { written_as = finish.ensures.by_index args.numbers.now args.work.now put-numbers.ensures; anything = (tt, tt, tt, tt, tt, tt) }

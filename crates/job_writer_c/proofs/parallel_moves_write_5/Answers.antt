@@ -8,4 +8,4 @@ pub returns : goal.returns
 returns c =
     let a = c.args in
     let w = c.write_numbers-r in
-    (c.tell.ensures (written a.numbers.now (length a.bytes.now)) a.bytes.now w.new.out w.ensures.0, (tt, tt, tt, tt, tt, tt))
+    record { told_as = c.tell.ensures (written a.numbers.now (length a.bytes.now)) a.bytes.now w.new.out w.ensures.written_as; anything = (tt, tt, tt, tt, tt, tt) }

@@ -15,4 +15,4 @@ returns c =
     let a = c.args in
     let w = c.write_job-r in
     let x = written (target_numbers (reg_info_of a.target.now) ++ (function_numbers (function_of a.function.now) ++ a.numbers.now)) (length a.bytes.now) in
-    (c.tell.ensures x a.bytes.now w.new.out w.ensures.0, (tt, tt, tt, tt, tt, tt))
+    record { told_as = c.tell.ensures x a.bytes.now w.new.out w.ensures.written_as; anything = (tt, tt, tt, tt, tt, tt) }

@@ -5,4 +5,4 @@ pub resolve_available-requires : goal.resolve_available-requires
 resolve_available-requires c = (search rules, search rules, search rules)
 
 pub returns : goal.returns
-returns c = (rw (← c.copy_from.ensures) c.resolve_available.ensures.0, search rules)
+returns c = record { resolves = rw (← c.copy_from.ensures) c.resolve_available.ensures.resolves; anything = search rules }

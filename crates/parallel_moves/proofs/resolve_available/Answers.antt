@@ -23,4 +23,4 @@ pub returns : goal.returns
 returns c =
     let args = c.args in
     let own-grant = c.own_grant-g in
-    (own-resolves args.t.now args.f.now args.cache.now (free_in args.given args.available.now) args.list.now own-grant.result own-grant.ensures _ _ _ args.e.now c.resolve_granted.ensures.0, search rules)
+    record { resolves = own-resolves args.t.now args.f.now args.cache.now (free_in args.given args.available.now) args.list.now own-grant.result own-grant.ensures _ _ _ args.e.now c.resolve_granted.ensures.resolves_granted; anything = search rules }

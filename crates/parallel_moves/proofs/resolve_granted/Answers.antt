@@ -11,7 +11,7 @@ pub returns-in-Refused : goal.returns-in-Refused
 returns-in-Refused c =
     let args = c.args in
     let pre = c.requires in
-    (turned-away args.t.now args.f.now args.cache.now args.e.now args.w.now args.list.now pre.0 pre.1 args.g pre.2 (free_in args.given args.available.now) _ (λ p q. rw c.in-Refused.is at (c.refusal.ensures p q)), search rules)
+    record { resolves_granted = turned-away args.t.now args.f.now args.cache.now args.e.now args.w.now args.list.now pre.0 pre.1 args.g pre.2 (free_in args.given args.available.now) _ (λ p q. rw c.in-Refused.is at (c.refusal.ensures p q)); anything = search rules }
 
 pub hand_out-n-requires : goal.hand_out-n-requires
 hand_out-n-requires c =
@@ -26,7 +26,7 @@ returns-then-only_remats c =
     let refusal = c.refusal in
     let only-remats = c.only_remats in
     let if1 = c.if-only_remats in
-    (λ p q. gives-remats args.t.now args.f.now args.cache.now args.e.now args.w.now args.list.now pre.0 pre.1 args.g pre.2 (free_in args.given args.available.now) (λ p q. rw c.in_default.is at (refusal.ensures p q)) (sym only-remats.ensures ∙ if1.true) _ _ _ c.hand_out-n.ensures c.raise.ensures p q, search rules)
+    record { resolves_granted = λ p q. gives-remats args.t.now args.f.now args.cache.now args.e.now args.w.now args.list.now pre.0 pre.1 args.g pre.2 (free_in args.given args.available.now) (λ p q. rw c.in_default.is at (refusal.ensures p q)) (sym only-remats.ensures ∙ if1.true) _ _ _ c.hand_out-n.ensures c.raise.ensures p q; anything = search rules }
 
 pub run_given-k-requires : goal.run_given-k-requires
 run_given-k-requires c =
@@ -39,7 +39,7 @@ hand_over-requires c =
     let pre = c.requires in
     let refusal = c.refusal in
     let run = c.run_given-k in
-    can-hand-over args.t.now args.f.now args.cache.now args.e.now args.w.now args.list.now pre.0 pre.1 args.g pre.2 (free_in args.given args.available.now) (λ p q. rw c.in_default.is at (refusal.ensures p q)) run.result (tables run.new.edits run.new.available run.new.slots) run.ensures.0
+    can-hand-over args.t.now args.f.now args.cache.now args.e.now args.w.now args.list.now pre.0 pre.1 args.g pre.2 (free_in args.given args.available.now) (λ p q. rw c.in_default.is at (refusal.ensures p q)) run.result (tables run.new.edits run.new.available run.new.slots) run.ensures.ran
 
 pub returns : goal.returns
 returns c =
@@ -47,4 +47,4 @@ returns c =
     let pre = c.requires in
     let refusal = c.refusal in
     let run = c.run_given-k in
-    (λ p q. gives args.t.now args.f.now args.cache.now args.e.now args.w.now args.list.now pre.0 pre.1 args.g pre.2 (free_in args.given args.available.now) (λ p q. rw c.in_default.is at (refusal.ensures p q)) run.result (tables run.new.edits run.new.available run.new.slots) run.ensures.0 _ _ _ c.hand_over.ensures p q, search rules)
+    record { resolves_granted = λ p q. gives args.t.now args.f.now args.cache.now args.e.now args.w.now args.list.now pre.0 pre.1 args.g pre.2 (free_in args.given args.available.now) (λ p q. rw c.in_default.is at (refusal.ensures p q)) run.result (tables run.new.edits run.new.available run.new.slots) run.ensures.ran _ _ _ c.hand_over.ensures p q; anything = search rules }

@@ -46,7 +46,7 @@ moves-requires c =
     let begin = c.begin in
     let remats-with-scratch = c.remats_with_scratch-rematted in
     let rematted : Rematted args.t.now (remats_of args.e.now) new.result clear.new.e args.available.now remats.result remats.new.edits remats.new.available = remats.ensures in
-    (given _ _ _ _ pre.0 pre.1, moves-room args.t.now args.f.now args.cache.now args.e.now args.w.now pre.0 pre.1 args.g pre.2 clear.new.e begin.new.slots clear.ensures.1 clear.ensures.2 clear.ensures.3 begin.ensures new.result new.ensures args.available.now remats.result remats.new.edits remats.new.available rematted remats-with-scratch.result (tables remats-with-scratch.new.1.1.1.1.1.1.1.0 remats-with-scratch.new.1.1.1.1.1.0 remats-with-scratch.new.1.1.1.1.1.1.1.1.0) remats-with-scratch.ensures)
+    (given _ _ _ _ pre.0 pre.1, moves-room args.t.now args.f.now args.cache.now args.e.now args.w.now pre.0 pre.1 args.g pre.2 clear.new.e begin.new.slots clear.ensures.1 clear.ensures.2 clear.ensures.3 begin.ensures new.result new.ensures args.available.now remats.result remats.new.edits remats.new.available rematted remats-with-scratch.result (tables remats-with-scratch.new.edits remats-with-scratch.new.available remats-with-scratch.new.slots) remats-with-scratch.ensures)
 
 pub returns : goal.returns
 returns c =
@@ -58,4 +58,4 @@ returns c =
     let begin = c.begin in
     let remats-with-scratch = c.remats_with_scratch-rematted in
     let rematted : Rematted args.t.now (remats_of args.e.now) new.result clear.new.e args.available.now remats.result remats.new.edits remats.new.available = remats.ensures in
-    (ran args.t.now args.f.now args.cache.now args.e.now args.w.now pre.0 pre.1 args.g pre.2 clear.new.e begin.new.slots clear.ensures.1 clear.ensures.2 clear.ensures.3 begin.ensures new.result new.ensures args.available.now remats.result remats.new.edits remats.new.available rematted remats-with-scratch.result (tables remats-with-scratch.new.1.1.1.1.1.1.1.0 remats-with-scratch.new.1.1.1.1.1.0 remats-with-scratch.new.1.1.1.1.1.1.1.1.0) remats-with-scratch.ensures _ _ c.moves.ensures.0, search rules)
+    record { ran = ran args.t.now args.f.now args.cache.now args.e.now args.w.now pre.0 pre.1 args.g pre.2 clear.new.e begin.new.slots clear.ensures.1 clear.ensures.2 clear.ensures.3 begin.ensures new.result new.ensures args.available.now remats.result remats.new.edits remats.new.available rematted remats-with-scratch.result (tables remats-with-scratch.new.edits remats-with-scratch.new.available remats-with-scratch.new.slots) remats-with-scratch.ensures _ _ c.moves.ensures.moves; anything = search rules }

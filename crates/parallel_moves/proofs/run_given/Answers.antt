@@ -8,4 +8,4 @@ pub returns : goal.returns
 returns c =
     let args = c.args in
     let settle = c.settle in
-    (ran-as args.t.now args.f.now args.cache.now args.e.now args.g.made settle.new.available (free_in args.given args.available.now) c.run.result _ settle.ensures c.run.ensures.0, search rules)
+    record { ran = ran-as args.t.now args.f.now args.cache.now args.e.now args.g.made settle.new.available (free_in args.given args.available.now) c.run.result _ settle.ensures c.run.ensures.ran; anything = search rules }

@@ -17,7 +17,7 @@ returns-then-not-runs_fit c =
     let s = c in
     let j = c.read_priced_opening in
     let h = rw c.in-Is.is at j.ensures in
-    (rw (text-unfit s.args.p s.args.runs.now s.args.kept_evictions s.args.s.now j.new.t j.new.f _ _ h (sym c.runs_fit.ensures ∙ not-true _ c.if-not-runs_fit.true-raw)) c.put_refused-then-not-runs_fit.ensures, (tt, tt, tt, tt, tt, tt, tt, tt, tt, tt, tt, tt, tt, tt))
+    record { put = rw (text-unfit s.args.p s.args.runs.now s.args.kept_evictions s.args.s.now j.new.t j.new.f _ _ h (sym c.runs_fit.ensures ∙ not-true _ c.if-not-runs_fit.true-raw)) c.put_refused-then-not-runs_fit.ensures; anything = (tt, tt, tt, tt, tt, tt, tt, tt, tt, tt, tt, tt, tt, tt) }
 
 pub put_priced-requires : goal.put_priced-requires
 put_priced-requires c =
@@ -30,11 +30,11 @@ returns-in-Refused c =
     let s = c in
     let j = c.read_priced_opening in
     let h = rw c.in-Refused.is at j.ensures in
-    (rw (text-refused s.args.p s.args.runs.now s.args.kept_evictions s.args.s.now j.new.t j.new.f _ h) c.put_refused.ensures, (tt, tt, tt, tt, tt, tt, tt, tt, tt, tt, tt, tt, tt, tt))
+    record { put = rw (text-refused s.args.p s.args.runs.now s.args.kept_evictions s.args.s.now j.new.t j.new.f _ h) c.put_refused.ensures; anything = (tt, tt, tt, tt, tt, tt, tt, tt, tt, tt, tt, tt, tt, tt) }
 
 pub returns-else-not-runs_fit : goal.returns-else-not-runs_fit
 returns-else-not-runs_fit c =
     let s = c in
     let j = c.read_priced_opening in
     let h = rw c.in-Is.is at j.ensures in
-    (rw (text-fit s.args.p s.args.runs.now s.args.kept_evictions s.args.s.now j.new.t j.new.f _ _ h (sym c.runs_fit.ensures ∙ not-false _ c.if-not-runs_fit.false-raw)) c.put_priced.ensures.0, (tt, tt, tt, tt, tt, tt, tt, tt, tt, tt, tt, tt, tt, tt))
+    record { put = rw (text-fit s.args.p s.args.runs.now s.args.kept_evictions s.args.s.now j.new.t j.new.f _ _ h (sym c.runs_fit.ensures ∙ not-false _ c.if-not-runs_fit.false-raw)) c.put_priced.ensures.put; anything = (tt, tt, tt, tt, tt, tt, tt, tt, tt, tt, tt, tt, tt, tt) }

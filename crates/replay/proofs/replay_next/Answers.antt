@@ -11,7 +11,7 @@ pub slice_bounds-job-end : goal.slice_bounds-job-end
 slice_bounds-job-end c =
     let p = c.read_record in
     let w = within p.new.job p.new.text p.result _ _ _ p.ensures c.in-Is.is in
-    omega (arith, w.0, p.auto.0, length-replicate {A = ℕ} 16384 0)
+    omega (arith, w.0, p.auto.job, length-replicate {A = ℕ} 16384 0)
 
 pub slice_bounds-replayed-end : goal.slice_bounds-replayed-end
 slice_bounds-replayed-end c =
@@ -23,7 +23,7 @@ pub slice_bounds-text-end : goal.slice_bounds-text-end
 slice_bounds-text-end c =
     let p = c.read_record in
     let w = within p.new.job p.new.text p.result _ _ _ p.ensures c.in-Is.is in
-    omega (arith, w.1, p.auto.1.0, length-replicate {A = ℕ} 65536 0)
+    omega (arith, w.1, p.auto.text, length-replicate {A = ℕ} 65536 0)
 
 pub slice_bounds-replayed-end-in-Is : goal.slice_bounds-replayed-end-in-Is
 slice_bounds-replayed-end-in-Is c =

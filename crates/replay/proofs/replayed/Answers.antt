@@ -25,7 +25,7 @@ pub slice_bounds-same-end : goal.slice_bounds-same-end
 slice_bounds-same-end c =
     let p = c.put_text-n in
     let w = shown _ p.new.out (text_of c.args.kept_evictions c.args.job.now) p.result p.ensures c.if-n-eq0.false in
-    sym (length-take-le p.result p.new.out (omega (arith, w.0, p.auto.1.1.0)))
+    sym (length-take-le p.result p.new.out (omega (arith, w.0, p.auto.out)))
 
 pub returns : goal.returns
 returns c =

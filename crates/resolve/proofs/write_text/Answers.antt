@@ -23,7 +23,7 @@ pub loop-p-smaller-then-p-le65536 : goal.loop-p-smaller-then-p-le65536
 loop-p-smaller-then-p-le65536 c =
     let l = c.loop-p in
     let r = c.next-p in
-    less (to_go r.result) (to_go l.p) r.result.held l.p.held r.ensures.0.2 (omega (arith, r.ensures.0.0.room, r.auto.1.1.1.1.1.1.1.1.1.1.1.1.1.1.1.1.0, l.invariant.1))
+    less (to_go r.result) (to_go l.p) r.result.held l.p.held r.ensures.stands.2 (omega (arith, r.ensures.stands.0.room, r.auto.out, l.invariant.1))
 
 pub loop-p-preserved-then-p-le65536 : goal.loop-p-preserved-then-p-le65536
 loop-p-preserved-then-p-le65536 c =
@@ -31,7 +31,7 @@ loop-p-preserved-then-p-le65536 c =
     let a = c.args in
     let r = c.next-p in
     let e = not_yet _ c.loop-p-test.true in
-    (same-setting a.t.now a.f.now a.s.now r.new.cache r.new.out r.result (l.invariant.0.going e).setting r.ensures.0.0, r.auto.1.1.1.1.1.1.1.1.1.1.1.1.1.1.1.1.0 ∙ l.invariant.1)
+    (same-setting a.t.now a.f.now a.s.now r.new.cache r.new.out r.result (l.invariant.0.going e).setting r.ensures.stands.0, r.auto.out ∙ l.invariant.1)
 
 pub write_piece-requires : goal.write_piece-requires
 write_piece-requires c =
@@ -40,7 +40,7 @@ write_piece-requires c =
     piece a.kept_evictions a.t.now a.f.now a.s.now l.cache l.out l.p l.invariant.0
 
 pub returns-in_default : goal.returns-in_default
-returns-in_default c = (tt, (tt, tt, tt, tt, tt, tt, tt, tt, tt, tt, tt, tt, tt))
+returns-in_default c = record { all_written = tt; anything = (tt, tt, tt, tt, tt, tt, tt, tt, tt, tt, tt, tt, tt) }
 
 pub loop-p-smaller : goal.loop-p-smaller
 loop-p-smaller c =
@@ -65,7 +65,7 @@ returns-in-On-write_piece c =
     let a = c.args in
     let l = c.loop-p in
     let e = rw c.in-On-write_piece.is at c.write_piece-2.ensures in
-    (ap (λ (p : Progress). p.written) e ∙ all-written a.kept_evictions a.t.now a.f.now a.s.now l.cache l.out (written_out l.p) (written_stands a.kept_evictions a.t.now a.f.now a.s.now l.cache l.out l.p l.invariant.0) (by-now _ c.loop-p-test.false) refl, (tt, tt, tt, tt, tt, tt, tt, tt, tt, tt, tt, tt, tt))
+    record { all_written = ap (λ (p : Progress). p.written) e ∙ all-written a.kept_evictions a.t.now a.f.now a.s.now l.cache l.out (written_out l.p) (written_stands a.kept_evictions a.t.now a.f.now a.s.now l.cache l.out l.p l.invariant.0) (by-now _ c.loop-p-test.false) refl; anything = (tt, tt, tt, tt, tt, tt, tt, tt, tt, tt, tt, tt, tt) }
 
 pub returns-in-Failed : goal.returns-in-Failed
-returns-in-Failed c = (tt, (tt, tt, tt, tt, tt, tt, tt, tt, tt, tt, tt, tt, tt))
+returns-in-Failed c = record { all_written = tt; anything = (tt, tt, tt, tt, tt, tt, tt, tt, tt, tt, tt, tt, tt) }

@@ -15,7 +15,7 @@ write_tables-r-requires c = c.requires
 pub held-requires : goal.held-requires
 held-requires c n e =
     let o = c.write_tables-r in
-    omega (arith, (written_as (written (tables_numbers c.args.t.now c.args.f.now c.args.numbers.now) 16384) _ o.new.out o.result (rw (length-replicate {A = ℕ} 16384 0) at o.ensures) n e).0, o.auto.1.1.1.0, length-replicate {A = ℕ} 16384 0)
+    omega (arith, (written_as (written (tables_numbers c.args.t.now c.args.f.now c.args.numbers.now) 16384) _ o.new.out o.result (rw (length-replicate {A = ℕ} 16384 0) at o.ensures) n e).0, o.auto.out, length-replicate {A = ℕ} 16384 0)
 
 pub returns : goal.returns
 returns c = let o = c.write_tables-r in c.held.ensures (written (tables_numbers c.args.t.now c.args.f.now c.args.numbers.now) 16384) _ (rw (length-replicate {A = ℕ} 16384 0) at o.ensures)

@@ -11,24 +11,24 @@ use Rattle.rewrite.proofs.rewrite_next.Goals as goal
 pub slice_bounds-job-end : goal.slice_bounds-job-end
 slice_bounds-job-end c =
     let read-record = c.read_record in
-    omega (arith, (within read-record.new.0 read-record.new.1.0 read-record.result _ _ _ read-record.ensures c.in-Is.is).0, read-record.auto.0, length-replicate {A = ℕ} 16384 0)
+    omega (arith, (within read-record.new.job read-record.new.text read-record.result _ _ _ read-record.ensures c.in-Is.is).0, read-record.auto.job, length-replicate {A = ℕ} 16384 0)
 
 pub slice_bounds-rewrite-end : goal.slice_bounds-rewrite-end
 slice_bounds-rewrite-end c =
     let read-record = c.read_record in
-    sym (length-take-le _ read-record.new.0 (within read-record.new.0 read-record.new.1.0 read-record.result _ _ _ read-record.ensures c.in-Is.is).0)
+    sym (length-take-le _ read-record.new.job (within read-record.new.job read-record.new.text read-record.result _ _ _ read-record.ensures c.in-Is.is).0)
 
 pub slice_bounds-text-end : goal.slice_bounds-text-end
 slice_bounds-text-end c =
     let read-record = c.read_record in
-    omega (arith, (within read-record.new.0 read-record.new.1.0 read-record.result _ _ _ read-record.ensures c.in-Is.is).1, read-record.auto.1.0, length-replicate {A = ℕ} 65536 0)
+    omega (arith, (within read-record.new.job read-record.new.text read-record.result _ _ _ read-record.ensures c.in-Is.is).1, read-record.auto.text, length-replicate {A = ℕ} 65536 0)
 
 pub slice_bounds-rewrite-end-in-Is : goal.slice_bounds-rewrite-end-in-Is
 slice_bounds-rewrite-end-in-Is c =
     let read-record = c.read_record in
-    sym (length-take-le _ read-record.new.1.0 (within read-record.new.0 read-record.new.1.0 read-record.result _ _ _ read-record.ensures c.in-Is.is).1)
+    sym (length-take-le _ read-record.new.text (within read-record.new.job read-record.new.text read-record.result _ _ _ read-record.ensures c.in-Is.is).1)
 
 pub rewrite-requires : goal.rewrite-requires
 rewrite-requires c =
     let read-record = c.read_record in
-    let w = within read-record.new.0 read-record.new.1.0 read-record.result _ _ _ read-record.ensures c.in-Is.is in rw (length-take-le _ read-record.new.0 w.0) (omega (arith, w.0, read-record.auto.0, length-replicate {A = ℕ} 16384 0))
+    let w = within read-record.new.job read-record.new.text read-record.result _ _ _ read-record.ensures c.in-Is.is in rw (length-take-le _ read-record.new.job w.0) (omega (arith, w.0, read-record.auto.job, length-replicate {A = ℕ} 16384 0))

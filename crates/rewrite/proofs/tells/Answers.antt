@@ -22,7 +22,7 @@ returns-then-text-m c =
 pub slice_bounds-same-end-2 : goal.slice_bounds-same-end-2
 slice_bounds-same-end-2 c =
     let Put-refused = c.put_refused-m in
-    sym (length-take-le Put-refused.result Put-refused.new.0 (within Put-refused.ensures))
+    sym (length-take-le Put-refused.result Put-refused.new.out (within Put-refused.ensures))
 
 pub returns : goal.returns
 returns c =

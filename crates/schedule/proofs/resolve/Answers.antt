@@ -7,4 +7,4 @@ pub returns : goal.returns
 returns c =
     let told = c.told in
     let r = c.resolve_in in
-    (rw told.ensures at r.ensures.0, omega (arith, told.ensures, r.auto.1.1.1.1.1.1.1.0))
+    (rw told.ensures at r.ensures.gives_in, omega (arith, told.ensures, r.auto.list))

@@ -15,18 +15,18 @@ returns-then-list-i c =
     let l = c.loop-i in
     let h = c.hand_out in
     let a = c.args in
-    sym (ap (λ (x : List ℕ). differ_from 9 0 x a.t2) (sym h.ensures.1) ∙ l.invariant.0 ∙ other_word h.new.list a.t2 l.i (omega arith) c.if-list-i.true)
+    sym (ap (λ (x : List ℕ). differ_from 9 0 x a.want) (sym h.ensures.1) ∙ l.invariant.0 ∙ other_word h.new.list a.want l.i (omega arith) c.if-list-i.true)
 
 pub loop-i-preserved : goal.loop-i-preserved
 loop-i-preserved c =
     let l = c.loop-i in
     let h = c.hand_out in
     let a = c.args in
-    (l.invariant.0 ∙ same_word h.new.list a.t2 l.i (omega arith) c.if-list-i.false, omega arith)
+    (l.invariant.0 ∙ same_word h.new.list a.want l.i (omega arith) c.if-list-i.false, omega arith)
 
 pub returns : goal.returns
 returns c =
     let l = c.loop-i in
     let h = c.hand_out in
     let a = c.args in
-    sym (ap (λ (x : List ℕ). differ_from 9 0 x a.t2) (sym h.ensures.1) ∙ l.invariant.0 ∙ all_words h.new.list a.t2 l.i (omega arith))
+    sym (ap (λ (x : List ℕ). differ_from 9 0 x a.want) (sym h.ensures.1) ∙ l.invariant.0 ∙ all_words h.new.list a.want l.i (omega arith))

@@ -13,23 +13,19 @@ use Rattle.target_limits.proofs.Laws.{any_here, any-on}
 use Rattle.target_limits.proofs.Limits.{counts_of, classes-few}
 use Rattle.target_check.specs.Checked.{SameBelow, twice_in}
 use Rattle.target_check.proofs.Same.{same_target, index-more, indexed}
-use Rattle.target_check.proofs.classes_twice.Lts as lts
 use Rattle.target_check.proofs.classes_twice.Invariants.{bad}
 use Rattle.target_check.proofs.classes_twice.Goals as goal
-
-target : (c : lts.In-loop-left invariant-loop decreases-loop) → reg_info_of c.loop-left.t ≡ (reg_info_of c.args.t.now)
-target c = same_target c.args.t.now c.loop-left.t c.requires c.loop-left.invariant.2
 
 pub loop-left-init : goal.loop-left-init
 loop-left-init c = (rw c.num_classes-left.ensures, omega arith, (λ k l. refl), λ k l. absurd (omega arith))
 
 pub class_twice-requires : goal.class_twice-requires
-class_twice-requires c = rw (target c) (c.requires, omega arith)
+class_twice-requires c = rw ((let target_here : reg_info_of c.loop-left.t ≡ (reg_info_of c.args.t.now) = same_target c.args.t.now c.loop-left.t c.requires c.loop-left.invariant.2 in target_here)) (c.requires, omega arith)
 
 pub returns-then-class_twice : goal.returns-then-class_twice
 returns-then-class_twice c =
     let turn = c.loop-left in (
-      sym (turn.invariant.0 ∙ any_here (bad c.args.t.now) (indices_step turn.i turn.left c.loop-left-test.true) (sym (rw (target c) at c.class_twice.ensures.0) ∙ c.if-class_twice.true)),
+      sym (turn.invariant.0 ∙ any_here (bad c.args.t.now) (indices_step turn.i turn.left c.loop-left-test.true) (sym (rw ((let target_here : reg_info_of c.loop-left.t ≡ (reg_info_of c.args.t.now) = same_target c.args.t.now c.loop-left.t c.requires c.loop-left.invariant.2 in target_here)) at c.class_twice.ensures.0) ∙ c.if-class_twice.true)),
       (λ k l. c.class_twice.ensures.1 k (omega arith) ∙ turn.invariant.2 k l),
       λ e. absurd (true≢false e),
     )
@@ -43,10 +39,10 @@ pub loop-left-preserved : goal.loop-left-preserved
 loop-left-preserved c =
     let start = c in
     let turn = c.loop-left in (
-      turn.invariant.0 ∙ any-on (bad start.args.t.now) (indices_step turn.i turn.left c.loop-left-test.true) (sym (rw (target c) at c.class_twice.ensures.0) ∙ c.if-class_twice.false),
+      turn.invariant.0 ∙ any-on (bad start.args.t.now) (indices_step turn.i turn.left c.loop-left-test.true) (sym (rw ((let target_here : reg_info_of c.loop-left.t ≡ (reg_info_of c.args.t.now) = same_target c.args.t.now c.loop-left.t c.requires c.loop-left.invariant.2 in target_here)) at c.class_twice.ensures.0) ∙ c.if-class_twice.false),
       omega arith,
       (λ k l. c.class_twice.ensures.1 k (omega arith) ∙ turn.invariant.2 k l),
-      index-more start.args.t.now turn.t start.requires turn.invariant.2 c.class_twice.new.t turn.i (omega arith) c.class_twice.ensures.1 turn.invariant.3 (rw (target c) at (c.class_twice.ensures.2 c.if-class_twice.false)),
+      index-more start.args.t.now turn.t start.requires turn.invariant.2 c.class_twice.new.t turn.i (omega arith) c.class_twice.ensures.1 turn.invariant.3 (rw ((let target_here : reg_info_of c.loop-left.t ≡ (reg_info_of c.args.t.now) = same_target c.args.t.now c.loop-left.t c.requires c.loop-left.invariant.2 in target_here)) at (c.class_twice.ensures.2 c.if-class_twice.false)),
     )
 
 pub returns : goal.returns

@@ -14,7 +14,6 @@ use Rattle.target_limits.proofs.Laws.{any_here, any-on}
 use Rattle.target_limits.proofs.Limits.{counts_of, classes-few}
 use Rattle.target_check.specs.Checked.{SameBelow, twice_in}
 use Rattle.target_check.proofs.Same.{same_target, index-more, indexed}
-use Rattle.target_check.proofs.classes_twice.Lts as lts
 use Rattle.target_check.proofs.classes_twice.Given as goal
 
 abbrev pub bad : List ℕ → ℕ → Bool

@@ -12,7 +12,6 @@ use Rattle.target_limits.proofs.Laws.{members-cells}
 use Rattle.target_limits.proofs.Limits.{list-few, class-known, members-listed}
 use Rattle.target_check.specs.Checked.{SameBelow}
 use Rattle.target_check.proofs.Index.{again-twice, distinct, indexed-more, kept, same-cells, member-low}
-use Rattle.target_check.proofs.index_members.Lts as lts
 use Rattle.target_check.proofs.index_members.Given as goal
 
 abbrev pub invariant-loop-p : goal.invariant-loop-p

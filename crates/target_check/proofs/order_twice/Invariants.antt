@@ -9,7 +9,6 @@ use Rattle.reginfo.specs.RegInfo.{allocation_order}
 use Rattle.reginfo.specs.Table.{reg_info_of}
 use Rattle.target_limits.proofs.Limits.{list-few, class-known, order-listed}
 use Rattle.target_check.proofs.Order.{Marked, marked_start, marked-again, marked_all, marked_more, order-low}
-use Rattle.target_check.proofs.order_twice.Lts as lts
 use Rattle.target_check.proofs.order_twice.Given as goal
 
 abbrev pub invariant-loop-p : goal.invariant-loop-p

@@ -8,11 +8,7 @@ use Rattle.reginfo.specs.RegInfo.{reg_units}
 use Rattle.reginfo.specs.Table.{reg_info_of}
 use Rattle.reginfo.specs.Refused.{within, reg_fits}
 use Rattle.target_limits.proofs.Limits.{within-high}
-use Rattle.target_limits.proofs.reg_fits.Lts as lts
 use Rattle.target_limits.proofs.reg_fits.Goals as goal
-
-width_fits : (c : lts.Else3) → within 1 8 (length (reg_units (reg_info_of c.args.t.now) c.args.r.0)) ≡ true
-width_fits c = rw c.num_reg_units.ensures at (sym c.within.ensures ∙ not-false _ c.if-not-within.false-raw)
 
 pub returns-then-memory_flag-gt1 : goal.returns-then-memory_flag-gt1
 unfolding reg_fits
@@ -29,8 +25,8 @@ returns-then-not-within c = rw (le-leb _ _ (rw c.memory_flag.ensures at c.if-mem
 pub units_below-requires : goal.units_below-requires
 units_below-requires c =
     let start = c in
-    (start.requires, within-high 1 8 (length (reg_units (reg_info_of start.args.t.now) start.args.r.0)) (width_fits c))
+    (start.requires, within-high 1 8 (length (reg_units (reg_info_of start.args.t.now) start.args.r.0)) ((let width_fits_here : within 1 8 (length (reg_units (reg_info_of c.args.t.now) c.args.r.0)) ≡ true = rw c.num_reg_units.ensures at (sym c.within.ensures ∙ not-false _ c.if-not-within.false-raw) in width_fits_here)))
 
 pub returns : goal.returns
 unfolding reg_fits
-returns c = rw (le-leb _ _ (rw c.memory_flag.ensures at c.if-memory_flag-gt1.false), lt-ltb _ _ (rw (c.num_banks.ensures, c.wide.ensures.0 ∙ c.bank_for_reg-b.ensures) at c.if-num_banks-wide.false), width_fits c) c.units_below.ensures
+returns c = rw (le-leb _ _ (rw c.memory_flag.ensures at c.if-memory_flag-gt1.false), lt-ltb _ _ (rw (c.num_banks.ensures, c.wide.ensures.0 ∙ c.bank_for_reg-b.ensures) at c.if-num_banks-wide.false), (let width_fits_here : within 1 8 (length (reg_units (reg_info_of c.args.t.now) c.args.r.0)) ≡ true = rw c.num_reg_units.ensures at (sym c.within.ensures ∙ not-false _ c.if-not-within.false-raw) in width_fits_here)) c.units_below.ensures

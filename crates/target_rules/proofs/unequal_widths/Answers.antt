@@ -20,7 +20,7 @@ width_agrees-requires c =
     (s.requires, omega arith, l.invariant.0)
 
 pub returns-then-not-width_agrees : goal.returns-then-not-width_agrees
-returns-then-not-width_agrees c = sym (c.width_agrees.ensures.1 (not-true _ c.if-not-width_agrees.true-raw))
+returns-then-not-width_agrees c = sym (c.width_agrees.ensures.other (not-true _ c.if-not-width_agrees.true-raw))
 
 pub overflow_add-i : goal.overflow_add-i
 overflow_add-i c =
@@ -28,7 +28,7 @@ overflow_add-i c =
     omega (arith, regs-few (reg_info_of s.args.t.now) (counts_of (reg_info_of s.args.t.now) s.requires))
 
 pub loop-left-preserved : goal.loop-left-preserved
-loop-left-preserved c = (c.width_agrees.ensures.0 (not-false _ c.if-not-width_agrees.false-raw), omega arith)
+loop-left-preserved c = (c.width_agrees.ensures.same (not-false _ c.if-not-width_agrees.false-raw), omega arith)
 
 pub returns : goal.returns
 returns c =

@@ -26,7 +26,7 @@ returns-then-memory c =
     let width = c.num_reg_units-n.result in
     let next = widths-next (reg_info_of s.args.t.now) s.requires.0 s.args.widths.now s.args.r.0 s.requires.1 s.requires.2 in
     let wide = widths-wide (reg_info_of s.args.t.now) s.requires.0 s.args.widths.now s.args.r.0 s.requires.1 s.requires.2 memory in
-    (λ e. next (λ _. rw n at (eqb-true width 1 e)) (λ o. absurd (true≢false (sym memory ∙ o))), λ e. wide (rw n at (eqb-false width 1 e)))
+    record { same = λ e. next (λ _. rw n at (eqb-true width 1 e)) (λ o. absurd (true≢false (sym memory ∙ o))); other = λ e. wide (rw n at (eqb-false width 1 e)) }
 
 pub bank_for_reg-b-requires : goal.bank_for_reg-b-requires
 bank_for_reg-b-requires c =
@@ -51,7 +51,7 @@ returns-then-widths-at-eq0 c =
     let b = c.wide-at.ensures.0 ∙ c.bank_for_reg-b.ensures in
     let n = m.num_reg_units-n.ensures in
     let first = widths-first (reg_info_of s.args.t.now) s.requires.0 s.args.widths.now s.args.r.0 s.requires.1 s.requires.2 plain (rw b at c.if-widths-at-eq0.true) in
-    (λ e. rw (b, n) first, λ e. absurd (true≢false e))
+    record { same = λ e. rw (b, n) first; other = λ e. absurd (true≢false e) }
 
 pub bounds-widths-at-2 : goal.bounds-widths-at-2
 bounds-widths-at-2 c =
@@ -69,4 +69,4 @@ returns c =
     let width = m.num_reg_units-n.result in
     let next = widths-next (reg_info_of s.args.t.now) s.requires.0 s.args.widths.now s.args.r.0 s.requires.1 s.requires.2 in
     let other = widths-other (reg_info_of s.args.t.now) s.requires.0 s.args.widths.now s.args.r.0 s.requires.1 s.requires.2 plain (rw b at c.if-widths-at-eq0.false) in
-    (λ e. next (λ o. absurd (true≢false (sym o ∙ plain))) (λ _. rw (b, n) at (eqb-true noted width e)), λ e. other (rw (b, n) at (eqb-false noted width e)))
+    record { same = λ e. next (λ o. absurd (true≢false (sym o ∙ plain))) (λ _. rw (b, n) at (eqb-true noted width e)); other = λ e. other (rw (b, n) at (eqb-false noted width e)) }

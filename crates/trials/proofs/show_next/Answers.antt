@@ -11,7 +11,7 @@ pub slice_bounds-job-end : goal.slice_bounds-job-end
 slice_bounds-job-end c =
     let p = c.read_record in
     let w = within p.new.job p.new.text p.result _ _ _ p.ensures c.in-Is.is in
-    omega (arith, w.0, p.auto.0, length-replicate {A = ℕ} 16384 0)
+    omega (arith, w.0, p.auto.job, length-replicate {A = ℕ} 16384 0)
 
 pub slice_bounds-show-end : goal.slice_bounds-show-end
 slice_bounds-show-end c =

@@ -11,7 +11,7 @@ pub slice_bounds-put_job-end-2 : goal.slice_bounds-put_job-end-2
 slice_bounds-put_job-end-2 c = (rw c.in-Bytes.is at c.read_all.ensures).1
 
 pub slice_bounds-out-end : goal.slice_bounds-out-end
-slice_bounds-out-end c = c.put_job-m.ensures.0.1
+slice_bounds-out-end c = c.put_job-m.ensures.printed.1
 
 pub slice_bounds-write_all-end : goal.slice_bounds-write_all-end
-slice_bounds-write_all-end c = let o = c.put_job-m in sym (length-take-le o.result o.new.out o.ensures.0.1)
+slice_bounds-write_all-end c = let o = c.put_job-m in sym (length-take-le o.result o.new.out o.ensures.printed.1)

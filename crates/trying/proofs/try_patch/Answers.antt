@@ -20,10 +20,10 @@ try_once-requires c =
     (l.invariant.1, room-less l.tally 1 (0 + l.left) (omega (arith, c.loop-left-test.true)) (l.invariant.0.room 0 s.requires.1))
 
 pub shape_of-numbers-in-Accepted : goal.shape_of-numbers-in-Accepted
-shape_of-numbers-in-Accepted c = c.try_once.auto.1.1.1.1.1.1.0 ∙ c.loop-left.invariant.1.numbers-long ∙ sym c.requires.0.numbers-long
+shape_of-numbers-in-Accepted c = c.try_once.auto.numbers ∙ c.loop-left.invariant.1.numbers-long ∙ sym c.requires.0.numbers-long
 
 pub shape_of-list-in-Accepted : goal.shape_of-list-in-Accepted
-shape_of-list-in-Accepted c = c.try_once.auto.1.1.1.1.1.1.1.0 ∙ c.loop-left.invariant.1.list-long ∙ sym c.requires.0.list-long
+shape_of-list-in-Accepted c = c.try_once.auto.list ∙ c.loop-left.invariant.1.list-long ∙ sym c.requires.0.list-long
 
 pub returns-in-Accepted : goal.returns-in-Accepted
 returns-in-Accepted c =
@@ -32,7 +32,7 @@ returns-in-Accepted c =
     let o = c.try_once in
     let h = c.loop-left-test.true in
     let r = tries (reg_info_of s.args.t.now) (function_of s.args.f.now) 9 s.args.seed (cache_of s.args.cache.now) in
-    (taken-by s.args.t.now s.args.f.now s.args.p r 9 s.args.tally.now l.s l.left l.tally l.cache o.new.tally o.new.cache o.result _ l.invariant.0 h o.ensures.0 c.in-Accepted.is, (tt, tt, tt, tt, tt, tt, tt, tt, tt, tt, tt))
+    record { value = taken-by s.args.t.now s.args.f.now s.args.p r 9 s.args.tally.now l.s l.left l.tally l.cache o.new.tally o.new.cache o.result _ l.invariant.0 h o.ensures.once c.in-Accepted.is; anything = (tt, tt, tt, tt, tt, tt, tt, tt, tt, tt, tt) }
 
 pub loop-left-preserved : goal.loop-left-preserved
 loop-left-preserved c =
@@ -41,7 +41,7 @@ loop-left-preserved c =
     let o = c.try_once in
     let h = c.loop-left-test.true in
     let r = tries (reg_info_of s.args.t.now) (function_of s.args.f.now) 9 s.args.seed (cache_of s.args.cache.now) in
-    (drawn-over-by s.args.t.now s.args.f.now s.args.p r 9 s.args.tally.now l.s l.left l.tally l.cache o.new.tally o.new.cache o.result _ l.invariant.0 h o.ensures.0 c.in-Refused.is, ready-again s.args.t.now s.args.f.now s.args.p l.cache o.new.cache l.numbers o.new.numbers l.list o.new.list l.invariant.1 o.ensures.0.ok o.auto.1.1.1.1.1.1.0 o.auto.1.1.1.1.1.1.1.0)
+    (drawn-over-by s.args.t.now s.args.f.now s.args.p r 9 s.args.tally.now l.s l.left l.tally l.cache o.new.tally o.new.cache o.result _ l.invariant.0 h o.ensures.once c.in-Refused.is, ready-again s.args.t.now s.args.f.now s.args.p l.cache o.new.cache l.numbers o.new.numbers l.list o.new.list l.invariant.1 o.ensures.once.ok o.auto.numbers o.auto.list)
 
 pub shape_of-numbers : goal.shape_of-numbers
 shape_of-numbers c = c.loop-left.invariant.1.numbers-long ∙ sym c.requires.0.numbers-long
@@ -54,4 +54,4 @@ returns c =
     let s = c in
     let l = c.loop-left in
     let r = tries (reg_info_of s.args.t.now) (function_of s.args.f.now) 9 s.args.seed (cache_of s.args.cache.now) in
-    (left_out s.args.t.now s.args.f.now s.args.p r 9 s.args.tally.now l.s l.left l.tally l.cache l.invariant.0 c.loop-left-test.false l.invariant.1.ok, (tt, tt, tt, tt, tt, tt, tt, tt, tt, tt, tt))
+    record { value = left_out s.args.t.now s.args.f.now s.args.p r 9 s.args.tally.now l.s l.left l.tally l.cache l.invariant.0 c.loop-left-test.false l.invariant.1.ok; anything = (tt, tt, tt, tt, tt, tt, tt, tt, tt, tt, tt) }

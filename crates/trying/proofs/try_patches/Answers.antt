@@ -25,8 +25,8 @@ loop-left-preserved c =
     let l = c.loop-left in
     let o = c.try_patch-s in
     let r = drawings (reg_info_of s.args.t.now) (function_of s.args.f.now) s.args.count s.args.seed (cache_of s.args.cache.now) in (
-      patch-done s.args.t.now s.args.f.now s.args.p r (s.args.count * 9) s.args.tally.now l.s l.left o.result l.tally l.cache o.new.tally o.new.cache l.invariant.0 c.loop-left-test.true o.ensures.0.0 o.ensures.0.1,
-      ready-again s.args.t.now s.args.f.now s.args.p l.cache o.new.cache l.numbers o.new.numbers l.list o.new.list l.invariant.1 o.ensures.0.1.ok o.auto.1.1.1.1.1.1.0 o.auto.1.1.1.1.1.1.1.0,
+      patch-done s.args.t.now s.args.f.now s.args.p r (s.args.count * 9) s.args.tally.now l.s l.left o.result l.tally l.cache o.new.tally o.new.cache l.invariant.0 c.loop-left-test.true o.ensures.value.0 o.ensures.value.1,
+      ready-again s.args.t.now s.args.f.now s.args.p l.cache o.new.cache l.numbers o.new.numbers l.list o.new.list l.invariant.1 o.ensures.value.1.ok o.auto.numbers o.auto.list,
     )
 
 pub shape_of-numbers : goal.shape_of-numbers
@@ -40,4 +40,4 @@ returns c =
     let s = c in
     let l = c.loop-left in
     let r = drawings (reg_info_of s.args.t.now) (function_of s.args.f.now) s.args.count s.args.seed (cache_of s.args.cache.now) in
-    (all_done s.args.t.now s.args.f.now s.args.p r (s.args.count * 9) s.args.tally.now l.s l.left l.tally l.cache l.invariant.0 c.loop-left-test.false l.invariant.1.ok, (tt, tt, tt, tt, tt, tt, tt, tt, tt, tt, tt))
+    record { many = all_done s.args.t.now s.args.f.now s.args.p r (s.args.count * 9) s.args.tally.now l.s l.left l.tally l.cache l.invariant.0 c.loop-left-test.false l.invariant.1.ok; anything = (tt, tt, tt, tt, tt, tt, tt, tt, tt, tt, tt) }

@@ -16,7 +16,7 @@ pub returns-then-num_values-eq0 : goal.returns-then-num_values-eq0
 returns-then-num_values-eq0 c =
     let s = c in
     let k = c.set_kept in
-    (untried s.args.t.now s.args.f.now k.new.f s.args.kept s.args.p s.args.seed s.args.count c.clear-2.new.tally s.requires.0 s.requires.1 k.ensures (sym c.num_values.ensures ∙ c.if-num_values-eq0.true) c.clear-2.ensures, (tt, tt, tt, tt, tt, tt, tt, tt, tt, tt, tt, tt))
+    record { setting_tried = untried s.args.t.now s.args.f.now k.new.f s.args.kept s.args.p s.args.seed s.args.count c.clear-2.new.tally s.requires.0 s.requires.1 k.ensures (sym c.num_values.ensures ∙ c.if-num_values-eq0.true) c.clear-2.ensures; anything = (tt, tt, tt, tt, tt, tt, tt, tt, tt, tt, tt, tt) }
 
 pub try_patches-requires : goal.try_patches-requires
 try_patches-requires c =
@@ -39,7 +39,7 @@ returns c =
     let k = c.set_kept in
     let o = c.try_patches in (
       tried-out s.args.t.now s.args.f.now k.new.f s.args.kept s.args.p s.args.seed s.args.count c.clear.new.cache o.new.cache c.clear-2.new.tally o.new.tally c.count_evictions.new.tally
-          s.requires.0 s.requires.1 k.ensures (omega (arith, c.num_values.ensures, c.if-num_values-eq0.false)) c.clear-2.ensures c.clear.ensures.empty o.ensures.0
+          s.requires.0 s.requires.1 k.ensures (omega (arith, c.num_values.ensures, c.if-num_values-eq0.false)) c.clear-2.ensures c.clear.ensures.empty o.ensures.many
           c.count_evictions.ensures.0 c.count_evictions.ensures.1,
       (tt, tt, tt, tt, tt, tt, tt, tt, tt, tt, tt, tt),
     )

@@ -3,4 +3,4 @@ use borrow.Author.Rules.{rules}
 use Rattle.trying_c.proofs.parallel_moves_try_5.Goals as goal
 
 pub returns : goal.returns
-returns c = (rw c.prices_of-p.ensures at c.try_job.ensures.0, (tt, tt, tt, tt, tt, tt, tt, tt, tt, tt, tt, tt))
+returns c = record { tried_by = rw c.prices_of-p.ensures at c.try_job.ensures.tried_by; anything = (tt, tt, tt, tt, tt, tt, tt, tt, tt, tt, tt, tt) }

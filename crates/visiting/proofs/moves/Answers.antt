@@ -34,4 +34,4 @@ returns c =
     let s = c in
     let a = c.start in
     let b = c.clear in
-    (all_moved _ _ _ _ s.requires.0.moves _ _ s.requires.1 a.ensures.0 a.ensures.1 a.ensures.2 b.ensures.0 b.ensures.1 _ _ c.first_pass-first.ensures _ _ c.second_pass-second.ensures _ _ (c.unevict_all.ensures _), (tt, tt, tt, tt))
+    record { moves = all_moved _ _ _ _ s.requires.0.moves _ _ s.requires.1 a.ensures.0 a.ensures.1 a.ensures.2 b.ensures.0 b.ensures.1 _ _ c.first_pass-first.ensures _ _ c.second_pass-second.ensures _ _ (c.unevict_all.ensures _); anything = (tt, tt, tt, tt) }

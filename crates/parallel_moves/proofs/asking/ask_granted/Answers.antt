@@ -11,7 +11,7 @@ pub returns-in-Refused : goal.returns-in-Refused
 returns-in-Refused c =
     let args = c.args in
     let pre = c.requires in
-    (asked-away args.t.now args.f.now args.cache.now args.e.now args.w.now args.list.now pre.0 pre.1 args.g pre.2 (free_in args.given args.available.now) _ _ (λ p q. rw c.in-Refused.is at (c.refusal.ensures p q)), search rules)
+    record { asks_granted = asked-away args.t.now args.f.now args.cache.now args.e.now args.w.now args.list.now pre.0 pre.1 args.g pre.2 (free_in args.given args.available.now) _ _ (λ p q. rw c.in-Refused.is at (c.refusal.ensures p q)); anything = search rules }
 
 pub begin-requires : goal.begin-requires
 begin-requires c =
@@ -32,7 +32,7 @@ returns-then-only_remats c =
     let refusal = c.refusal in
     let only-remats = c.only_remats in
     let if1 = c.if-only_remats in
-    (λ p q. asks-remats args.t.now args.f.now args.cache.now args.e.now args.w.now args.list.now pre.0 pre.1 args.g pre.2 (free_in args.given args.available.now) (λ p q. rw c.in_default.is at (refusal.ensures p q)) (sym only-remats.ensures ∙ if1.true) _ _ _ _ c.hand_out-n.ensures c.stamp-stamp.ensures.0 c.begin.ensures p q, search rules)
+    record { asks_granted = λ p q. asks-remats args.t.now args.f.now args.cache.now args.e.now args.w.now args.list.now pre.0 pre.1 args.g pre.2 (free_in args.given args.available.now) (λ p q. rw c.in_default.is at (refusal.ensures p q)) (sym only-remats.ensures ∙ if1.true) _ _ _ _ c.hand_out-n.ensures c.stamp-stamp.ensures.0 c.begin.ensures p q; anything = search rules }
 
 pub run_given-k-requires : goal.run_given-k-requires
 run_given-k-requires c =
@@ -45,7 +45,7 @@ show-requires c =
     let pre = c.requires in
     let refusal = c.refusal in
     let run = c.run_given-k in
-    can-hand-over args.t.now args.f.now args.cache.now args.e.now args.w.now args.list.now pre.0 pre.1 args.g pre.2 (free_in args.given args.available.now) (λ p q. rw c.in_default.is at (refusal.ensures p q)) run.result (tables run.new.edits run.new.available run.new.slots) run.ensures.0
+    can-hand-over args.t.now args.f.now args.cache.now args.e.now args.w.now args.list.now pre.0 pre.1 args.g pre.2 (free_in args.given args.available.now) (λ p q. rw c.in_default.is at (refusal.ensures p q)) run.result (tables run.new.edits run.new.available run.new.slots) run.ensures.ran
 
 pub returns : goal.returns
 returns c =
@@ -53,4 +53,4 @@ returns c =
     let pre = c.requires in
     let refusal = c.refusal in
     let run = c.run_given-k in
-    (λ p q. asks args.t.now args.f.now args.cache.now args.e.now args.w.now args.list.now pre.0 pre.1 args.g pre.2 (free_in args.given args.available.now) (λ p q. rw c.in_default.is at (refusal.ensures p q)) run.result (tables run.new.edits run.new.available run.new.slots) run.ensures.0 _ _ c.show.ensures p q, search rules)
+    record { asks_granted = λ p q. asks args.t.now args.f.now args.cache.now args.e.now args.w.now args.list.now pre.0 pre.1 args.g pre.2 (free_in args.given args.available.now) (λ p q. rw c.in_default.is at (refusal.ensures p q)) run.result (tables run.new.edits run.new.available run.new.slots) run.ensures.ran _ _ c.show.ensures p q; anything = search rules }

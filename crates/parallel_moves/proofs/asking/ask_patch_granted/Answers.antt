@@ -13,7 +13,7 @@ pub returns-in-Refused : goal.returns-in-Refused
 returns-in-Refused c =
     let args = c.args in
     let new-parallel-move = c.new_parallel_move in
-    (λ p q. asked-refused _ _ _ _ _ args.g (free_in args.given args.available.now) args.numbers.now args.list.now args.cache.now new-parallel-move.ensures.0 p q _ _ (rw c.in-Refused.is at c.add_entries.ensures), search rules)
+    record { asks_patch_granted = λ p q. asked-refused _ _ _ _ _ args.g (free_in args.given args.available.now) args.numbers.now args.list.now args.cache.now new-parallel-move.ensures.0 p q _ _ (rw c.in-Refused.is at c.add_entries.ensures); anything = search rules }
 
 pub ask_granted-requires : goal.ask_granted-requires
 ask_granted-requires c =
@@ -26,4 +26,4 @@ returns c =
     let args = c.args in
     let new-parallel-move = c.new_parallel_move in
     let add-entries = c.add_entries in
-    (λ p q. patch-asked _ _ _ _ _ args.g (free_in args.given args.available.now) args.numbers.now args.list.now args.cache.now new-parallel-move.ensures.0 p q _ _ _ (rw c.in_default.is at add-entries.ensures) c.ask_granted.ensures.0, search rules)
+    record { asks_patch_granted = λ p q. patch-asked _ _ _ _ _ args.g (free_in args.given args.available.now) args.numbers.now args.list.now args.cache.now new-parallel-move.ensures.0 p q _ _ _ (rw c.in_default.is at add-entries.ensures) c.ask_granted.ensures.asks_granted; anything = search rules }

@@ -23,4 +23,4 @@ pub returns : goal.returns
 returns c =
     let args = c.args in
     let own-grant = c.own_grant-g in
-    (own-resolves-patch args.t.now args.f.now args.cache.now (free_in args.given args.available.now) args.list.now own-grant.result own-grant.ensures _ _ _ args.numbers.now c.resolve_patch_granted.ensures.0, search rules)
+    record { resolves_patch = own-resolves-patch args.t.now args.f.now args.cache.now (free_in args.given args.available.now) args.list.now own-grant.result own-grant.ensures _ _ _ args.numbers.now c.resolve_patch_granted.ensures.resolves_patch_granted; anything = search rules }

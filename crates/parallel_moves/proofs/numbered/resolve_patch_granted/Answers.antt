@@ -13,7 +13,7 @@ pub returns-in-Refused : goal.returns-in-Refused
 returns-in-Refused c =
     let args = c.args in
     let new-parallel-move = c.new_parallel_move in
-    (λ p q. patch-refused _ _ _ _ _ args.g (free_in args.given args.available.now) args.numbers.now args.list.now args.cache.now new-parallel-move.ensures.0 p q _ (rw c.in-Refused.is at c.add_entries.ensures), search rules)
+    record { resolves_patch_granted = λ p q. patch-refused _ _ _ _ _ args.g (free_in args.given args.available.now) args.numbers.now args.list.now args.cache.now new-parallel-move.ensures.0 p q _ (rw c.in-Refused.is at c.add_entries.ensures); anything = search rules }
 
 pub resolve_granted-requires : goal.resolve_granted-requires
 resolve_granted-requires c =
@@ -26,4 +26,4 @@ returns c =
     let args = c.args in
     let new-parallel-move = c.new_parallel_move in
     let add-entries = c.add_entries in
-    (λ p q. patch-resolved _ _ _ _ _ args.g (free_in args.given args.available.now) args.numbers.now args.list.now args.cache.now new-parallel-move.ensures.0 p q _ _ _ (rw c.in_default.is at add-entries.ensures) c.resolve_granted.ensures.0, search rules)
+    record { resolves_patch_granted = λ p q. patch-resolved _ _ _ _ _ args.g (free_in args.given args.available.now) args.numbers.now args.list.now args.cache.now new-parallel-move.ensures.0 p q _ _ _ (rw c.in_default.is at add-entries.ensures) c.resolve_granted.ensures.resolves_granted; anything = search rules }

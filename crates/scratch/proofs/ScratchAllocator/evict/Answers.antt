@@ -11,8 +11,8 @@ pub evict_last-requires : goal.evict_last-requires
 evict_last-requires c =
     let pre = c.requires in
     let got = c.make_room-k.ensures in
-    (pre.0, got.0, (got.1 []).fits 0 1 2 pre.1)
+    (pre.0, got.result_bound, (got.brought []).fits 0 1 2 pre.1)
 
 pub returns : goal.returns
 returns c =
-    λ available. found-evicted _ _ _ _ _ _ _ _ _ _ _ _ (c.make_room-k.ensures.1 available) (c.evict_last.ensures available)
+    λ available. found-evicted _ _ _ _ _ _ _ _ _ _ _ _ (c.make_room-k.ensures.brought available) (c.evict_last.ensures available)

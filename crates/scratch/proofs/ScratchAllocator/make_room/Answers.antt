@@ -4,7 +4,7 @@ use native.Mathlib.Omega.{arith}
 use Rattle.reginfo.proofs.Accepted.{known-class, order-some, order-fits, regs-fit}
 use Rattle.scratch.specs.State.{owed}
 use Rattle.scratch.proofs.Outcomes.{last-low, reg-fits}
-use Rattle.scratch.proofs.Bringing.{none-room, made-room, with-room}
+use Rattle.scratch.proofs.Bringing.{none-room, made-room, room-owed}
 use borrow.Author.Rules.{rules}
 use Rattle.scratch.proofs.ScratchAllocator.make_room.Goals as goal
 
@@ -26,7 +26,10 @@ pub unevict_rest-requires : goal.unevict_rest-requires
 unevict_rest-requires c = let pre = c.requires in (pre.0.checked, (c.unevict_for_reg-k.ensures []).fits 0 0 0 pre.1)
 
 pub returns-in_default : goal.returns-in_default
-returns-in_default c = with-room _ _ _ _ _ _ _ _ _ _ c.requires.0.checked (λ available. made-room _ _ _ _ _ _ _ _ _ _ _ _ c.reg.ensures c.order_last-last.ensures (c.unevict_for_reg-k.ensures available) (c.unevict_rest.ensures available))
+returns-in_default c = record {
+  result_bound = room-owed _ _ _ _ _ _ _ _ c.requires.0.checked (made-room _ _ _ _ _ _ _ _ _ _ _ _ c.reg.ensures c.order_last-last.ensures (c.unevict_for_reg-k.ensures []) (c.unevict_rest.ensures []));
+  brought = λ available. made-room _ _ _ _ _ _ _ _ _ _ _ _ c.reg.ensures c.order_last-last.ensures (c.unevict_for_reg-k.ensures available) (c.unevict_rest.ensures available);
+}
 
 pub returns : goal.returns
-returns c = let q = sym c.evicted-e.ensures ∙ c.in-Nothing.is in (omega (arith, ap owed q), λ available. none-room _ _ _ _ _ _ q)
+returns c = let q = sym c.evicted-e.ensures ∙ c.in-Nothing.is in record { result_bound = omega (arith, ap owed q); brought = λ available. none-room _ _ _ _ _ _ q }
