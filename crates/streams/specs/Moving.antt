@@ -9,10 +9,10 @@ use Rattle.streams.specs.declared.Got.TheVariants as G
 abbrev pub MovedIn : ℕ → Moved → Type 0
 MovedIn n (M.Bytes k) = (0 < k) × (k ≤ n)
 MovedIn n M.End = Unit {0}
-MovedIn n M.Interrupted = Unit {0}
-MovedIn n M.Failed = Unit {0}
+MovedIn n (M.Interrupted e) = Unit {0}
+MovedIn n (M.Failed e) = Unit {0}
 
 -- the bytes read lie within the buffer
 abbrev pub GotIn : List ℕ → Got → Type 0
 GotIn buf (G.Bytes n) = (n ≤ length buf) × (n ≡ length (take n buf))
-GotIn buf G.Failed = Unit {0}
+GotIn buf (G.Failed e) = Unit {0}

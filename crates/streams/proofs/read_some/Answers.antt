@@ -1,5 +1,4 @@
-use borrow.Author.Rules.{rules}
 use Rattle.streams.proofs.read_some.Goals as goal
 
-pub returns : goal.returns
-returns c = c.why.ensures _
+pub returns-in-Err : goal.returns-in-Err
+returns-in-Err g c = c.why.ensures _
