@@ -1,8 +1,9 @@
 // A reader read to its end, and a writer written to the last byte.
 #![tactic(auto)]
 
-ghost use Rattle.std.specs.Prelude.{ℕ, length};
-ghost use Rattle.streams.specs.Moving.{MovedIn, GotIn};
+ghost use Rattle.std.specs.Prelude.{ℕ, OnOk, OnErr, length};
+ghost use Rattle.std.specs.Io.KnownBytes.{Appends};
+ghost use Rattle.streams.specs.Moving.{MovedIn, IsBroken, ReadBy, WrittenBy, GotIn, GotFrom, WroteSome};
 
 use std::io;
 use std::io::{ErrorKind, Read, Write};
@@ -25,7 +26,8 @@ pub enum Got {
 
 // Why a call moved nothing.
 fn why(error: io::Error) -> Moved
-    ensures { (n : ℕ) → MovedIn n result }
+    ensures moved { (n : ℕ) → MovedIn n result }
+    ensures broken { IsBroken result }
 {
     if error.kind() == ErrorKind::Interrupted {
         return Moved::Interrupted(error);
@@ -35,7 +37,8 @@ fn why(error: io::Error) -> Moved
 
 // One read.
 fn read_some<R: Read>(from: &mut R, buf: &mut [u8]) -> Moved
-    ensures { MovedIn (length buf.old) result }
+    ensures moved { MovedIn (length buf.old) result }
+    ensures bytes { ReadBy (R.remaining from.old) (R.remaining from.new) buf.new result }
 {
     match from.read(buf) {
         Ok(0) => Moved::End,
@@ -46,7 +49,8 @@ fn read_some<R: Read>(from: &mut R, buf: &mut [u8]) -> Moved
 
 // One write.
 fn write_some<W: Write>(to: &mut W, buf: &[u8]) -> Moved
-    ensures { MovedIn (length buf.now) result }
+    ensures moved { MovedIn (length buf.now) result }
+    ensures bytes { WrittenBy (W.contents to.old) (W.contents to.new) buf.now result }
 {
     match to.write(buf) {
         Ok(0) => Moved::End,
@@ -57,7 +61,8 @@ fn write_some<W: Write>(to: &mut W, buf: &[u8]) -> Moved
 
 // The reader to its end, or as much as fits. A read that is interrupted is made again, 1,000 times in all.
 pub fn read_all<R: Read>(from: &mut R, buf: &mut [u8]) -> Got
-    ensures { GotIn buf.new result }
+    ensures got { GotIn buf.new result }
+    ensures bytes { GotFrom (R.remaining from.old) (R.remaining from.new) buf.new result }
 {
     let mut done = 0;
     let mut again: usize = 1000;
@@ -85,7 +90,10 @@ pub fn read_all<R: Read>(from: &mut R, buf: &mut [u8]) -> Got
 
 // Writes all bytes, or answers why it could not. A write that takes a part is followed by one of the rest, and one that is interrupted is made again,
 // 1,000 times in all.
-pub fn write_all<W: Write>(to: &mut W, buf: &[u8]) -> io::Result<()> {
+pub fn write_all<W: Write>(to: &mut W, buf: &[u8]) -> io::Result<()>
+    ensures all { OnOk result (Appends (W.contents to.old) (W.contents to.new) buf.now) }
+    ensures some { OnErr result (WroteSome (W.contents to.old) (W.contents to.new) buf.now) }
+{
     let mut done = 0;
     let mut again: usize = 1000;
     while done < buf.len() {

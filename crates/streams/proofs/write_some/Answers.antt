@@ -1,4 +1,0 @@
-use Rattle.streams.proofs.write_some.Goals as goal
-
-pub returns-in-Err : goal.returns-in-Err
-returns-in-Err g c = c.why.ensures _
