@@ -1,8 +1,31 @@
-// The arguments of a program as numbers.
+// The arguments of a program, and as numbers.
 #![tactic(auto)]
 
-ghost use Rattle.std.specs.Prelude.{◌≡◌, ◌≤◌};
+ghost use Rattle.std.specs.Prelude.{◌≡◌, ◌≤◌, length, take};
 ghost use Rattle.arguments.specs.Number.{stepped, number_in, narrowed};
+
+use std::env::FillError;
+use std::rt::Env;
+
+// How many words a program is given, its own name counted.
+pub fn count<E: Env>(rt: &E) -> usize {
+    for i in 0..usize::MAX {
+        if let Err(FillError::NotPresent) = rt.arg(i, &mut []) {
+            return i;
+        }
+    }
+    usize::MAX
+}
+
+// Puts the argument i at the start of the buffer and answers its length, 0 where there is none or where it does not fit. An argument may be any bytes.
+pub fn word<E: Env>(rt: &E, i: usize, buf: &mut [u8]) -> usize
+    ensures { (result ≤ length buf.new) × (result ≡ length (take result buf.new)) }
+{
+    match rt.arg(i, buf) {
+        Ok(n) => n,
+        Err(_) => 0,
+    }
+}
 
 // A digit behind a number, or 2^32, which is outside every range.
 fn step(n: u64, byte: u8) -> u64

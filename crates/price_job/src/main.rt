@@ -22,6 +22,7 @@ use scratch::Diversions;
 use slots::{EmergencySpillSlotCache, Slots};
 use small_set::RegUnitSet;
 use sparse::SparseMap;
+use std::rt::Env;
 use streams::Got;
 use visits::States;
 
@@ -142,23 +143,23 @@ fn put_job(
 }
 
 // The number that the program's argument i is.
-fn number_at(i: usize) -> u64 {
+fn number_at<E: Env>(rt: &E, i: usize) -> u64 {
     let mut arg = [0u8; 64];
-    let n = os::arg(i, &mut arg);
+    let n = arguments::word(rt, i, &mut arg);
     arguments::number_in(&arg[..n])
 }
 
 // The run counts that follow the prices, as many as there is room for.
-fn read_runs(runs: &mut [u64]) -> usize
+fn read_runs<E: Env>(rt: &E, runs: &mut [u64]) -> usize
     ensures { (result ≤ length runs.new) × (result ≡ length (take result runs.new)) }
 {
-    let given = os::arg_count();
+    let given = arguments::count(rt);
     let mut n = 0;
     while n < runs.len() {
         if given <= n + 6 {
             return n;
         }
-        runs[n] = number_at(n + 6);
+        runs[n] = number_at(rt, n + 6);
         n += 1;
     }
     n
@@ -180,7 +181,7 @@ fn expect(words: usize) {
     }
 }
 
-fn main() {
+fn main(rt: HostRuntime) {
     let mut job = [0u8; 65537];
     // one more than a job has patches
     let mut runs = [0u64; 1025];
@@ -199,18 +200,21 @@ fn main() {
     let mut d = [0u16; 12288];
     let mut marks = [0u8; 129];
     let mut c = [0u16; 2049];
-    let kept_evictions = arguments::narrow(number_at(1));
+    let kept_evictions = arguments::narrow(number_at(&rt, 1));
     let p = Prices {
-        moves: arguments::narrow(number_at(2)),
-        remats: arguments::narrow(number_at(3)),
-        spills: arguments::narrow(number_at(4)),
-        reloads: arguments::narrow(number_at(5)),
+        moves: arguments::narrow(number_at(&rt, 2)),
+        remats: arguments::narrow(number_at(&rt, 3)),
+        spills: arguments::narrow(number_at(&rt, 4)),
+        reloads: arguments::narrow(number_at(&rt, 5)),
     };
-    let given = read_runs(&mut runs);
-    expect(os::arg_count());
-    let Got::Bytes(n) = streams::read_all(&mut job) else {
-        os::fail(b"price_job: standard input cannot be read");
-        return;
+    let given = read_runs(&rt, &mut runs);
+    expect(arguments::count(&rt));
+    let n = match streams::read_all(&mut rt.stdin(), &mut job) {
+        Got::Bytes(n) => n,
+        Got::Failed(error) => {
+            let _ = eprintln!(rt; "price_job: standard input cannot be read: {error}");
+            return;
+        }
     };
     let m = put_job(
         kept_evictions,
@@ -233,7 +237,7 @@ fn main() {
         &mut marks,
         &mut c,
     );
-    if !streams::write_all(&out[..m]) {
-        os::fail(b"price_job: standard output cannot be written");
+    if let Err(error) = streams::write_all(&mut rt.stdout(), &out[..m]) {
+        let _ = eprintln!(rt; "price_job: standard output cannot be written: {error}");
     }
 }

@@ -12,9 +12,9 @@ use Rattle.resolve.specs.declared.Written.TheVariants.{All, Failed}
 -- the buffer is emptied, and what it held counts as written
 abbrev pub WroteOn : Progress → Write → Type 0
 WroteOn p (W.On q) = q ≡ written_out p
-WroteOn p W.Failed = Unit {0}
+WroteOn p (W.Failed e) = Unit {0}
 
 -- as many bytes are written as the text of the job with its setting has
 abbrev pub AllWritten : (kept : ℕ) → List ℕ → Written → Type 0
 AllWritten kept s (All n) = n ≡ length (job_text (job kept s))
-AllWritten kept s Failed = Unit {0}
+AllWritten kept s (Failed e) = Unit {0}

@@ -19,21 +19,22 @@ use scratch::Diversions;
 use slots::{EmergencySpillSlotCache, Slots};
 use small_set::RegUnitSet;
 use sparse::SparseMap;
+use std::io;
 use streams::Got;
 use visits::States;
 
-// How a job's text stands after a write, or that it failed.
+// How a job's text stands after a write, or why it failed.
 #[derive(Drop)]
 enum Write {
     On(Progress),
-    Failed,
+    Failed(io::Error),
 }
 
-// How many bytes of a job's text were written, nothing being left, or that a write failed.
+// How many bytes of a job's text were written, nothing being left, or why a write failed.
 #[derive(Drop)]
 enum Written {
     All(usize),
-    Failed,
+    Failed(io::Error),
 }
 
 // The number of kept evictions that an argument gives, 0 if it is neither `1` nor `2`.
@@ -67,20 +68,27 @@ fn setting_from(count: usize, arg: &[u8]) -> u32
 }
 
 // Writes what the buffer holds, which is what follows in the text of the job s with this setting.
-fn write_piece(kept_evictions: u32, s: &[u8], out: &[u8], p: Progress) -> Write
+fn write_piece<W: io::Write>(
+    to: &mut W,
+    kept_evictions: u32,
+    s: &[u8],
+    out: &[u8],
+    p: Progress,
+) -> Write
     requires { Piece kept_evictions s.now out.now p }
     ensures { WroteOn p result }
 {
     let n = p.held;
-    if streams::write_all(&out[..n]) {
-        return Write::On(job_text::emptied(p));
+    match streams::write_all(to, &out[..n]) {
+        Ok(()) => Write::On(job_text::emptied(p)),
+        Err(error) => Write::Failed(error),
     }
-    Write::Failed
 }
 
 // Writes what is left of the text of the job s with this setting: whenever the next patch may not fit behind what the buffer holds, and at the end. A
 // text of at most 65,536 bytes is one write.
-fn write_text(
+fn write_text<W: io::Write>(
+    to: &mut W,
     kept_evictions: u32,
     t: &RegInfo,
     f: &Function,
@@ -113,19 +121,24 @@ fn write_text(
             );
             continue;
         }
-        let Write::On(q) = write_piece(kept_evictions, s, out, p) else {
-            return Written::Failed;
-        };
-        p = q;
+        match write_piece(to, kept_evictions, s, out, p) {
+            Write::On(q) => {
+                p = q;
+            }
+            Write::Failed(error) => {
+                return Written::Failed(error);
+            }
+        }
     }
-    match write_piece(kept_evictions, s, out, p) {
+    match write_piece(to, kept_evictions, s, out, p) {
         Write::On(q) => Written::All(q.written),
-        Write::Failed => Written::Failed,
+        Write::Failed(error) => Written::Failed(error),
     }
 }
 
 // Answers the job s with this setting: all its text is written, or a write failed.
-fn answer(
+fn answer<W: io::Write>(
+    to: &mut W,
     kept_evictions: u32,
     s: &[u8],
     t: &mut RegInfo,
@@ -150,6 +163,7 @@ fn answer(
 {
     let p = job_text::start(kept_evictions, s, t, f, cache, out);
     write_text(
+        to,
         kept_evictions,
         t,
         f,
@@ -171,7 +185,7 @@ fn answer(
     )
 }
 
-fn main() {
+fn main(rt: HostRuntime) {
     let mut arg = [0u8; 2];
     let mut job = [0u8; 65537];
     let mut t = [0u16; 107520];
@@ -189,13 +203,17 @@ fn main() {
     let mut marks = [0u8; 129];
     let mut c = [0u16; 2049];
     let mut out = [0u8; 86016];
-    let length = os::arg(1, &mut arg);
-    let kept_evictions = setting_from(os::arg_count(), &arg[..length]);
-    let Got::Bytes(n) = streams::read_all(&mut job) else {
-        os::fail(b"resolve: standard input cannot be read");
-        return;
+    let length = arguments::word(&rt, 1, &mut arg);
+    let kept_evictions = setting_from(arguments::count(&rt), &arg[..length]);
+    let n = match streams::read_all(&mut rt.stdin(), &mut job) {
+        Got::Bytes(n) => n,
+        Got::Failed(error) => {
+            let _ = eprintln!(rt; "resolve: standard input cannot be read: {error}");
+            return;
+        }
     };
     match answer(
+        &mut rt.stdout(),
         kept_evictions,
         &job[..n],
         &mut t,
@@ -215,6 +233,8 @@ fn main() {
         &mut out,
     ) {
         Written::All(_) => {}
-        Written::Failed => os::fail(b"resolve: standard output cannot be written"),
+        Written::Failed(error) => {
+            let _ = eprintln!(rt; "resolve: standard output cannot be written: {error}");
+        }
     }
 }

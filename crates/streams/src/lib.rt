@@ -1,113 +1,119 @@
-// Standard input read to its end, and standard output written to the last byte.
+// A reader read to its end, and a writer written to the last byte.
 #![tactic(auto)]
 
-ghost use Rattle.std.specs.Prelude.{ℕ, length};
-ghost use Rattle.streams.specs.Moving.{MovedIn, GotIn};
+ghost use Rattle.std.specs.Prelude.{ℕ, OnOk, OnErr, length};
+ghost use Rattle.std.specs.Io.KnownBytes.{Appends};
+ghost use Rattle.streams.specs.Moving.{MovedIn, IsBroken, ReadBy, WrittenBy, GotIn, GotFrom, WroteSome};
 
-// What a call of the system moved: some bytes; nothing, since the input ends; nothing, since a signal interrupted it; or it failed.
+use std::io;
+use std::io::{ErrorKind, Read, Write};
+
+// What a call of the reader or the writer moved: some bytes; nothing, since the input ends; nothing, since a signal interrupted it; or it failed.
 #[derive(Drop)]
 enum Moved {
     Bytes(usize),
     End,
-    Interrupted,
-    Failed,
+    Interrupted(io::Error),
+    Failed(io::Error),
 }
 
-// How many bytes were read, or that a read failed.
+// How many bytes were read, or why a read failed.
 #[derive(Drop)]
 pub enum Got {
     Bytes(usize),
-    Failed,
+    Failed(io::Error),
 }
 
 // Why a call moved nothing.
-fn why(got: isize) -> Moved
-    ensures { (n : ℕ) → MovedIn n result }
+fn why(error: io::Error) -> Moved
+    ensures moved { (n : ℕ) → MovedIn n result }
+    ensures broken { IsBroken result }
 {
-    if got == 0 {
-        return Moved::End;
+    if error.kind() == ErrorKind::Interrupted {
+        return Moved::Interrupted(error);
     }
-    if os::errno() == libc::EINTR {
-        return Moved::Interrupted;
-    }
-    Moved::Failed
+    Moved::Failed(error)
 }
 
-// One read of standard input.
-fn read_some(buf: &mut [u8]) -> Moved
-    ensures { MovedIn (length buf.old) result }
+// One read.
+fn read_some<R: Read>(from: &mut R, buf: &mut [u8]) -> Moved
+    ensures moved { MovedIn (length buf.old) result }
+    ensures bytes { ReadBy (R.remaining from.old) (R.remaining from.new) buf.new result }
 {
-    let got = libc::read(0, buf);
-    let n = io::count(got, buf);
-    if 0 < n {
-        return Moved::Bytes(n);
+    match from.read(buf) {
+        Ok(0) => Moved::End,
+        Ok(n) => Moved::Bytes(n),
+        Err(error) => why(error),
     }
-    why(got)
 }
 
-// One write to standard output.
-fn write_some(buf: &[u8]) -> Moved
-    ensures { MovedIn (length buf.now) result }
+// One write.
+fn write_some<W: Write>(to: &mut W, buf: &[u8]) -> Moved
+    ensures moved { MovedIn (length buf.now) result }
+    ensures bytes { WrittenBy (W.contents to.old) (W.contents to.new) buf.now result }
 {
-    let got = libc::write(1, buf);
-    let n = io::count(got, buf);
-    if 0 < n {
-        return Moved::Bytes(n);
+    match to.write(buf) {
+        Ok(0) => Moved::End,
+        Ok(n) => Moved::Bytes(n),
+        Err(error) => why(error),
     }
-    why(got)
 }
 
-// Standard input to its end, or as much as fits. A read that is interrupted is made again, 1,000 times in all.
-pub fn read_all(buf: &mut [u8]) -> Got
-    ensures { GotIn buf.new result }
+// The reader to its end, or as much as fits. A read that is interrupted is made again, 1,000 times in all.
+pub fn read_all<R: Read>(from: &mut R, buf: &mut [u8]) -> Got
+    ensures got { GotIn buf.new result }
+    ensures bytes { GotFrom (R.remaining from.old) (R.remaining from.new) buf.new result }
 {
     let mut done = 0;
     let mut again: usize = 1000;
     while done < buf.len() {
-        match read_some(&mut buf[done..]) {
+        match read_some(from, &mut buf[done..]) {
             Moved::Bytes(n) => {
                 done += n;
             }
             Moved::End => {
                 return Got::Bytes(done);
             }
-            Moved::Interrupted => {
+            Moved::Interrupted(error) => {
                 if again == 0 {
-                    return Got::Failed;
+                    return Got::Failed(error);
                 }
                 again -= 1;
             }
-            Moved::Failed => {
-                return Got::Failed;
+            Moved::Failed(error) => {
+                return Got::Failed(error);
             }
         }
     }
     Got::Bytes(done)
 }
 
-// Writes all bytes to standard output, and answers whether it could. A write that takes a part is followed by one of the rest, and one that is
-// interrupted is made again, 1,000 times in all.
-pub fn write_all(buf: &[u8]) -> bool {
+// Writes all bytes, or answers why it could not. A write that takes a part is followed by one of the rest, and one that is interrupted is made again,
+// 1,000 times in all.
+pub fn write_all<W: Write>(to: &mut W, buf: &[u8]) -> io::Result<()>
+    ensures all { OnOk result (Appends (W.contents to.old) (W.contents to.new) buf.now) }
+    ensures some { OnErr result (WroteSome (W.contents to.old) (W.contents to.new) buf.now) }
+{
     let mut done = 0;
     let mut again: usize = 1000;
     while done < buf.len() {
-        match write_some(&buf[done..]) {
+        match write_some(to, &buf[done..]) {
             Moved::Bytes(n) => {
                 done += n;
             }
             Moved::End => {
-                return false;
+                return Err(io::Error::from(ErrorKind::WriteZero));
             }
-            Moved::Interrupted => {
+            Moved::Interrupted(error) => {
                 if again == 0 {
-                    return false;
+                    return Err(error);
                 }
                 again -= 1;
             }
-            Moved::Failed => {
-                return false;
+            Moved::Failed(error) => {
+                return Err(error);
             }
         }
     }
-    true
+    Ok(())
 }

@@ -24,6 +24,7 @@ use scratch::Diversions;
 use slots::{EmergencySpillSlotCache, Slots};
 use small_set::RegUnitSet;
 use sparse::SparseMap;
+use std::rt::Env;
 use streams::Got;
 use trying::Tally;
 use visits::States;
@@ -282,14 +283,14 @@ fn put_job(
 }
 
 // The number that the program's argument i is.
-fn number_at(i: usize) -> u64 {
+fn number_at<E: Env>(rt: &E, i: usize) -> u64 {
     let mut arg = [0u8; 64];
-    let n = os::arg(i, &mut arg);
+    let n = arguments::word(rt, i, &mut arg);
     arguments::number_in(&arg[..n])
 }
 
 // How many patches are asked for by a program of so many words, its name counted: none, which is refused, where there are too many.
-fn patches_from(words: usize) -> u32
+fn patches_from<E: Env>(rt: &E, words: usize) -> u32
     ensures { 7 < words → result ≡ 0 }
 {
     if words != 7 {
@@ -298,10 +299,10 @@ fn patches_from(words: usize) -> u32
     if 7 < words {
         return 0;
     }
-    arguments::narrow(number_at(2))
+    arguments::narrow(number_at(rt, 2))
 }
 
-fn main() {
+fn main(rt: HostRuntime) {
     let mut job = [0u8; 65537];
     let mut out = [0u8; 16384];
     let mut one = [0u64; 263];
@@ -318,17 +319,20 @@ fn main() {
     let mut d = [0u16; 12288];
     let mut marks = [0u8; 129];
     let mut c = [0u16; 2049];
-    let seed = number_at(1);
-    let patches = patches_from(os::arg_count());
+    let seed = number_at(&rt, 1);
+    let patches = patches_from(&rt, arguments::count(&rt));
     let p = Prices {
-        moves: arguments::narrow(number_at(3)),
-        remats: arguments::narrow(number_at(4)),
-        spills: arguments::narrow(number_at(5)),
-        reloads: arguments::narrow(number_at(6)),
+        moves: arguments::narrow(number_at(&rt, 3)),
+        remats: arguments::narrow(number_at(&rt, 4)),
+        spills: arguments::narrow(number_at(&rt, 5)),
+        reloads: arguments::narrow(number_at(&rt, 6)),
     };
-    let Got::Bytes(n) = streams::read_all(&mut job) else {
-        os::fail(b"try_settings: standard input cannot be read");
-        return;
+    let n = match streams::read_all(&mut rt.stdin(), &mut job) {
+        Got::Bytes(n) => n,
+        Got::Failed(error) => {
+            let _ = eprintln!(rt; "try_settings: standard input cannot be read: {error}");
+            return;
+        }
     };
     let m = put_job(
         &mut out,
@@ -351,7 +355,7 @@ fn main() {
         &mut marks,
         &mut c,
     );
-    if !streams::write_all(&out[..m]) {
-        os::fail(b"try_settings: standard output cannot be written");
+    if let Err(error) = streams::write_all(&mut rt.stdout(), &out[..m]) {
+        let _ = eprintln!(rt; "try_settings: standard output cannot be written: {error}");
     }
 }

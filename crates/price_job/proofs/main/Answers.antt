@@ -5,12 +5,6 @@ use borrow.Author.Rules.{rules}
 use Rattle.answer_text.proofs.Lines.{within}
 use Rattle.price_job.proofs.main.Goals as goal
 
-pub slice_bounds-job-end : goal.slice_bounds-job-end
-slice_bounds-job-end c = (rw c.in-Bytes.is at c.read_all.ensures).0
-
-pub slice_bounds-put_job-end-2 : goal.slice_bounds-put_job-end-2
-slice_bounds-put_job-end-2 c = (rw c.in-Bytes.is at c.read_all.ensures).1
-
 pub put_job-m-requires : goal.put_job-m-requires
 put_job-m-requires c = (search rules, search rules)
 

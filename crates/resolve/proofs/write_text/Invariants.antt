@@ -10,9 +10,9 @@ use native.Mathlib.Omega.{arith}
 use Rattle.resolve.proofs.write_text.Given as goal
 
 abbrev pub invariant-loop-p : goal.invariant-loop-p
-invariant-loop-p l =
+invariant-loop-p g l =
     Stands l.kept_evictions l.t l.f l.s l.cache l.out l.p × (length l.out ≡ 86016)
 
 abbrev pub decreases-loop-p : goal.decreases-loop-p
-decreases-loop-p l =
+decreases-loop-p g l =
     to_go l.p * 86017 + l.p.held

@@ -1,81 +1,28 @@
-use borrow.Rule.Slice.PartMut.{mid_len, same_len_mid}
-use lib.Seq.{length-take-le}
-use mathlib.Core.Path.{◌≡◌, sym, ◌∙◌}
-use lib.ListN.{length}
-use Prim.Native.Nat.{◌+◌, ◌-◌, ◌≤◌}
-use borrow.Author.Rules.{rules}
-use native.Mathlib.Omega.{arith}
+-- What a read put behind the bytes that were read before stands behind them in the buffer.
+use Rattle.std.proofs.Common.{◌≡◌, ℕ, ◌+◌, ◌-◌, ◌≤◌, List, ◌++◌, rules, arith, length, take, slice_range, sym, ap, ◌∙◌, subst, le_refl, drop, drop_at, length-take-le}
+use Rattle.std.proofs.lemmas.Slice.{take-put_mid_below}
+use Rattle.std.specs.Io.KnownBytes.{Consumes}
+use Rattle.std.proofs.KnownBytes.{Consumes-trans}
+use borrow.Rule.Slice.PartMut.{put_mid, post_of}
+use lib.Seq.{take-add, take-append-le}
 use Rattle.streams.proofs.read_all.Goals as goal
 
-pub overflow_add-done : goal.overflow_add-done
-overflow_add-done c =
-    let l = c.loop-done in
-    let r = c.read_some in
-    let m = mid_len l.done (length l.buf) l.buf (omega arith) in
-    let z = same_len_mid l.done (length l.buf - l.done) l.buf r.new.buf r.auto.0 in
-    let h = rw c.in-Bytes.is at r.ensures in
-    record { fits = omega (arith, h.1, m, l.invariant) }
+take_split : (a n : ℕ) (old new : List ℕ) → take a new ≡ take a old → take a old ++ slice_range new a (a + n) ≡ take (a + n) new
+take_split a n old new front =
+    let same : (a + n) - a ≡ n = omega arith in
+    ap (λ l. l ++ slice_range new a (a + n)) (sym front) ∙ ap (λ m. take a new ++ take m (drop a new)) same ∙ sym (take-add a n new)
 
-pub loop-done-smaller-in-Bytes : goal.loop-done-smaller-in-Bytes
-loop-done-smaller-in-Bytes c =
-    let l = c.loop-done in
-    let r = c.read_some in
-    let m = mid_len l.done (length l.buf) l.buf (omega arith) in
-    let z = same_len_mid l.done (length l.buf - l.done) l.buf r.new.buf r.auto.0 in
-    let h = rw c.in-Bytes.is at r.ensures in
-    omega (arith, h.0, h.1, m, l.invariant)
+slice_range-put_mid : (a k n : ℕ) (xs ys : List ℕ) → a ≤ length xs → n ≤ length ys → slice_range (put_mid a k xs ys) a (a + n) ≡ take n ys
+slice_range-put_mid a k n xs ys within fits =
+    let same : (a + n) - a ≡ n = omega arith in
+    let after = post_of a k xs in
+    ap (take ((a + n) - a)) (drop_at (take a xs) (ys ++ after) a (length-take-le a xs within)) ∙ ap (λ m. take m (ys ++ after)) same ∙ take-append-le n ys after fits
 
 pub loop-done-preserved-in-Bytes : goal.loop-done-preserved-in-Bytes
-loop-done-preserved-in-Bytes c =
+loop-done-preserved-in-Bytes g c =
     let l = c.loop-done in
-    let r = c.read_some in
-    let m = mid_len l.done (length l.buf) l.buf (omega arith) in
-    let z = same_len_mid l.done (length l.buf - l.done) l.buf r.new.buf r.auto.0 in
-    let h = rw c.in-Bytes.is at r.ensures in
-    (omega (arith, h.1, m, z, l.invariant), z ∙ l.invariant.1)
-
-pub shape_of-buf-in-End : goal.shape_of-buf-in-End
-shape_of-buf-in-End c =
-    let l = c.loop-done in
-    let r = c.read_some in
-    let m = mid_len l.done (length l.buf) l.buf (omega arith) in
-    let z = same_len_mid l.done (length l.buf - l.done) l.buf r.new.buf r.auto.0 in z ∙ l.invariant.1
-
-pub returns-in-End : goal.returns-in-End
-returns-in-End c =
-    let l = c.loop-done in
-    let r = c.read_some in
-    let m = mid_len l.done (length l.buf) l.buf (omega arith) in
-    let z = same_len_mid l.done (length l.buf - l.done) l.buf r.new.buf r.auto.0 in
-    (omega (arith, z, l.invariant), sym (length-take-le l.done _ (omega (arith, z, l.invariant))))
-
-pub shape_of-buf-then-again-eq0 : goal.shape_of-buf-then-again-eq0
-shape_of-buf-then-again-eq0 c =
-    let l = c.loop-done in
-    let r = c.read_some in
-    let m = mid_len l.done (length l.buf) l.buf (omega arith) in
-    let z = same_len_mid l.done (length l.buf - l.done) l.buf r.new.buf r.auto.0 in z ∙ l.invariant.1
-
-pub loop-done-smaller : goal.loop-done-smaller
-loop-done-smaller c = omega (arith, c.if-again-eq0.false)
-
-pub loop-done-preserved : goal.loop-done-preserved
-loop-done-preserved c =
-    let l = c.loop-done in
-    let r = c.read_some in
-    let m = mid_len l.done (length l.buf) l.buf (omega arith) in
-    let z = same_len_mid l.done (length l.buf - l.done) l.buf r.new.buf r.auto.0 in
-    (omega (arith, z, l.invariant), z ∙ l.invariant.1)
-
-pub shape_of-buf-in-Failed : goal.shape_of-buf-in-Failed
-shape_of-buf-in-Failed c =
-    let l = c.loop-done in
-    let r = c.read_some in
-    let m = mid_len l.done (length l.buf) l.buf (omega arith) in
-    let z = same_len_mid l.done (length l.buf - l.done) l.buf r.new.buf r.auto.0 in z ∙ l.invariant.1
-
-pub shape_of-buf : goal.shape_of-buf
-shape_of-buf c = c.loop-done.invariant.1
-
-pub returns : goal.returns
-returns c = let l = c.loop-done in (l.invariant.0, sym (length-take-le l.done l.buf l.invariant.0))
+    let n = c.in-Bytes.n in
+    let room = length l.buf - l.done in
+    let part = slice_range-put_mid l.done room n l.buf c.read_some.new.buf l.invariant.0 (search rules) in
+    let joined = take_split l.done n l.buf (put_mid l.done room l.buf c.read_some.new.buf) (take-put_mid_below _ _ _ _ _ (le_refl _) l.invariant.0) in
+    (search rules, search rules, subst (Consumes _ _) (ap (λ b. take l.done l.buf ++ b) (sym part) ∙ joined) (Consumes-trans _ _ _ _ _ l.invariant.2 c.in-Bytes.ensures.bytes))

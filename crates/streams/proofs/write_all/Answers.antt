@@ -1,30 +1,15 @@
-use borrow.Rule.Slice.PartMut.{mid_len}
-use lib.ListN.{length}
-use Prim.Native.Nat.{◌+◌, ◌-◌, ◌≤◌}
-use borrow.Author.Rules.{rules}
-use native.Mathlib.Omega.{arith}
+-- What a write takes follows what was written before.
+use Rattle.std.proofs.Common.{◌≡◌, ◌-◌, ◌++◌, rules, length, take, drop, sym, ap, ◌∙◌, subst}
+use Rattle.std.proofs.lemmas.List.{take_rest}
+use Rattle.std.specs.Io.KnownBytes.{Appends}
+use Rattle.std.proofs.KnownBytes.{Appends-trans}
+use lib.Seq.{take-add}
 use Rattle.streams.proofs.write_all.Goals as goal
 
-pub overflow_add-done : goal.overflow_add-done
-overflow_add-done c =
-    let l = c.loop-done in
-    let b = c.args.buf.now in
-    let m = mid_len l.done (length b) b (omega arith) in
-    let h = rw c.in-Bytes.is at c.write_some.ensures in
-    record { fits = omega (arith, h.1, m, l.invariant) }
-
-pub loop-done-smaller-in-Bytes : goal.loop-done-smaller-in-Bytes
-loop-done-smaller-in-Bytes c =
-    let l = c.loop-done in
-    let b = c.args.buf.now in
-    let m = mid_len l.done (length b) b (omega arith) in
-    let h = rw c.in-Bytes.is at c.write_some.ensures in
-    omega (arith, h.0, h.1, m, l.invariant)
-
 pub loop-done-preserved-in-Bytes : goal.loop-done-preserved-in-Bytes
-loop-done-preserved-in-Bytes c =
+loop-done-preserved-in-Bytes g c =
     let l = c.loop-done in
     let b = c.args.buf.now in
-    let m = mid_len l.done (length b) b (omega arith) in
-    let h = rw c.in-Bytes.is at c.write_some.ensures in
-    omega (arith, h.1, m, l.invariant)
+    let n = c.in-Bytes.n in
+    let part : take n (take (length b - l.done) (drop l.done b)) ≡ take n (drop l.done b) = ap (take n) (take_rest b l.done) in
+    (search rules, subst (Appends _ _) (ap (λ r. take l.done b ++ r) part ∙ sym (take-add l.done n b)) (Appends-trans _ _ _ _ _ l.invariant.1 c.in-Bytes.ensures.bytes))

@@ -4,12 +4,6 @@ use borrow.Author.Rules.{rules}
 use lib.Seq.{length-take-le}
 use Rattle.try_settings.proofs.main.Goals as goal
 
-pub slice_bounds-job-end : goal.slice_bounds-job-end
-slice_bounds-job-end c = (rw c.in-Bytes.is at c.read_all.ensures).0
-
-pub slice_bounds-put_job-end-2 : goal.slice_bounds-put_job-end-2
-slice_bounds-put_job-end-2 c = (rw c.in-Bytes.is at c.read_all.ensures).1
-
 pub slice_bounds-out-end : goal.slice_bounds-out-end
 slice_bounds-out-end c = c.put_job-m.ensures.printed.1
 

@@ -5,7 +5,7 @@ use borrow.Author.Rules.{rules}
 use Rattle.try_settings.proofs.patches_from.Goals as goal
 
 pub returns-then-words-gt7 : goal.returns-then-words-gt7
-returns-then-words-gt7 c h = refl
+returns-then-words-gt7 g c h = refl
 
 pub returns : goal.returns
-returns c h = absurd (omega (arith, h, c.if-words-gt7.false))
+returns g c h = absurd (omega (arith, h, c.if-words-gt7.false))
