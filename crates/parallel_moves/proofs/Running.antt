@@ -1,6 +1,6 @@
 -- The run of a patch.
 use Prim.Native.Nat.{ℕ, zero, suc, ◌+◌, ◌*◌, ◌<◌, ◌≤◌}
-use mathlib.Core.Path.{◌≡◌, refl, sym, ap, fun_ext}
+use mathlib.Core.Path.{◌≡◌, refl, sym, ap, fun_ext, ◌∙◌}
 use mathlib.Core.Bool.{Bool, true, false}
 use mathlib.Core.List.{List, [], ◌∷◌}
 use mathlib.Core.Option.{none}
@@ -46,8 +46,8 @@ unfolding free_from has
 free-at i b [] = refl
 free-at zero b (true ∷ l) = let q : eqb (b + 0) b ≡ true = eq-eqb (b + 0) b (omega arith) in rw q
 free-at zero b (false ∷ l) = free-below (b + 0) (b + 1) l (omega arith)
-free-at (suc i) b (true ∷ l) = let q : b + suc i ≡ b + 1 + i = omega arith in rw (ne_eqb (b + suc i) b (λ e. omega arith), q) (free-at i (b + 1) l)
-free-at (suc i) b (false ∷ l) = let q : b + suc i ≡ b + 1 + i = omega arith in rw q (free-at i (b + 1) l)
+free-at (suc i) b (true ∷ l) = let q : b + suc i ≡ b + 1 + i = omega arith in rw (ne_eqb (b + suc i) b (λ e. omega arith)) (ap (λ (n : ℕ). has n (free_from (b + 1) l)) q ∙ free-at i (b + 1) l)
+free-at (suc i) b (false ∷ l) = let q : b + suc i ≡ b + 1 + i = omega arith in ap (λ (n : ℕ). has n (free_from (b + 1) l)) q ∙ free-at i (b + 1) l
 
 pub free-is : (free : List Bool) (u : ℕ) → has u (free_of free) ≡ set_of free u
 unfolding set_of

@@ -13,11 +13,11 @@ answer_patches-requires c =
 pub returns-in-Refused : goal.returns-in-Refused
 returns-in-Refused c =
     let read = c.read_opening in
-    (turned-away resolve_by_groups _ c.args.s.now read.new.t read.new.f c.args.words.now _ (rw c.in-Refused.is at read.ensures), ((tt, tt, tt, tt, tt, tt, tt, tt, tt, tt, tt, tt, tt), (tt, tt, tt, tt, tt, tt, tt)))
+    record { wholly = turned-away resolve_by_groups _ c.args.s.now read.new.t read.new.f c.args.words.now _ (rw c.in-Refused.is at read.ensures); anything = (tt, tt, tt, tt, tt, tt, tt, tt, tt, tt, tt, tt, tt); anything_2 = (tt, tt, tt, tt, tt, tt, tt) }
 
 pub returns-in-Is : goal.returns-in-Is
 returns-in-Is c =
     let s = c in
     let read = c.read_opening in
     let p = c.answer_patches in
-    (all-answered resolve_by_groups _ s.args.s.now read.new.t read.new.f _ _ s.args.words.now _ p.new.words p.result (rw c.in-Is.is at read.ensures) c.clear.ensures p.ensures.wholly, ((tt, tt, tt, tt, tt, tt, tt, tt, tt, tt, tt, tt, tt), (tt, tt, tt, tt, tt, tt, tt)))
+    record { wholly = all-answered resolve_by_groups _ s.args.s.now read.new.t read.new.f _ _ s.args.words.now _ p.new.words p.result (rw c.in-Is.is at read.ensures) c.clear.ensures p.ensures.wholly; anything = (tt, tt, tt, tt, tt, tt, tt, tt, tt, tt, tt, tt, tt); anything_2 = (tt, tt, tt, tt, tt, tt, tt) }

@@ -33,7 +33,7 @@ returns-then-from-n c =
     let b = c.behind-from in
     let p = c.answer_patch in
     let g = called resolve_by_groups s.args.t.now s.args.f.now s.args.s.now _ s.args.cache.now p.new.list p.new.cache _ _ _ _ (rw c.in-Edits.is at p.ensures.step_at) in
-    (no-head resolve_by_groups s.args.t.now s.args.f.now s.args.s.now s.args.at s.args.words.now s.args.n b.result s.requires.2 b.ensures s.args.cache.now p.new.list p.new.cache _ _ _ g p.auto.list c.if-from-n.true, ((tt, tt, tt, tt, tt, tt, tt, tt, tt, tt), (tt, tt, tt, tt, tt, tt, tt)))
+    record { next_as = no-head resolve_by_groups s.args.t.now s.args.f.now s.args.s.now s.args.at s.args.words.now s.args.n b.result s.requires.2 b.ensures s.args.cache.now p.new.list p.new.cache _ _ _ g p.auto.list c.if-from-n.true; anything = (tt, tt, tt, tt, tt, tt, tt, tt, tt, tt); anything_2 = (tt, tt, tt, tt, tt, tt, tt) }
 
 pub head-requires : goal.head-requires
 head-requires c =
@@ -71,7 +71,7 @@ returns-in-Refused c =
     let s = c in
     let b = c.behind-from in
     let p = c.answer_patch in
-    (next-refused resolve_by_groups s.args.t.now s.args.f.now s.args.s.now s.args.at s.args.words.now s.args.n b.result s.requires.2 b.ensures s.args.cache.now p.new.list p.new.cache _ (rw c.in-Refused.is at p.ensures.step_at), ((tt, tt, tt, tt, tt, tt, tt, tt, tt, tt), (tt, tt, tt, tt, tt, tt, tt)))
+    record { next_as = next-refused resolve_by_groups s.args.t.now s.args.f.now s.args.s.now s.args.at s.args.words.now s.args.n b.result s.requires.2 b.ensures s.args.cache.now p.new.list p.new.cache _ (rw c.in-Refused.is at p.ensures.step_at); anything = (tt, tt, tt, tt, tt, tt, tt, tt, tt, tt); anything_2 = (tt, tt, tt, tt, tt, tt, tt) }
 
 pub returns-else-from-n : goal.returns-else-from-n
 returns-else-from-n c =
@@ -79,4 +79,4 @@ returns-else-from-n c =
     let b = c.behind-from in
     let p = c.answer_patch in
     let g = called resolve_by_groups s.args.t.now s.args.f.now s.args.s.now _ s.args.cache.now p.new.list p.new.cache _ _ _ _ (rw c.in-Edits.is at p.ensures.step_at) in
-    (next-put resolve_by_groups s.args.t.now s.args.f.now s.args.s.now s.args.at s.args.words.now s.args.n b.result s.requires.2 b.ensures s.args.cache.now p.new.list p.new.cache _ _ _ g p.auto.list c.if-from-n.false (few resolve_by_groups s.args.t.now s.args.f.now s.args.s.now _ s.args.cache.now p.new.list p.new.cache groups-bounded s.args.at _ _ _ s.requires.0 g) _ _ _ c.wide.ensures.1 (c.wide.ensures.0 ∙ c.made.ensures) c.wide-in-Edits.ensures.1 c.wide-in-Edits.ensures.0 c.head.ensures, ((tt, tt, tt, tt, tt, tt, tt, tt, tt, tt), (tt, tt, tt, tt, tt, tt, tt)))
+    record { next_as = next-put resolve_by_groups s.args.t.now s.args.f.now s.args.s.now s.args.at s.args.words.now s.args.n b.result s.requires.2 b.ensures s.args.cache.now p.new.list p.new.cache _ _ _ g p.auto.list c.if-from-n.false (few resolve_by_groups s.args.t.now s.args.f.now s.args.s.now _ s.args.cache.now p.new.list p.new.cache groups-bounded s.args.at _ _ _ s.requires.0 g) _ _ _ c.wide.ensures.1 (c.wide.ensures.0 ∙ c.made.ensures) c.wide-in-Edits.ensures.1 c.wide-in-Edits.ensures.0 c.head.ensures; anything = (tt, tt, tt, tt, tt, tt, tt, tt, tt, tt); anything_2 = (tt, tt, tt, tt, tt, tt, tt) }

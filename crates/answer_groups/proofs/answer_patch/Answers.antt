@@ -12,10 +12,10 @@ pub returns-in-Refused : goal.returns-in-Refused
 returns-in-Refused c =
     let a = c.args in
     let read = c.read_patch in
-    (step-refused a.t.now a.f.now a.s.now (patch (reg_info_of a.t.now) (function_of a.f.now) (drop a.at a.s.now)) read.new.free read.new.e read.new.w resolve_by_groups _ a.list.now a.cache.now (rw c.in-Refused.is at read.ensures), ((tt, tt, tt, tt, tt, tt, tt, tt, tt, tt), (tt, tt, tt, tt, tt, tt, tt)))
+    record { step_at = step-refused a.t.now a.f.now a.s.now (patch (reg_info_of a.t.now) (function_of a.f.now) (drop a.at a.s.now)) read.new.free read.new.e read.new.w resolve_by_groups _ a.list.now a.cache.now (rw c.in-Refused.is at read.ensures); anything = (tt, tt, tt, tt, tt, tt, tt, tt, tt, tt); anything_2 = (tt, tt, tt, tt, tt, tt, tt) }
 
 pub returns-in-At : goal.returns-in-At
 returns-in-At c =
     let a = c.args in
     let read = c.read_patch in
-    (step-got a.t.now a.f.now a.s.now (patch (reg_info_of a.t.now) (function_of a.f.now) (drop a.at a.s.now)) read.new.free read.new.e read.new.w resolve_by_groups _ _ a.list.now _ a.cache.now _ (rw c.in-At.is at read.ensures) (λ p rest q h. c.resolve_read.ensures.call_at p rest q h.free-is), ((tt, tt, tt, tt, tt, tt, tt, tt, tt, tt), (tt, tt, tt, tt, tt, tt, tt)))
+    record { step_at = step-got a.t.now a.f.now a.s.now (patch (reg_info_of a.t.now) (function_of a.f.now) (drop a.at a.s.now)) read.new.free read.new.e read.new.w resolve_by_groups _ _ a.list.now _ a.cache.now _ (rw c.in-At.is at read.ensures) (λ p rest q h. c.resolve_read.ensures.call_at p rest q h.free-is); anything = (tt, tt, tt, tt, tt, tt, tt, tt, tt, tt); anything_2 = (tt, tt, tt, tt, tt, tt, tt) }

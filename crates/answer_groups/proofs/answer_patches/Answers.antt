@@ -23,7 +23,7 @@ returns-in-Refused c =
     let s = c in
     let l = c.loop-left in
     let p = c.answer_next in
-    (refused-here resolve_by_groups s.args.t.now s.args.f.now s.args.s.now _ s.args.words.now l.cache l.words l.at l.n l.left l.invariant p.new.cache p.new.words _ (omega (arith, c.loop-left-test.true)) (rw c.in-Refused.is at p.ensures.next_as), ((tt, tt, tt, tt, tt, tt, tt, tt, tt, tt, tt), (tt, tt, tt, tt, tt, tt, tt)))
+    record { wholly = refused-here resolve_by_groups s.args.t.now s.args.f.now s.args.s.now _ s.args.words.now l.cache l.words l.at l.n l.left l.invariant p.new.cache p.new.words _ (omega (arith, c.loop-left-test.true)) (rw c.in-Refused.is at p.ensures.next_as); anything = (tt, tt, tt, tt, tt, tt, tt, tt, tt, tt, tt); anything_2 = (tt, tt, tt, tt, tt, tt, tt) }
 
 pub overflow_sub-left : goal.overflow_sub-left
 overflow_sub-left c = omega (arith, c.loop-left-test.true)
@@ -45,7 +45,7 @@ pub returns-then-at-s : goal.returns-then-at-s
 returns-then-at-s c =
     let s = c in
     let l = c.loop-left in
-    (left_over_lem resolve_by_groups s.args.t.now s.args.f.now s.args.s.now _ s.args.words.now l.cache l.words l.at l.n l.left l.invariant (omega (arith, c.loop-left-test.false)) c.if-at-s.true, ((tt, tt, tt, tt, tt, tt, tt, tt, tt, tt, tt), (tt, tt, tt, tt, tt, tt, tt)))
+    record { wholly = left_over_lem resolve_by_groups s.args.t.now s.args.f.now s.args.s.now _ s.args.words.now l.cache l.words l.at l.n l.left l.invariant (omega (arith, c.loop-left-test.false)) c.if-at-s.true; anything = (tt, tt, tt, tt, tt, tt, tt, tt, tt, tt, tt); anything_2 = (tt, tt, tt, tt, tt, tt, tt) }
 
 pub shape_of-words : goal.shape_of-words
 shape_of-words c = put-length c.loop-left.invariant.put
@@ -54,4 +54,4 @@ pub returns : goal.returns
 returns c =
     let s = c in
     let l = c.loop-left in
-    (all_read resolve_by_groups s.args.t.now s.args.f.now s.args.s.now _ s.args.words.now l.cache l.words l.at l.n l.left l.invariant (omega (arith, c.loop-left-test.false)) c.if-at-s.false, ((tt, tt, tt, tt, tt, tt, tt, tt, tt, tt, tt), (tt, tt, tt, tt, tt, tt, tt)))
+    record { wholly = all_read resolve_by_groups s.args.t.now s.args.f.now s.args.s.now _ s.args.words.now l.cache l.words l.at l.n l.left l.invariant (omega (arith, c.loop-left-test.false)) c.if-at-s.false; anything = (tt, tt, tt, tt, tt, tt, tt, tt, tt, tt, tt); anything_2 = (tt, tt, tt, tt, tt, tt, tt) }

@@ -15,9 +15,9 @@ resolve_kept-requires c =
 pub returns-in-Refused : goal.returns-in-Refused
 returns-in-Refused c =
     let a = c.args in
-    (λ p rest q is. absurd (not-refused (reg_info_of a.t.now) (function_of a.f.now) a.s.now a.at _ p rest q _ (rw c.in-Refused.is at c.read_numbers.ensures)), ((tt, tt, tt, tt, tt, tt, tt, tt, tt), (tt, tt, tt, tt, tt, tt, tt)))
+    record { call_at = λ p rest q is. absurd (not-refused (reg_info_of a.t.now) (function_of a.f.now) a.s.now a.at _ p rest q _ (rw c.in-Refused.is at c.read_numbers.ensures)); anything = (tt, tt, tt, tt, tt, tt, tt, tt, tt); anything_2 = (tt, tt, tt, tt, tt, tt, tt) }
 
 pub returns-in-Is : goal.returns-in-Is
 returns-in-Is c =
     let a = c.args in
-    (λ p rest q is. c.resolve_kept.ensures.call_at p (numbered (reg_info_of a.t.now) (function_of a.f.now) a.s.now a.at _ p rest q _ _ a.free.now (rw c.in-Is.is at c.read_numbers.ensures) is), ((tt, tt, tt, tt, tt, tt, tt, tt, tt), (tt, tt, tt, tt, tt, tt, tt)))
+    record { call_at = λ p rest q is. c.resolve_kept.ensures.call_at p (numbered (reg_info_of a.t.now) (function_of a.f.now) a.s.now a.at _ p rest q _ _ a.free.now (rw c.in-Is.is at c.read_numbers.ensures) is); anything = (tt, tt, tt, tt, tt, tt, tt, tt, tt); anything_2 = (tt, tt, tt, tt, tt, tt, tt) }

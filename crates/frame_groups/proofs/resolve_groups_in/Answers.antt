@@ -28,7 +28,7 @@ returns-in-Refused c =
     let pre = c.requires in
     let grant = c.grant-g in
     let resolve-groups-granted = c.resolve_groups_granted in
-    (refused-call start.args.frame.now pre.1 start.args.i pre.2 start.args.t.now start.args.f.now start.args.cache.now _ grant.ensures start.args.free.now start.args.numbers.now start.args.list.now resolve-groups-granted.new.list resolve-groups-granted.new.cache resolve-groups-granted.result resolve-groups-granted.ensures.gives_granted _ c.in-Refused.is, ((tt, tt, tt, tt, tt, tt, tt, tt, tt, tt), (tt, tt, tt, tt, tt, tt)))
+    record { gives_in = refused-call start.args.frame.now pre.1 start.args.i pre.2 start.args.t.now start.args.f.now start.args.cache.now _ grant.ensures start.args.free.now start.args.numbers.now start.args.list.now resolve-groups-granted.new.list resolve-groups-granted.new.cache resolve-groups-granted.result resolve-groups-granted.ensures.gives_granted _ c.in-Refused.is; anything = (tt, tt, tt, tt, tt, tt, tt, tt, tt, tt); anything_2 = (tt, tt, tt, tt, tt, tt) }
 
 pub returns-in-Edits : goal.returns-in-Edits
 returns-in-Edits c =
@@ -36,4 +36,4 @@ returns-in-Edits c =
     let pre = c.requires in
     let grant = c.grant-g in
     let resolve-groups-granted = c.resolve_groups_granted in
-    (accepted-call start.args.frame.now pre.1 start.args.i pre.2 start.args.t.now start.args.f.now start.args.cache.now _ grant.ensures start.args.free.now start.args.numbers.now start.args.list.now resolve-groups-granted.new.list resolve-groups-granted.new.cache resolve-groups-granted.result resolve-groups-granted.ensures.gives_granted _ _ c.in-Edits.is _ (rw c.made.ensures at c.go_on.ensures), ((tt, tt, tt, tt, tt, tt, tt, tt, tt, tt), (tt, tt, tt, tt, tt, tt)))
+    record { gives_in = accepted-call start.args.frame.now pre.1 start.args.i pre.2 start.args.t.now start.args.f.now start.args.cache.now _ grant.ensures start.args.free.now start.args.numbers.now start.args.list.now resolve-groups-granted.new.list resolve-groups-granted.new.cache resolve-groups-granted.result resolve-groups-granted.ensures.gives_granted _ _ c.in-Edits.is _ (rw c.made.ensures at c.go_on.ensures); anything = (tt, tt, tt, tt, tt, tt, tt, tt, tt, tt); anything_2 = (tt, tt, tt, tt, tt, tt) }

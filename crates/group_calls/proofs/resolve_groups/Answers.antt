@@ -8,7 +8,7 @@ use Rattle.group_calls.proofs.resolve_groups.Goals as goal
 pub returns-in-Refused : goal.returns-in-Refused
 returns-in-Refused c =
     let a = c.args in
-    (free-refused a.t.now a.f.now a.free.now a.numbers.now a.list.now a.cache.now _ _ (rw c.in-Refused.is at c.take_free.ensures), ((tt, tt, tt, tt, tt, tt, tt, tt, tt, tt), (tt, tt, tt, tt, tt, tt)))
+    record { gives = free-refused a.t.now a.f.now a.free.now a.numbers.now a.list.now a.cache.now _ _ (rw c.in-Refused.is at c.take_free.ensures); anything = (tt, tt, tt, tt, tt, tt, tt, tt, tt, tt); anything_2 = (tt, tt, tt, tt, tt, tt) }
 
 pub resolve_groups-requires : goal.resolve_groups-requires
 resolve_groups-requires c =
@@ -18,4 +18,4 @@ resolve_groups-requires c =
 pub returns : goal.returns
 returns c =
     let a = c.args in
-    (free-taken a.t.now a.f.now a.free.now a.numbers.now a.list.now a.cache.now _ _ _ _ (rw c.in_default.is at c.take_free.ensures) c.resolve_groups.ensures.groups, ((tt, tt, tt, tt, tt, tt, tt, tt, tt, tt), (tt, tt, tt, tt, tt, tt)))
+    record { gives = free-taken a.t.now a.f.now a.free.now a.numbers.now a.list.now a.cache.now _ _ _ _ (rw c.in_default.is at c.take_free.ensures) c.resolve_groups.ensures.groups; anything = (tt, tt, tt, tt, tt, tt, tt, tt, tt, tt); anything_2 = (tt, tt, tt, tt, tt, tt) }

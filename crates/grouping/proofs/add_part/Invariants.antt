@@ -18,7 +18,7 @@ use borrow.Author.Rules.{rules}
 use Rattle.grouping.proofs.add_part.Given as goal
 
 abbrev pub invariant-loop-k : goal.invariant-loop-k
-invariant-loop-k l = (l : List Entry) × At (labels_in (reg_info_of l.t) l.numbers) (entries_of l.numbers) (count_of l.numbers) l.first l.k l × Adding l.t l.f (owned (reg_info_of l.t) l.numbers l.first) l.e l.w l
+invariant-loop-k at = (l : List Entry) × At (labels_in (reg_info_of at.t) at.numbers) (entries_of at.numbers) (count_of at.numbers) at.first at.k l × Adding at.t at.f (owned (reg_info_of at.t) at.numbers at.first) at.e at.w l
 
 abbrev pub decreases-loop-k : goal.decreases-loop-k
 decreases-loop-k l = 256 - l.k

@@ -23,4 +23,4 @@ pub returns : goal.returns
 returns c =
     let args = c.args in
     let own-grant = c.own_grant-g in
-    (own-groups args.t.now args.f.now args.cache.now args.free.now args.list.now own-grant.result own-grant.ensures _ _ _ args.numbers.now c.resolve_groups_granted.ensures.groups_granted, ((tt, tt, tt, tt, tt, tt, tt, tt, tt), (tt, tt, tt, tt, tt, tt)))
+    record { groups = own-groups args.t.now args.f.now args.cache.now args.free.now args.list.now own-grant.result own-grant.ensures _ _ _ args.numbers.now c.resolve_groups_granted.ensures.groups_granted; anything = (tt, tt, tt, tt, tt, tt, tt, tt, tt); anything_2 = (tt, tt, tt, tt, tt, tt) }

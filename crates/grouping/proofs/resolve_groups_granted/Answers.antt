@@ -14,7 +14,7 @@ pub returns-in-Refused : goal.returns-in-Refused
 returns-in-Refused c =
     let args = c.args in
     let pre = c.requires in
-    (groups-refused args.t.now args.f.now args.free.now args.numbers.now args.g pre.0 args.cache.now args.list.now _ (rw c.in-Refused.is at c.whole_refusal.ensures.0), ((tt, tt, tt, tt, tt, tt, tt, tt, tt), (tt, tt, tt, tt, tt, tt)))
+    record { groups_granted = groups-refused args.t.now args.f.now args.free.now args.numbers.now args.g pre.0 args.cache.now args.list.now _ (rw c.in-Refused.is at c.whole_refusal.ensures.0); anything = (tt, tt, tt, tt, tt, tt, tt, tt, tt); anything_2 = (tt, tt, tt, tt, tt, tt) }
 
 pub lay-requires : goal.lay-requires
 lay-requires c =
@@ -51,7 +51,7 @@ returns-in-Refused-resolve_parts c =
     let pre = c.requires in
     let whole-refusal = c.whole_refusal in
     let begin = c.begin in
-    (part_out args.t.now args.f.now args.free.now args.numbers.now args.g pre.0 args.cache.now args.list.now (rw c.in_default.is at whole-refusal.ensures.0) _ _ _ begin.ensures.0 _ (rw c.in-Refused-resolve_parts.is at c.resolve_parts.ensures.parts_give), ((tt, tt, tt, tt, tt, tt, tt, tt, tt), (tt, tt, tt, tt, tt, tt)))
+    record { groups_granted = part_out args.t.now args.f.now args.free.now args.numbers.now args.g pre.0 args.cache.now args.list.now (rw c.in_default.is at whole-refusal.ensures.0) _ _ _ begin.ensures.0 _ (rw c.in-Refused-resolve_parts.is at c.resolve_parts.ensures.parts_give); anything = (tt, tt, tt, tt, tt, tt, tt, tt, tt); anything_2 = (tt, tt, tt, tt, tt, tt) }
 
 pub returns-in-Edits : goal.returns-in-Edits
 returns-in-Edits c =
@@ -60,4 +60,4 @@ returns-in-Edits c =
     let whole-refusal = c.whole_refusal in
     let begin = c.begin in
     let resolve-parts = c.resolve_parts in
-    (all-given args.t.now args.f.now args.free.now args.numbers.now args.g pre.0 args.cache.now args.list.now (rw c.in_default.is at whole-refusal.ensures.0) _ _ _ begin.ensures.0 _ _ (rw c.in-Edits.is at resolve-parts.ensures.parts_give) _ _ c.hand_over.ensures, ((tt, tt, tt, tt, tt, tt, tt, tt, tt), (tt, tt, tt, tt, tt, tt)))
+    record { groups_granted = all-given args.t.now args.f.now args.free.now args.numbers.now args.g pre.0 args.cache.now args.list.now (rw c.in_default.is at whole-refusal.ensures.0) _ _ _ begin.ensures.0 _ _ (rw c.in-Edits.is at resolve-parts.ensures.parts_give) _ _ c.hand_over.ensures; anything = (tt, tt, tt, tt, tt, tt, tt, tt, tt); anything_2 = (tt, tt, tt, tt, tt, tt) }

@@ -18,7 +18,7 @@ use borrow.Author.Rules.{rules}
 use Rattle.groups.proofs.part_free.Given as goal
 
 abbrev pub invariant-loop-k : goal.invariant-loop-k
-invariant-loop-k l = (l : List Entry) × At (labels_in (reg_info_of l.t) l.numbers) (entries_of l.numbers) (count_of l.numbers) l.g l.k l × FreeTo (reg_info_of l.t) (chosen (λ x. eqb x l.g) (labels_in (reg_info_of l.t) l.numbers) (entries_of l.numbers)) l.free l.common l.out l
+invariant-loop-k at = (l : List Entry) × At (labels_in (reg_info_of at.t) at.numbers) (entries_of at.numbers) (count_of at.numbers) at.g at.k l × FreeTo (reg_info_of at.t) (chosen (λ x. eqb x at.g) (labels_in (reg_info_of at.t) at.numbers) (entries_of at.numbers)) at.free at.common at.out l
 
 abbrev pub decreases-loop-k : goal.decreases-loop-k
 decreases-loop-k l = 256 - l.k

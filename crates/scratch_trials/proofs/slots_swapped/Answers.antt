@@ -68,5 +68,8 @@ returns c =
     let w₃ = tables then.new.edits then.new.available then.new.slots in
     let w₄ = tables last.new.edits l last.new.slots in
     let diverts : Diverts a.t.now a.f.now a.cache.now bank.result.0 (barred_by true a.sources.now) 1 a.q.0 a.w.0 a.d.now a.k old got.new.d got.result w₁ = rw bank.ensures got.ensures in
-    let undiverts : Undiverts a.t.now a.f.now a.cache.now bank.result.0 a.w.0 got.new.d then.result w₃ last.new.d last.result w₄ = rw bank.ensures last.ensures in record { ends = swapped _ _ _ bank.result.0 a.v.0 a.w.0 _ a.p.0 a.q.0 a.d.now got.new.d a.k old got.result w₁ pre.5 diverts _ last.new.d first.result then.result last.result _ w₂ w₃ w₄ _
-          bank.ensures c.value_bank-c.ensures first.ensures then.ensures undiverts (c.unevict_all.ensures l) (omega (arith, ((c.unevict_all.ensures l).fits 0 0 0 (fewer (omega arith) (omega arith) (omega arith) left)).few)); anything = tt }
+    let undiverts : Undiverts a.t.now a.f.now a.cache.now bank.result.0 a.w.0 got.new.d then.result w₃ last.new.d last.result w₄ = rw bank.ensures last.ensures in record {
+      ends = swapped _ _ _ bank.result.0 a.v.0 a.w.0 _ a.p.0 a.q.0 a.d.now got.new.d a.k old got.result w₁ pre.5 diverts _ last.new.d first.result then.result last.result _ w₂ w₃ w₄ _
+          bank.ensures c.value_bank-c.ensures first.ensures then.ensures undiverts (c.unevict_all.ensures l) (omega (arith, ((c.unevict_all.ensures l).fits 0 0 0 (fewer (omega arith) (omega arith) (omega arith) left)).few));
+      anything = tt;
+    }
