@@ -20,10 +20,10 @@ slice_bounds-answer_patch-count c =
     let s = c in
     omega (arith, from-within s.args.words.now s.args.n c.behind-from.result s.requires.2 c.behind-from.ensures)
 
--- LOST slice-bounds-answer-patch-start
--- part-answer-patch-start c =
---     let s = c in
---     from-within s.args.words.now s.args.n c.behind-from.result s.requires.2 c.behind-from.ensures
+pub slice_bounds-answer_patch-start : goal.slice_bounds-answer_patch-start
+slice_bounds-answer_patch-start c =
+    let s = c in
+    from-within s.args.words.now s.args.n c.behind-from.result s.requires.2 c.behind-from.ensures
 
 pub returns-then-from-n : goal.returns-then-from-n
 returns-then-from-n c =

@@ -51,17 +51,11 @@ slice_bounds-resolve_part-count c =
     let pre = c.requires in
     let l = c.loop-i in omega (arith, l.invariant.2, count_most args.limit args.t.now args.f.now pre.0 pre.4.limit (given args.free.now args.numbers.now) (pre.5 (given args.free.now args.numbers.now) (is-given args.free.now args.numbers.now)) (cache_of args.work.now) (count_of args.numbers.now) l.i l.work l.joined l.count l.met (omega (arith, l.invariant.1, c.loop-i-test.true)) (l.invariant.3 (given args.free.now args.numbers.now) (is-given args.free.now args.numbers.now)))
 
--- LOST slice-bounds-resolve-part-start
--- part-resolve-part-start c =
---     let args = c.args in
---     let pre = c.requires in
---     let l = c.loop-i in omega (arith, l.invariant.2, count_most args.limit args.t.now args.f.now pre.0 pre.4.limit (given args.free.now args.numbers.now) (pre.5 (given args.free.now args.numbers.now) (is-given args.free.now args.numbers.now)) (cache_of args.work.now) (count_of args.numbers.now) l.i l.work l.joined l.count l.met (omega (arith, l.invariant.1, c.loop-i-test.true)) (l.invariant.3 (given args.free.now args.numbers.now) (is-given args.free.now args.numbers.now)))
-
--- LOST slice-bounds-resolve-part-end
--- part-resolve-part-end c =
---     let args = c.args in
---     let pre = c.requires in
---     let l = c.loop-i in omega (arith, l.invariant.2, count_most args.limit args.t.now args.f.now pre.0 pre.4.limit (given args.free.now args.numbers.now) (pre.5 (given args.free.now args.numbers.now) (is-given args.free.now args.numbers.now)) (cache_of args.work.now) (count_of args.numbers.now) l.i l.work l.joined l.count l.met (omega (arith, l.invariant.1, c.loop-i-test.true)) (l.invariant.3 (given args.free.now args.numbers.now) (is-given args.free.now args.numbers.now)))
+pub slice_bounds-resolve_part-start : goal.slice_bounds-resolve_part-start
+slice_bounds-resolve_part-start c =
+    let args = c.args in
+    let pre = c.requires in
+    let l = c.loop-i in omega (arith, l.invariant.2, count_most args.limit args.t.now args.f.now pre.0 pre.4.limit (given args.free.now args.numbers.now) (pre.5 (given args.free.now args.numbers.now) (is-given args.free.now args.numbers.now)) (cache_of args.work.now) (count_of args.numbers.now) l.i l.work l.joined l.count l.met (omega (arith, l.invariant.1, c.loop-i-test.true)) (l.invariant.3 (given args.free.now args.numbers.now) (is-given args.free.now args.numbers.now)))
 
 pub resolve_part-requires : goal.resolve_part-requires
 resolve_part-requires c =

@@ -26,12 +26,6 @@ slice_bounds-behind-count c =
     let f = found a.words.now (patch_numbered a.patch a.words.now) _ _ (rw c.in-At.is at c.find.ensures) in
     omega (arith, f.1)
 
--- LOST slice-bounds-behind-start
--- part-behind-start c =
---     let a = c.args in
---     let f = found a.words.now (patch_numbered a.patch a.words.now) _ _ (rw c.in-At.is at c.find.ensures) in
---     omega (arith, f.1)
-
 pub slice_bounds-put_price-end : goal.slice_bounds-put_price-end
 slice_bounds-put_price-end c =
     let a = c.args in

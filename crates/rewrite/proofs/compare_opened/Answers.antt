@@ -13,8 +13,8 @@ returns-then-agrees c = unopened c.args.s.now _ _ c.args.recorded _ (rw c.in-Ref
 pub slice_bounds-decode-count : goal.slice_bounds-decode-count
 slice_bounds-decode-count c = (known c.args.s.now _ _ c.args.recorded _ (rw c.in-At.is at c.read_beginning.ensures)).0
 
--- LOST slice-bounds-decode-start
--- part-decode-start c = (known c.args.s.now _ _ c.args.recorded _ (rw c.in-At.is at c.read_beginning.ensures)).0
+pub slice_bounds-decode-start : goal.slice_bounds-decode-start
+slice_bounds-decode-start c = (known c.args.s.now _ _ c.args.recorded _ (rw c.in-At.is at c.read_beginning.ensures)).0
 
 pub decode-requires : goal.decode-requires
 decode-requires c = rw (rest_all c.args.s.now c.in-At.next, length-drop c.in-At.next c.args.s.now) (omega (arith, c.requires))

@@ -35,5 +35,8 @@ returns c =
     let r = c.resolve_patch-r in
     let n = patch-numbered s.args.t.now s.args.f.now s.args.seed s.args.numbers.now d.new.numbers d.result d.ensures in
     let w = tested-call s.args.t.now s.args.f.now (patch_of (draw_patch (reg_info_of s.args.t.now) (function_of s.args.f.now) s.args.seed)) []
-    (take (d.result.count * 4) d.new.numbers) r.result s.args.list.now r.new.list s.args.cache.now r.new.cache r.ensures.resolves_patch n s.requires.0.list-long r.auto.list s.requires.0.ok in record { once = once-tried s.args.t.now s.args.f.now s.args.p s.args.seed s.args.tally.now c.count.new.tally s.args.cache.now r.new.cache r.new.list d.result
-          s.args.numbers.now d.new.numbers r.result c.count.result s.requires.0.priced d.ensures w c.count.ensures; anything = (tt, tt, tt, tt, tt, tt, tt, tt, tt, tt, tt) }
+    (take (d.result.count * 4) d.new.numbers) r.result s.args.list.now r.new.list s.args.cache.now r.new.cache r.ensures.resolves_patch n s.requires.0.list-long r.auto.list s.requires.0.ok in record {
+      once = once-tried s.args.t.now s.args.f.now s.args.p s.args.seed s.args.tally.now c.count.new.tally s.args.cache.now r.new.cache r.new.list d.result
+          s.args.numbers.now d.new.numbers r.result c.count.result s.requires.0.priced d.ensures w c.count.ensures;
+      anything = (tt, tt, tt, tt, tt, tt, tt, tt, tt, tt, tt);
+    }

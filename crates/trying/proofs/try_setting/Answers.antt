@@ -37,6 +37,9 @@ pub returns : goal.returns
 returns c =
     let s = c in
     let k = c.set_kept in
-    let o = c.try_patches in record { setting_tried = tried-out s.args.t.now s.args.f.now k.new.f s.args.kept s.args.p s.args.seed s.args.count c.clear.new.cache o.new.cache c.clear-2.new.tally o.new.tally c.count_evictions.new.tally
+    let o = c.try_patches in record {
+      setting_tried = tried-out s.args.t.now s.args.f.now k.new.f s.args.kept s.args.p s.args.seed s.args.count c.clear.new.cache o.new.cache c.clear-2.new.tally o.new.tally c.count_evictions.new.tally
           s.requires.0 s.requires.1 k.ensures (omega (arith, c.num_values.ensures, c.if-num_values-eq0.false)) c.clear-2.ensures c.clear.ensures.empty o.ensures.many
-          c.count_evictions.ensures.0 c.count_evictions.ensures.1; anything = (tt, tt, tt, tt, tt, tt, tt, tt, tt, tt, tt, tt) }
+          c.count_evictions.ensures.0 c.count_evictions.ensures.1;
+      anything = (tt, tt, tt, tt, tt, tt, tt, tt, tt, tt, tt, tt);
+    }
