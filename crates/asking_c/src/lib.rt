@@ -1,5 +1,5 @@
-// The library for C and Rust: patches of an opened function asked for, and their answers taken (02 g). It stands in an archive of its own, so that
-// what it shares with resolving is compiled into each. What the working tables held does not matter.
+// The library for C and Rust, which `asking_c_exports` exports: patches of an opened function asked for, and their answers taken (02 g). What the
+// working tables held does not matter.
 #![tactic(auto)]
 
 ghost use Rattle.entity.specs.Logic.{Anything};
@@ -28,8 +28,7 @@ use visits::States;
 // Asks for a patch, given as to `parallel_moves_resolve`, and changes no cache: answers how many edits stand at the front of `list`, and sets
 // `refusal` to 01's number or 0 and, unless it is refused, `made` to the slots that the function has once the answer is taken, `position` to the
 // greatest position that its searches met, and `stamp`. Taking needs `made`, `stamp` and the table `slots` as it is left.
-#[unsafe(no_mangle)]
-pub extern "C" fn parallel_moves_ask_5(
+pub fn parallel_moves_ask_5(
     target: &RegInfo,
     function: &Function,
     free: &[u32],
@@ -75,8 +74,7 @@ pub extern "C" fn parallel_moves_ask_5(
 // Takes what was asked for: the cache becomes what resolving that patch would have made it. Answers 0; or first 20, the cache as it was, where it has
 // taken an answer or resolved a patch since the asking. Asked is that `made`, `stamp` and `slots` are as the asking left them, and the cache as the
 // last call on it left it.
-#[unsafe(no_mangle)]
-pub extern "C" fn parallel_moves_take_5(
+pub fn parallel_moves_take_5(
     made: u16,
     stamp: u64,
     slots: &Slots,

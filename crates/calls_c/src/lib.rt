@@ -1,6 +1,6 @@
-// The library for C and Rust, patch by patch: a function opened, with prices and without, its patches one call each, how many slots were made, and
-// the L to plan with. What the working tables held does not matter. Asked is of `parallel_moves_resolve` only: what `parallel_moves_open` and the
-// calls after it left.
+// The library for C and Rust, patch by patch, which `calls_c_exports` exports: a function opened, with prices and without, its patches one call
+// each, how many slots were made, and the L to plan with. What the working tables held does not matter. Asked is of `parallel_moves_resolve` only:
+// what `parallel_moves_open` and the calls after it left.
 #![tactic(auto)]
 
 ghost use Rattle.entity.specs.Logic.{Anything};
@@ -32,8 +32,7 @@ use visits::States;
 
 // Opens the target and the function that the bytes are, with its number of kept evictions, for `parallel_moves_resolve`: answers 0, or 01's number:
 // 22, tested before the bytes, for one other than 1 or 2.
-#[unsafe(no_mangle)]
-pub extern "C" fn parallel_moves_open_5(
+pub fn parallel_moves_open_5(
     kept_evictions: u32,
     bytes: &[u8],
     target: &mut RegInfo,
@@ -49,8 +48,7 @@ pub extern "C" fn parallel_moves_open_5(
 }
 
 // 02 e: the same of a target with these prices, of M, R, S and L: 19, after 7 and before the function's first number, for one over 65,535.
-#[unsafe(no_mangle)]
-pub extern "C" fn parallel_moves_open_priced_5(
+pub fn parallel_moves_open_priced_5(
     kept_evictions: u32,
     prices: &[u32; 4],
     bytes: &[u8],
@@ -69,8 +67,7 @@ pub extern "C" fn parallel_moves_open_priced_5(
 
 // 02 e: how many patches a job with these prices, of M, R, S and L, says that it has, and `refusal` set to 0; or 0, and the number by which its
 // opening is refused: 19, after 7 and before the function's first number, for a price over 65,535. `target` and `function` are worked in.
-#[unsafe(no_mangle)]
-pub extern "C" fn parallel_moves_priced_job_5(
+pub fn parallel_moves_priced_job_5(
     kept_evictions: u32,
     prices: &[u32; 4],
     bytes: &[u8],
@@ -96,8 +93,7 @@ pub extern "C" fn parallel_moves_priced_job_5(
 
 // 02 j: the L to plan with: with it no patch of the function that the bytes are gets 17. The bytes are as for `parallel_moves_open`, with any L. Sets
 // `refusal` to 0, or to the number that `parallel_moves_open` answers, and then answers 0. `target` and `function` are worked in.
-#[unsafe(no_mangle)]
-pub extern "C" fn parallel_moves_enough_slots_5(
+pub fn parallel_moves_enough_slots_5(
     kept_evictions: u32,
     bytes: &[u8],
     refusal: &mut u8,
@@ -123,8 +119,7 @@ pub extern "C" fn parallel_moves_enough_slots_5(
 // `refusal` to 01's number or 0, and `position`, unless it is refused, to the greatest position that its searches met. Asked is that target, function
 // and cache are as `parallel_moves_open` left them when it answered 0, the cache as the last call on it left it: "nothing else writes the cache
 // between calls".
-#[unsafe(no_mangle)]
-pub extern "C" fn parallel_moves_resolve_5(
+pub fn parallel_moves_resolve_5(
     target: &RegInfo,
     function: &Function,
     free: &[u32],
@@ -164,8 +159,7 @@ pub extern "C" fn parallel_moves_resolve_5(
 }
 
 // How many emergency slots the function has.
-#[unsafe(no_mangle)]
-pub extern "C" fn parallel_moves_made_5(cache: &EmergencySpillSlotCache) -> u16
+pub fn parallel_moves_made_5(cache: &EmergencySpillSlotCache) -> u16
     ensures { result ≡ (cache_of cache.now).made }
 {
     slots::made(cache)

@@ -1,4 +1,4 @@
-// The library for C and Rust: a frame that formulas share is opened, and they are called (02 l). It stands in an archive of its own. What the working
+// The library for C and Rust, which `frame_c_exports` exports: a frame that formulas share is opened, and they are called (02 l). What the working
 // tables held does not matter. Asked is that the frame's table and each formula's are as their last calls left them.
 #![tactic(auto)]
 
@@ -33,8 +33,7 @@ use visits::States;
 
 // Opens a frame for as many formulas as there are shares: answers 0; or 2 for none or over 16, or for a limit over 2,048, then 23 for shares above the
 // limit, and leaves the frame as it was.
-#[unsafe(no_mangle)]
-pub extern "C" fn parallel_moves_frame_open_5(frame: &mut Frame, limit: u32, shares: &[u32]) -> u8
+pub fn parallel_moves_frame_open_5(frame: &mut Frame, limit: u32, shares: &[u32]) -> u8
     ensures { FrameBy limit shares.now (first_of (share_conditions limit shares.now)) result frame.old frame.new }
 {
     match frame_table::open_frame(frame, limit, shares) {
@@ -46,8 +45,7 @@ pub extern "C" fn parallel_moves_frame_open_5(frame: &mut Frame, limit: u32, sha
 // Opens the target and the function of a formula as `parallel_moves_open` does, its L read but not used: another N than the first one's is 2, when it is
 // read. First 2, and nothing changed, for a formula that is not the next: not below the shares, out of order, open already, or once a slot is made. After
 // a refusal the same one may be tried again.
-#[unsafe(no_mangle)]
-pub extern "C" fn parallel_moves_frame_formula_5(
+pub fn parallel_moves_frame_formula_5(
     frame: &mut Frame,
     formula: usize,
     kept_evictions: u32,
@@ -80,8 +78,7 @@ pub extern "C" fn parallel_moves_frame_formula_5(
 }
 
 // One patch of a formula, as `parallel_moves_resolve` has it. A refusal leaves the frame too.
-#[unsafe(no_mangle)]
-pub extern "C" fn parallel_moves_frame_resolve_5(
+pub fn parallel_moves_frame_resolve_5(
     frame: &mut Frame,
     formula: usize,
     target: &RegInfo,
@@ -123,8 +120,7 @@ pub extern "C" fn parallel_moves_frame_resolve_5(
 }
 
 // One patch of a formula by groups, as `parallel_moves_resolve_groups` has it. A refusal leaves the frame too.
-#[unsafe(no_mangle)]
-pub extern "C" fn parallel_moves_frame_resolve_groups_5(
+pub fn parallel_moves_frame_resolve_groups_5(
     frame: &mut Frame,
     formula: usize,
     target: &RegInfo,
@@ -176,8 +172,7 @@ pub extern "C" fn parallel_moves_frame_resolve_groups_5(
 
 // Asks for a patch of a formula, as `parallel_moves_ask` does, and changes neither frame nor cache. Unless it is refused, `made` is the formula's own count
 // once the answer is taken; taking needs `to`, `stamp`, `counter` and the table `slots` as they are left.
-#[unsafe(no_mangle)]
-pub extern "C" fn parallel_moves_frame_ask_5(
+pub fn parallel_moves_frame_ask_5(
     frame: &Frame,
     formula: usize,
     target: &RegInfo,
@@ -228,8 +223,7 @@ pub extern "C" fn parallel_moves_frame_ask_5(
 
 // Takes what a formula asked for: answers 0; or first 20, frame and cache as they were, where the formula has taken an answer or resolved a patch since the
 // asking, or the frame's counter has gone on.
-#[unsafe(no_mangle)]
-pub extern "C" fn parallel_moves_frame_take_5(
+pub fn parallel_moves_frame_take_5(
     frame: &mut Frame,
     formula: usize,
     to: u16,
@@ -255,8 +249,7 @@ pub extern "C" fn parallel_moves_frame_take_5(
 }
 
 // How many emergency slots a formula has made.
-#[unsafe(no_mangle)]
-pub extern "C" fn parallel_moves_frame_made_5(frame: &Frame, formula: usize) -> u16
+pub fn parallel_moves_frame_made_5(frame: &Frame, formula: usize) -> u16
     requires { formula < 16 }
     ensures { result ≡ made_of frame.now formula }
 {

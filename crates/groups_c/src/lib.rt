@@ -1,5 +1,5 @@
-// The library for C and Rust: a patch of an opened function resolved by groups (02 k). It stands in an archive of its own, so that what it shares
-// with resolving is compiled into each. What the working tables held does not matter.
+// The library for C and Rust, which `groups_c_exports` exports: a patch of an opened function resolved by groups (02 k). What the working tables
+// held does not matter.
 #![tactic(auto)]
 
 ghost use Rattle.std.specs.Prelude.{length};
@@ -27,8 +27,7 @@ use visits::States;
 
 // Resolves a patch, given as to `parallel_moves_resolve`, by groups: answers how many edits stand at the front of `list`, and sets `refusal` to 01's
 // number or 0, and `position`, unless it is refused, to the greatest position that its searches met. Asked is as for `parallel_moves_resolve`.
-#[unsafe(no_mangle)]
-pub extern "C" fn parallel_moves_resolve_groups_5(
+pub fn parallel_moves_resolve_groups_5(
     target: &RegInfo,
     function: &Function,
     free: &[u32],
