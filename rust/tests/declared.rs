@@ -76,6 +76,19 @@ fn read(path: &str) -> String {
     fs::read_to_string(root().join(path)).unwrap()
 }
 
+/// The static library that has the functions of an archive: the crate itself, or, where another
+/// crate uses it as a library, the one beside it that exports its functions.
+fn exporting(library: &str) -> String {
+    let beside = format!("{library}_exports");
+    let is_there = root().join("crates").join(&beside).is_dir();
+    if is_there { beside } else { library.into() }
+}
+
+/// The source of a crate that is a library.
+fn source(name: &str) -> String {
+    read(&format!("crates/{name}/src/lib.rt"))
+}
+
 /// What stands between `start` and the next `end`.
 fn between<'a>(text: &'a str, start: &str, end: &str) -> &'a str {
     let (_, after) = text
@@ -148,9 +161,14 @@ fn library(function: &str) -> Vec<String> {
             types(&fs::read_to_string(path).unwrap(), &mut names);
         }
     }
-    let text = |library: &&str| read(&format!("crates/{library}/src/lib.rt"));
-    let text: String = LIBRARIES.iter().map(text).collect();
-    let start = format!("fn {function}_{}(", interface());
+    let text: String = LIBRARIES
+        .iter()
+        .map(|name| source(&exporting(name)))
+        .collect();
+    let start = format!(
+        "#[unsafe(no_mangle)]\npub extern \"C\" fn {function}_{}(",
+        interface()
+    );
     let (_, declared) = text
         .split_once(&start)
         .unwrap_or_else(|| panic!("no {start}"));
@@ -253,6 +271,49 @@ fn parameters_agree() {
     );
 }
 
+/// The functions of a source whose heads begin so: what stands from their names to their bodies.
+fn heads<'a>(text: &'a str, start: &str) -> Vec<&'a str> {
+    let functions = text.split(start).skip(1);
+    functions.map(|f| f.split_once("\n{").unwrap().0).collect()
+}
+
+/// A crate of exports exports all that its library has, each function with the same parameters,
+/// result and clauses, and has the library's function do it. Each of these crates is a static
+/// library, and none is one and has no functions for C.
+#[test]
+fn exports_are_the_libraries() {
+    let lines = read("crates.txt");
+    let mut exports = 0;
+    for line in lines.lines().filter(|line| line.contains(" staticlib:")) {
+        let (name, _) = line.split_once(' ').unwrap();
+        let library = name.strip_suffix("_exports").unwrap_or(name);
+        assert!(LIBRARIES.contains(&library), "{name}");
+        assert_eq!(exporting(library), name);
+        exports += 1;
+        if library == name {
+            continue;
+        }
+        let (ours, theirs) = (source(name), source(library));
+        let exported = heads(&ours, "#[unsafe(no_mangle)]\npub extern \"C\" fn ");
+        assert!(!exported.is_empty());
+        assert_eq!(exported, heads(&theirs, "\npub fn "), "{name}");
+        assert_eq!(exported.len(), ours.matches("fn ").count(), "{name}");
+        for head in exported {
+            let (function, parameters) = head.split_once('(').unwrap();
+            let (parameters, _) = parameters.split_once(')').unwrap();
+            let given: Vec<&str> = listed(parameters)
+                .map(|p| p.split_once(": ").unwrap().0)
+                .collect();
+            let (_, body) = ours.split_once(head).unwrap();
+            let body = between(body, "{", "\n}");
+            let call = body.split_whitespace().collect::<Vec<_>>().join(" ");
+            let call = call.replace("( ", "(").replace(", )", ")");
+            assert_eq!(call, format!("{library}::{function}({})", given.join(", ")));
+        }
+    }
+    assert_eq!(exports, LIBRARIES.len());
+}
+
 /// The tables of a function's parameters.
 fn tables<'a>(header: &'a str, function: &str) -> Vec<&'a str> {
     let tables = listed(between(header, &format!(" {function}("), ")"));
@@ -332,9 +393,7 @@ fn archives_agree() {
     let rust = read("rust/build.rs");
     assert!(listed(between(&rust, "LIBRARIES: &[&str] = &[", "];")).eq(build));
     let listed = format!("libraries=({})", LIBRARIES.join(" "));
-    for file in ["build", "bench/run", "compare/link"] {
-        assert!(read(file).contains(&listed), "{file}");
-    }
+    assert!(read("build").contains(&listed));
     let stamp = read("c/stamp");
     let stamped = between(&stamp, "libraries=(", ")").split(' ');
     let stamped: Vec<&str> = stamped

@@ -15,7 +15,7 @@ const MOST_LINES: usize = 500;
 fn sources(folder: &Path, found: &mut Vec<PathBuf>) {
     for entry in fs::read_dir(folder).unwrap() {
         let path = entry.unwrap().path();
-        if path.is_dir() && !path.ends_with("target") {
+        if path.is_dir() && !["target", "out"].iter().any(|built| path.ends_with(built)) {
             sources(&path, found);
         }
         let ending = path.extension().and_then(|ending| ending.to_str());

@@ -71,7 +71,7 @@ fn files(folder: &Path, endings: &[&str], found: &mut Vec<PathBuf>) {
     for entry in fs::read_dir(folder).unwrap() {
         let path = entry.unwrap().path();
         if path.is_dir() {
-            if !path.ends_with("target") {
+            if !["target", "out"].iter().any(|built| path.ends_with(built)) {
                 files(&path, endings, found);
             }
         } else if endings
@@ -83,10 +83,12 @@ fn files(folder: &Path, endings: &[&str], found: &mut Vec<PathBuf>) {
     }
 }
 
-/// The names in a text. The version in which an exported function's name ends is left out.
+/// The names in a text, and the parts of those with a prime. The version in which an exported
+/// function's name ends is left out.
 fn names(text: &str, into: &mut HashSet<String>) {
-    let is_name = |c: char| c.is_alphanumeric() || "_-′".contains(c);
+    let is_name = |c: char| c.is_alphanumeric() || "_-'".contains(c);
     for name in text.split(|c| !is_name(c)) {
+        into.extend(name.split('\'').map(String::from));
         if let Some((front, version)) = name.rsplit_once('_') {
             if version.parse::<u32>().is_ok() {
                 into.insert(front.into());
@@ -132,7 +134,7 @@ fn is_file_name(word: &str) -> bool {
     let of_crate = parts.len() > 1 && PARTS.contains(&parts[1]);
     let known =
         FOLDERS.contains(&parts[0]) || of_crate && root().join("crates").join(parts[0]).is_dir();
-    let built = parts.contains(&"target");
+    let built = parts.contains(&"target") || parts.contains(&"out");
     parts.len() > 1 && known && !built && !word.contains("NAME")
 }
 

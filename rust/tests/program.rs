@@ -19,7 +19,7 @@ fn program() -> PathBuf {
     let program = env::var_os("RESOLVE").map_or(root().join("target/bin/resolve"), PathBuf::from);
     assert!(
         program.is_file(),
-        "{} is not there: run `rt check resolve`",
+        "{} is not there: run `./build`",
         program.display()
     );
     program

@@ -69,7 +69,7 @@ fn versions_go_together() {
     assert!(section(&changes, last).starts_with(&format!("{version}\n")));
 }
 
-/// The licence texts are NOTICE's, and the crate has them too.
+/// The licence texts are NOTICE's, and the crate has them too, with NOTICE and CHANGELOG.md.
 #[test]
 fn licence_texts_agree() {
     let notice = read("NOTICE");
@@ -77,5 +77,8 @@ fn licence_texts_agree() {
         let licence = read(text);
         assert!(notice.contains(licence.trim()), "{text}");
         assert_eq!(read(&format!("rust/{text}")), licence);
+    }
+    for text in ["NOTICE", "CHANGELOG.md"] {
+        assert_eq!(read(&format!("rust/{text}")), read(text));
     }
 }

@@ -10,7 +10,7 @@ use crate::{SWAP, UNFIT, run};
 /// What a program of `target/bin` prints that is given the job of a file and words.
 fn printed(program: &str, file: &str, words: &str) -> String {
     let path = root().join("target/bin").join(program);
-    assert!(path.is_file(), "run `rt check {program}`");
+    assert!(path.is_file(), "run `./build`");
     let job = File::open(root().join(file)).unwrap();
     let given = words.split(' ');
     let printed = Command::new(path).args(given).stdin(job).output().unwrap();
