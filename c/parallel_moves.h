@@ -1,32 +1,33 @@
 /* Parallel moves over registers that share units, resolved in-process.
  *
- * For C99 and later, and C++. Link what is used of target/staticlib, or all:
- * - libcalls_c.a, which `rt staticlib calls_c` builds, for calls patch by patch:
+ * For C99 and later, and C++. Link what is used of target/staticlib, which `./build`
+ * fills, or all:
+ * - libcalls_c.a, for calls patch by patch:
  *   parallel_moves_open_in with a target and a function, then
  *   parallel_moves_resolve_in with each patch, and parallel_moves_slots_made;
  *   before them, for whoever lays out the frame, parallel_moves_enough_slots_in;
  *   of a target with prices, parallel_moves_open_priced_in, and
  *   parallel_moves_priced_job_in for a whole job;
- * - libasking_c.a, which `rt staticlib asking_c` builds, beside libcalls_c.a, for a
+ * - libasking_c.a, beside libcalls_c.a, for a
  *   patch asked for before one settles on it: parallel_moves_ask_in, and
  *   parallel_moves_take_in;
- * - libgroups_c.a, which `rt staticlib groups_c` builds, beside libcalls_c.a, for a
+ * - libgroups_c.a, beside libcalls_c.a, for a
  *   patch resolved by groups: parallel_moves_resolve_groups_in;
- * - libframe_c.a, which `rt staticlib frame_c` builds, for formulas that share a
+ * - libframe_c.a, for formulas that share a
  *   frame: parallel_moves_frame_open_in, and what stands behind it;
- * - libparallel_moves_c.a, which `rt staticlib parallel_moves_c` builds, for a
+ * - libparallel_moves_c.a, for a
  *   whole job as bytes: parallel_moves_answer_in, and parallel_moves_text;
- * - libanswer_groups_c.a, which `rt staticlib answer_groups_c` builds, for the same by
+ * - libanswer_groups_c.a, for the same by
  *   groups: parallel_moves_answer_groups_in;
- * - libjob_writer_c.a, which `rt staticlib job_writer_c` builds, for the bytes of a
+ * - libjob_writer_c.a, for the bytes of a
  *   job from its numbers, parallel_moves_write_in, or of a function that is open,
  *   parallel_moves_write_opened_in, and the shipped target, parallel_moves_shipped_in;
- * - libprice_c.a, which `rt staticlib price_c` builds, for what edits cost:
+ * - libprice_c.a, for what edits cost:
  *   parallel_moves_price and parallel_moves_price_edits, and the cheaper of two
  *   lists, parallel_moves_cheaper_list;
- * - libtrying_c.a, which `rt staticlib trying_c` builds, for both settings tried on
+ * - libtrying_c.a, for both settings tried on
  *   patches that are drawn: parallel_moves_try_in.
- * - libexamine_c.a, which `rt staticlib examine_c` builds, for lists of edits examined:
+ * - libexamine_c.a, for lists of edits examined:
  *   parallel_moves_examine_job_in, and beside libcalls_c.a of an opened function
  *   parallel_moves_examine_opened_in; with libasking_c.a and libgroups_c.a, for patches
  *   whose edits are examined before they are handed out:

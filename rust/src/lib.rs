@@ -64,7 +64,7 @@
 //! # Building
 //!
 //! The static library is linked when a program is: from `target/staticlib` of
-//! the repository, where `rt staticlib` makes its archives `parallel_moves_c`,
+//! the repository, where `./build` makes its archives `parallel_moves_c`,
 //! `calls_c`, `asking_c`, `groups_c`, `answer_groups_c`, `frame_c`, `job_writer_c`, `price_c`, `trying_c` and `examine_c`, or from the
 //! folder that `PARALLEL_MOVES_LIB_DIR` names; outside of the repository and without that variable, from the release that
 //! `pkg-config` finds as `parallel_moves`. `cargo check` and `cargo doc` do without it.

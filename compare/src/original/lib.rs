@@ -1,6 +1,6 @@
 //! The original module, unchanged, with just enough around it to stand alone.
 //!
-//! `../../target/original` is a link to the `src` folder of the original that
+//! `../../target/original` is a copy of the `src` folder of the original that
 //! `build` was given; `../../target/cut` holds what `build` cut out of two
 //! larger files. Everything else here is a shim of our own: `entity` (the
 //! list of its parts, `iter` and `packed_option`) and the `trace!` macro, which
