@@ -11,48 +11,50 @@ use super::{Answers, Done, Edit};
 const UNFOLDED: [(&str, &str); 15] = [
     (
         "entity.specs.Logic",
-        "any all has meets twice lastOr indices",
+        "any_in all_in has meets twice last_or indices",
     ),
-    ("entity.specs.Place", "placeAt"),
+    ("entity.specs.Place", "place_at"),
     (
         "reginfo.specs.RegInfo",
-        "spillslotSize topLevelClass stackToStackClass regMemory bankForReg regUnits bankForClass \
-         classSlots classMembers allocationOrder",
+        "spillslot_size top_level_class stack_to_stack_class reg_memory bank_for_reg \
+         reg_units bank_for_class class_slots class_members allocation_order",
     ),
     (
         "reginfo.specs.Refused",
-        "orderTotal countsFit bankFits regFits classFits outsideLimits listedTwice unequalWidths \
-         foreignMember sharedMemory unfitClass firstOf targetRefusal",
+        "order_total counts_fit bank_fits reg_fits class_fits outside_limits \
+         listed_twice unequal_widths foreign_member shared_memory unfit_class first_of \
+         target_refusal",
     ),
     (
         "function.specs.Function",
-        "valueBank rematCost rematClass isSetting",
+        "value_bank remat_cost remat_class is_setting",
     ),
     (
         "rules.specs.Edit",
-        "updated andThen each find firstAt filter",
+        "updated and_then each find first_at filter",
     ),
     (
         "rules.specs.Scratch",
-        "acquireFrom unevict unevictBut unevictForReg makeRoom slotScratch evictLast reuse \
-         orScratch getScratchReg moveEdits doMove",
+        "acquire_from unevict unevict_but unevict_for_reg make_room slot_scratch \
+         evict_last reuse or_scratch get_scratch_reg move_edits do_move",
     ),
     (
         "rules.specs.Order",
-        "carryOne carry remats rematWithScratch writerFrom writersOf writers cycleMoveSources \
-         divert lead undivert undivertAll close visit visitUnlessMemory start moves",
+        "carry_one carry remats remat_with_scratch writer_from writers_of writers \
+         cycle_move_sources divert lead undivert undivert_all close visit \
+         visit_unless_memory start moves",
     ),
     (
         "rules.specs.Patch",
-        "destinations add sortedFrom entryConditions patchConditions run resolveSorted \
-         resolveFrom resolve",
+        "destinations add sorted_from entry_conditions patch_conditions run \
+         resolve_sorted resolve_from resolve",
     ),
     ("number.specs.Number", "groups number"),
     ("reading.specs.Reading", "tested times distinct"),
     ("job_target.specs.Target", "bank reg class classes target"),
     (
         "job_function.specs.Reads",
-        "rematValue value valued function",
+        "remat_value value valued function",
     ),
     (
         "job_patch.specs.Patches",
@@ -60,18 +62,18 @@ const UNFOLDED: [(&str, &str); 15] = [
     ),
     (
         "job_rules.specs.Job",
-        "afterTarget header patchesBy opening jobBy",
+        "after_target header patches_by opening job_by",
     ),
 ];
 
 /// The names that equations are written with.
 const NAMES: &str = "\
-use mathlib.Core.Path.{_≡_, refl}
-use mathlib.Core.List.{List, [], _∷_}
-use mathlib.Core.Option.{none, some}
-use Rattle·entity.specs.Place as at
-use Rattle·rules.specs.Edit.{Edit, Move, Rematerialize, EmergencySpill, EmergencyReload}
-use Rattle·job_rules.specs.Job.{endsWith, before, job}
+use Rattle.std.specs.Prelude.{◌≡◌, [], ◌∷◌}
+use mathlib.Core.Path.{refl}
+use Rattle.std.proofs.Math.Option.{none, some}
+use Rattle.entity.specs.Place as at
+use Rattle.rules.specs.Edit.{Move, Rematerialize, EmergencySpill, EmergencyReload}
+use Rattle.job_rules.specs.Job.{ends_with, before, job}
 ";
 
 /// What a module begins with.
@@ -79,7 +81,7 @@ pub fn head() -> String {
     let mut head = NAMES.to_owned();
     for (module, names) in UNFOLDED {
         let names = names.replace(' ', ", ");
-        put(&mut head, format_args!("use Rattle·{module}.{{{names}}}\n"));
+        put(&mut head, format_args!("use Rattle.{module}.{{{names}}}\n"));
     }
     head
 }
@@ -95,8 +97,8 @@ pub fn equation(number: usize, setting: u32, job: &[u8], answers: &Answers) -> S
         put_done(&mut text, done);
     }
     match answers.refusal {
-        None => text.push_str("endsWith none"),
-        Some(refusal) => put(&mut text, format_args!("endsWith (some {refusal})")),
+        None => text.push_str("ends_with none"),
+        Some(refusal) => put(&mut text, format_args!("ends_with (some {refusal})")),
     }
     text.push_str(&")".repeat(answers.done.len()));
     text.push_str("\nunfolding");
@@ -146,7 +148,7 @@ fn place(printed: &str) -> String {
 pub fn write_crate(folder: &Path, module: &str) -> io::Result<()> {
     fs::create_dir_all(folder.join("src"))?;
     fs::create_dir_all(folder.join("proofs"))?;
-    fs::write(folder.join("src/lib.rt"), "// No code.\n")?;
+    fs::write(folder.join("src/lib.rt"), "// No code.\n#![tactic(auto)]\n")?;
     fs::write(folder.join("proofs/Lib.antt"), "pub mod Jobs\n")?;
     fs::write(folder.join("proofs/Jobs.antt"), module)
 }
