@@ -66,7 +66,7 @@ fn file(name: &str, bytes: &[u8]) -> PathBuf {
 /// What a program of `target/bin` prints of the job in a file.
 fn printed(program: &str, words: &[&str], job: &Path) -> String {
     let path = root().join("target/bin").join(program);
-    assert!(path.is_file(), "run `rt check {program}`");
+    assert!(path.is_file(), "run `./build`");
     let job = File::open(job).unwrap();
     let output = Command::new(path).args(words).stdin(job).output().unwrap();
     assert!(output.stderr.is_empty(), "{program} says something");
