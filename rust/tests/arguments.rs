@@ -11,16 +11,16 @@ use common::root;
 const LIMITS: &[(&str, usize)] = &[
     ("not exported, more than 6 arguments", 147),
     ("exported, more than 6 arguments", 18),
-    ("not exported, more than 8 arguments", 92),
+    ("not exported, more than 8 arguments", 96),
     ("exported, more than 8 arguments", 15),
-    ("not exported, more than 10 arguments", 64),
+    ("not exported, more than 10 arguments", 78),
     ("exported, more than 10 arguments", 14),
-    ("lines that are one argument", 4038),
-    ("contract clauses of more than 160 characters", 388),
+    ("lines that are one argument", 2893),
+    ("contract clauses of more than 160 characters", 239),
 ];
 
-/// The crates of the scratch keeper and of the rebuilds: none of their functions has more than ten arguments.
-const SHORT: &[&str] = &["search", "scratch", "remats", "scratch_trials", "visits"];
+/// The crates of the searches and of the writers: none of their functions has more than ten arguments.
+const SHORT: &[&str] = &["search", "visits"];
 
 /// What the script prints: counts by what is counted, and below them the functions with more than ten arguments.
 fn counted() -> (HashMap<String, usize>, Vec<String>) {
