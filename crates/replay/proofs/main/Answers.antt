@@ -3,6 +3,7 @@ use mathlib.Core.Logic.{⊎_elim}
 use native.Mathlib.Omega.{arith}
 use borrow.Author.Rules.{rules}
 use Rattle.replay.proofs.main.Goals as goal
+use Rattle.replay.proofs.main.Goals.{in-Same, in-Differs}
 
 pub loop-k-init : goal.loop-k-init
 loop-k-init c = (omega arith, omega arith)
@@ -35,7 +36,7 @@ loop-k-smaller c =
 
 pub loop-k-preserved : goal.loop-k-preserved
 loop-k-preserved c =
-    ⊎_elim (λ w. (omega arith, omega arith)) (λ w. (omega arith, omega arith)) c.match-replay_next.branch
+    elim c.match-replay_next.branch [ in-Same w ↦ (omega arith, omega arith) | in-Differs w ↦ (omega arith, omega arith) ]
 
 pub returns : goal.returns
 returns c = tt

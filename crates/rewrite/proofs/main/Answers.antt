@@ -3,6 +3,7 @@ use mathlib.Core.Logic.{⊎_elim}
 use native.Mathlib.Omega.{arith}
 use borrow.Author.Rules.{rules}
 use Rattle.rewrite.proofs.main.Goals as goal
+use Rattle.rewrite.proofs.main.Goals.{in-Same, in-Refused, in-NoNumbers, in-Differs}
 
 pub loop-k-init : goal.loop-k-init
 loop-k-init c = (omega arith, omega arith, omega arith, omega arith)
@@ -45,7 +46,12 @@ loop-k-smaller c =
 
 pub loop-k-preserved : goal.loop-k-preserved
 loop-k-preserved c =
-    ⊎_elim (λ w. (omega arith, omega arith, omega arith, omega arith)) (⊎_elim (λ w. (omega arith, omega arith, omega arith, omega arith)) (⊎_elim (λ w. (omega arith, omega arith, omega arith, omega arith)) (λ w. (omega arith, omega arith, omega arith, omega arith)))) c.match-rewrite_next.branch
+    elim c.match-rewrite_next.branch [
+      | in-Same w ↦ (omega arith, omega arith, omega arith, omega arith)
+      | in-Refused w ↦ (omega arith, omega arith, omega arith, omega arith)
+      | in-NoNumbers w ↦ (omega arith, omega arith, omega arith, omega arith)
+      | in-Differs w ↦ (omega arith, omega arith, omega arith, omega arith)
+    ]
 
 pub returns : goal.returns
 returns c = tt

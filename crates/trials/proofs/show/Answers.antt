@@ -13,4 +13,3 @@ slice_bounds-out-end c =
     let p = c.put_text-n in
     let w = shown _ p.new.out (text_of c.args.kept_evictions c.args.job.now) p.result p.ensures c.if-n-eq0.false in
     omega (arith, w.0, length-replicate {A = ℕ} 65536 0)
-
