@@ -178,6 +178,8 @@ module _ (t f : ℕ → List ℕ) (limit : ℕ) (l : List Inlined) (e : open_ref
     module _ (up : (s.formulas i).count < c.count) where
       own-left : (n : ℕ) (o : Option Left) (a : Option Asked) → get_or (s.formulas i).asked n none ≡ a → LeftBeside (starts i) (k.cache i) (s.formulas i).count s.counter o a
           → LeftBeside (starts i) cache' c.count c.cache.made o a
+      own-left n (some y) none q g = elim g [ ]
+      own-left n none (some a) q g = elim g [ ]
       own-left n none none q g = tt
       own-left n (some y) (some a) q g =
           let st = b.sim.previews i n a q in
@@ -188,6 +190,8 @@ module _ (t f : ℕ → List ℕ) (limit : ℕ) (l : List Inlined) (e : open_ref
 
     other-left : (j : ℕ) → (j ≡ i → ⊥) → (n : ℕ) (o : Option Left) (a : Option Asked) → get_or (s.formulas j).asked n none ≡ a → LeftBeside (starts j) (k.cache j) (s.formulas j).count s.counter o a
         → LeftBeside (starts j) (k.cache j) (s.formulas j).count c.cache.made o a
+    other-left j d n (some y) none q g = elim g [ ]
+    other-left j d n none (some a) q g = elim g [ ]
     other-left j d n none none q g = tt
     other-left j d n (some y) (some a) q g =
         let st = b.sim.previews j n a q in
