@@ -269,6 +269,8 @@ module _ (t f : ℕ → List ℕ) (limit : ℕ) (l : List Inlined) (frame₀ : L
 
       take_step : (n : ℕ) (r : TakeAnswer) → DidAs t f k i (takes n r) frame' cache' → Few
           → Outcome t f k s i frame' cache' (takes n r) × By (next frame' cache' (k.asked i)) (ruled_by t f (request_of t f i (takes n r)) i s)
+      go none (some a) q g d = elim g [ ]
+      go (some x) none q g d = elim g [ ]
       take_step n r D low = subst (λ (z : Option Answer). Takes t f k s i frame' cache' z r × By (next frame' cache' (k.asked i)) (after_in s i (single (taking n)))) (sym (answered-taking n)) (go (get_or (k.asked i) n none) (get_or (s.formulas i).asked n none) refl (b.asked i n) D)
         where
           go : (o : Option Left) (a : Option Asked) → get_or (s.formulas i).asked n none ≡ a → In (k.cache i) (s.formulas i).count s.counter o a → TookAs t f k i o r frame' cache'
