@@ -269,12 +269,12 @@ module _ (t f : ℕ → List ℕ) (limit : ℕ) (l : List Inlined) (frame₀ : L
 
       take_step : (n : ℕ) (r : TakeAnswer) → DidAs t f k i (takes n r) frame' cache' → Few
           → Outcome t f k s i frame' cache' (takes n r) × By (next frame' cache' (k.asked i)) (ruled_by t f (request_of t f i (takes n r)) i s)
-      go none (some a) q g d = elim g [ ]
-      go (some x) none q g d = elim g [ ]
       take_step n r D low = subst (λ (z : Option Answer). Takes t f k s i frame' cache' z r × By (next frame' cache' (k.asked i)) (after_in s i (single (taking n)))) (sym (answered-taking n)) (go (get_or (k.asked i) n none) (get_or (s.formulas i).asked n none) refl (b.asked i n) D)
         where
           go : (o : Option Left) (a : Option Asked) → get_or (s.formulas i).asked n none ≡ a → In (k.cache i) (s.formulas i).count s.counter o a → TookAs t f k i o r frame' cache'
               → Takes t f k s i frame' cache' (answer_in (taken_in a s i)) r × By (next frame' cache' (k.asked i)) (after_in s i (single (taking n)))
+          go none (some a) q g d = elim g [ ]
+          go (some x) none q g d = elim g [ ]
           go none none q g d =
               let is : stamped_by (now_in s i) (standing_in s i (single (taking n))) ≡ now_in s i = ap (stamped_by (now_in s i)) (stands-taking n ∙ ap (λ (z : Option Asked). taken_in z s i) q) in
               ((d.0, d.1), stays n (ap (λ (y : Counted). y.cache) is) (ap (λ (y : Counted). y.count) is) d.0 d.1)
