@@ -7,12 +7,10 @@ pub returns-then-at-lt65536 : goal.returns-then-at-lt65536
 returns-then-at-lt65536 c =
     let args = c.args in
     let told = c.told in
-    let if1 = c.if-at-lt65536 in
-    byte_put args.work.now args.at args.b told.ensures if1.true
+    byte_put args.work.now args.at args.b told.ensures c.if-at-lt65536.true
 
 pub returns : goal.returns
 returns c =
     let args = c.args in
     let told = c.told in
-    let if1 = c.if-at-lt65536 in
-    byte-over args.work.now args.at args.b told.ensures if1.false
+    byte-over args.work.now args.at args.b told.ensures c.if-at-lt65536.false
