@@ -26,10 +26,11 @@ total-b-requires c = (sym c.in_range.ensures ∙ not-false _ c.if-not-in_range.f
 pub returns-then-b-a : goal.returns-then-b-a
 unfolding choice_of refused19
 returns-then-b-a c =
+    let few = c.if-second-gt65536.false in
     rw (
       sym c.in_range.ensures ∙ not-false _ c.if-not-in_range.false-raw,
       le-ltb _ _ c.if-first-gt65536.false,
-      le-ltb _ _ c.if-second-gt65536.false,
+      le-ltb _ _ few,
       ← c.total-a.ensures,
       ← c.total-b.ensures,
       lt-ltb _ _ c.if-b-a.true,
