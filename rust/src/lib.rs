@@ -122,7 +122,7 @@ pub use frame::{Formula, Frame, FramePreview};
 pub use numbered::{examine_numbered, examine_numbered_in, first_fault_numbered};
 pub use parallel_moves::{MOST_EDITS, ParallelMoves};
 pub use patch::{Entries, Entry, Patch};
-pub use picture::{Picture, PictureIndex, Pictures};
+pub use picture::Picture;
 pub use preview::{Preview, TakeError};
 pub use price::{Choice, Edge, Prices, cheaper, choose, priced_job};
 pub use reading::{Location, patch_count};

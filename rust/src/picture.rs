@@ -1,37 +1,25 @@
 //! Pictures of resolved patches.
 
-mod blocks;
-mod drawing;
-mod groups;
-mod index;
-mod keys;
-mod legend;
 pub(crate) mod machine;
 mod page;
-mod places;
 mod plain;
-mod rows;
-mod several;
 
-use std::collections::BTreeMap;
+use std::cmp::Reverse;
+use std::collections::{BTreeMap, BTreeSet};
 use std::fmt;
 
 use crate::builder::JobBuilder;
 use crate::edit::{Edit, Edits};
-use crate::entity::{Allocation, AllocationKind, PhysReg, RegUnit, SpillSlot};
+use crate::entity::{Allocation, AllocationKind, PhysReg, RegUnit, SpillSlot, Value};
 use crate::text::printing::entry_text;
-use groups::{Group, groups};
-pub use index::PictureIndex;
-use machine::Sense;
-use places::{Quiet, places};
-use rows::{Row, rows};
-pub use several::Pictures;
+use machine::{Machine, Sense, Word};
+
+/// As many places that nothing happens to have rows of their own; more share one.
+const MOST_QUIET_ROWS: usize = 8;
 
 /// A resolved patch as a picture: what stands in which place at every stop of its edits.
 ///
-/// It is printed as text for a terminal, and [`Picture::page`] makes a page of it. A place
-/// that no edit touches is named, and has no row. A long patch has several blocks, each with
-/// the places that its edits touch. [`Pictures`] are those of several patches.
+/// It is printed as text for a terminal, and [`Picture::page`] makes a page of it.
 ///
 /// ```
 /// use parallel_moves::{JobBuilder, Picture, Resolver};
@@ -40,48 +28,61 @@ pub use several::Pictures;
 /// let job = JobBuilder::from_bytes(&bytes).unwrap();
 /// let answer = Resolver::new().answer(1, &bytes).unwrap();
 /// let edits = answer.patches().next().unwrap().edits();
-/// let picture = Picture::of("swap-full", &job, 1, edits).unwrap().with_kept(1);
-/// let text = picture.to_string();
-/// assert!(text.starts_with("swap-full, patch 1: 3 edits, one kept eviction, resolved whole\n"));
-/// assert!(text.contains("r0 | v0     | v0        | v0        | v1 +*     | v1"));
+/// let picture = Picture::of("swap-full", &job, 1, edits).unwrap();
+/// assert!(picture.to_string().contains("r0 | v0     | v0        | v0        | v1 +*     | v1"));
 /// ```
 #[derive(Clone, Debug, PartialEq, Eq)]
 pub struct Picture {
     name: String,
     patch: usize,
-    how: How,
     /// The entries, as the text of a job says them.
     entries: Vec<String>,
     edits: Vec<Edit>,
-    /// By groups, if the edits can be told apart by them: none otherwise.
-    groups: Vec<Group>,
     rows: Vec<Row>,
-    /// For each edit the rows of what it reads or writes, rising.
-    touches: Vec<Vec<usize>>,
-    quiet: Quiet,
+    /// The places without a row, to which nothing happens.
+    quiet: Vec<String>,
 }
 
-/// How patches were resolved, as far as that was said.
-#[derive(Clone, Copy, Debug, Default, PartialEq, Eq)]
-struct How {
-    kept: Option<u32>,
-    by_groups: bool,
+/// A place of a picture.
+#[derive(Clone, Debug, PartialEq, Eq)]
+struct Row {
+    place: Place,
+    /// What is to be known of the place.
+    about: String,
+    /// What it holds before the first edit and after each.
+    cells: Vec<Cell>,
+    /// What it is to hold in the end.
+    wanted: String,
+    /// What became of it.
+    fate: String,
 }
 
-/// So that two printouts can be told apart.
-impl fmt::Display for How {
-    fn fmt(&self, f: &mut fmt::Formatter<'_>) -> fmt::Result {
-        match self.kept {
-            None => {}
-            Some(1) => write!(f, "one kept eviction, ")?,
-            Some(2) => write!(f, "two kept evictions, ")?,
-            Some(kept) => write!(f, "{kept} kept evictions, ")?,
-        }
-        f.write_str(match self.by_groups {
-            true => "resolved by groups",
-            false => "resolved whole",
-        })
-    }
+/// What a place holds at a stop.
+#[derive(Clone, Debug, PartialEq, Eq)]
+struct Cell {
+    holds: String,
+    mark: Mark,
+    /// Whether the last edit wrote it.
+    written: bool,
+    /// Whether it is a register that is saved.
+    waiting: bool,
+}
+
+/// What that is to the patch.
+#[derive(Clone, Copy, Debug, PartialEq, Eq)]
+enum Mark {
+    /// Nothing that is needed.
+    Nothing,
+    /// What it held when the patch began, which it has to hold in the end.
+    Live,
+    /// A value that is still to be moved.
+    Source,
+    /// A value in its destination.
+    Arrived,
+    /// A value on its way.
+    Scratch,
+    /// What a register held that is saved.
+    Saved,
 }
 
 /// What has a row.
@@ -112,9 +113,6 @@ impl From<Allocation> for Place {
     }
 }
 
-/// Something of places.
-type Places<T> = BTreeMap<Place, T>;
-
 /// The place that an edit writes, and the one that it reads.
 fn ends(edit: Edit) -> (Place, Option<Place>) {
     match edit {
@@ -138,73 +136,219 @@ impl Picture {
         let sense = Sense::of(job, given);
         let edits: Vec<Edit> = edits.iter().collect();
         let (places, quiet) = places(&sense, &edits);
-        let (rows, touches) = rows(&sense, &edits, &places);
+        let mut stops = vec![Machine::new(&sense)];
+        for &edit in &edits {
+            let mut next = stops[stops.len() - 1].clone();
+            next.step(&sense, edit);
+            stops.push(next);
+        }
+        let rows = places
+            .into_iter()
+            .map(|place| row(&sense, &stops, &edits, place))
+            .collect();
         Some(Picture {
-            name: visible(name),
+            name: name.to_owned(),
             patch,
-            how: How::default(),
             entries: given.entries.iter().copied().map(entry_text).collect(),
             edits,
-            groups: Vec::new(),
             rows,
-            touches,
             quiet,
         })
     }
-
-    /// The same of edits that [`Resolver::answer_by_groups`](crate::Resolver::answer_by_groups)
-    /// or [`ParallelMoves::resolve_by_groups`](crate::ParallelMoves::resolve_by_groups) gave:
-    /// the groups stand one after the other.
-    #[must_use]
-    pub fn by_groups(
-        name: &str,
-        job: &JobBuilder,
-        patch: usize,
-        edits: Edits<'_>,
-    ) -> Option<Picture> {
-        let mut picture = Picture::of(name, job, patch, edits)?;
-        let given = &job.patches[patch - 1];
-        picture.groups = groups(&Sense::of(job, given), given, &picture.edits);
-        picture.how.by_groups = true;
-        Some(picture)
-    }
-
-    /// Says on the picture how many evictions were kept.
-    #[must_use]
-    pub fn with_kept(mut self, kept: u32) -> Picture {
-        self.how.kept = Some(kept);
-        self
-    }
-
-    /// What it is a picture of.
-    fn title(&self) -> String {
-        format!("{}, {}, {}", self.name, self.head(), self.how)
-    }
-
-    /// The same without what all pictures of a job have in common.
-    fn head(&self) -> String {
-        let edits = counted(self.edits.len(), "edit");
-        format!("patch {}: {edits}", self.patch)
-    }
 }
 
-/// A number of things.
-fn counted(number: usize, thing: &str) -> String {
-    match (number, thing) {
-        (1, thing) => format!("1 {thing}"),
-        (number, "patch") => format!("{number} patches"),
-        (number, thing) => format!("{number} {thing}s"),
-    }
-}
-
-/// A name with what a terminal or a browser would do, and not show, written as in Rust.
-fn visible(name: &str) -> String {
-    let mut shown = String::new();
-    for character in name.chars() {
-        match character {
-            '\'' | '"' | '\\' => shown.push(character),
-            _ => shown.extend(character.escape_debug()),
+/// The places that have rows, and the names of those that share one: nothing happens to
+/// these. Registers with a unit in common stand together.
+fn places(sense: &Sense<'_>, edits: &[Edit]) -> (Vec<Place>, Vec<String>) {
+    let ends = edits.iter().flat_map(|&edit| {
+        let (to, from) = ends(edit);
+        [Some(to), from]
+    });
+    let sources = sense.sources.keys().chain(&sense.not_read);
+    let entries = sources.chain(sense.dests.keys()).copied();
+    let busy: BTreeSet<Place> = ends.flatten().chain(entries).collect();
+    let units = busy.iter().flat_map(|place| sense.units(place));
+    let mut covered: BTreeSet<RegUnit> = units.copied().collect();
+    let mut quiet = Vec::new();
+    let registers = (0..sense.job.target.registers.len()).map(|r| Place::Register(PhysReg::new(r)));
+    let single = (0..sense.job.target.unit_count()).map(|unit| Place::Unit(RegUnit(unit)));
+    for place in registers.chain(single) {
+        let units = sense.units(&place);
+        if !units.is_empty() && units.iter().all(|unit| !covered.contains(unit)) {
+            covered.extend(units);
+            quiet.push(place);
         }
     }
-    shown
+    let slots = (0..sense.job.function.slots).map(|slot| Place::Slot(SpillSlot(slot)));
+    quiet.extend(slots.filter(|slot| !busy.contains(slot)));
+    let mut places: Vec<Place> = busy.into_iter().collect();
+    let mut names = Vec::new();
+    if quiet.len() <= MOST_QUIET_ROWS {
+        places.extend(quiet);
+    } else {
+        names = quiet.iter().map(ToString::to_string).collect();
+    }
+    places.sort_by_key(|place| {
+        let units = sense.units(place);
+        let first = units.iter().min().copied();
+        let is_slot = matches!(place, Place::Slot(_));
+        (is_slot, first, Reverse(units.len()), *place)
+    });
+    (places, names)
 }
+
+/// What happens in a place.
+fn row(sense: &Sense<'_>, stops: &[Machine], edits: &[Edit], place: Place) -> Row {
+    let is_end = |end: Option<Place>| end.is_some_and(|end| sense.overlap(end, place));
+    let writes: Vec<bool> = edits
+        .iter()
+        .map(|&edit| is_end(Some(ends(edit).0)))
+        .collect();
+    // Whether an edit after a stop reads it before one writes it.
+    let mut is_read = vec![false; stops.len()];
+    for (index, &edit) in edits.iter().enumerate().rev() {
+        is_read[index] = is_end(ends(edit).1) || !writes[index] && is_read[index + 1];
+    }
+    let first = stops[0].read(sense, place);
+    let mut touched = false;
+    let mut cells = Vec::with_capacity(stops.len());
+    for (stop, machine) in stops.iter().enumerate() {
+        let written = stop > 0 && writes[stop - 1];
+        touched |= written;
+        let words = machine.read(sense, place);
+        let mark = mark(
+            sense,
+            machine,
+            place,
+            &words,
+            &first,
+            touched,
+            is_read[stop],
+        );
+        let mut saved = machine.saved.keys().copied().map(Place::Register);
+        cells.push(Cell {
+            holds: sense.name(&words, place),
+            mark,
+            written,
+            waiting: saved.any(|register| sense.overlap(register, place)),
+        });
+    }
+    Row {
+        place,
+        about: about(sense, place),
+        cells,
+        wanted: wanted(sense, first, place),
+        fate: fate(sense, edits, place, touched).to_owned(),
+    }
+}
+
+/// What the words that a place holds are to the patch, with those that it held first:
+/// whether it was written, and will be read.
+fn mark(
+    sense: &Sense<'_>,
+    machine: &Machine,
+    place: Place,
+    words: &[Word],
+    first: &[Word],
+    touched: bool,
+    is_read: bool,
+) -> Mark {
+    let is_saved = |slot: &SpillSlot| Place::Slot(*slot) == place;
+    let is_of_value = |word: &Word| matches!(word, Word::Of(..));
+    let is_live = |word: &Word| matches!(word, Word::OfUnit(_) | Word::OfSlot(_));
+    let stays = |(word, first): (&Word, &Word)| is_live(word) && word == first;
+    let arrives = |value: &Value| touched && words == sense.content(*value);
+    if machine.saved.values().any(is_saved) {
+        Mark::Saved
+    } else if sense.dests.get(&place).is_some_and(arrives) {
+        Mark::Arrived
+    } else if words.iter().any(is_of_value) && words == first {
+        Mark::Source
+    } else if is_read && sense.is_value(words) {
+        Mark::Scratch
+    } else if words.iter().zip(first).any(stays) {
+        Mark::Live
+    } else {
+        Mark::Nothing
+    }
+}
+
+/// What is to be known of a place.
+fn about(sense: &Sense<'_>, place: Place) -> String {
+    match place {
+        Place::Slot(slot) if slot.0 >= sense.job.function.slots => "emergency".to_owned(),
+        Place::Slot(_) => "slot".to_owned(),
+        Place::Unit(_) => "unit".to_owned(),
+        Place::Register(register) => {
+            let units = sense.units(&place);
+            let memory = match sense.is_memory(place) {
+                true => "memory, ",
+                false => "",
+            };
+            match units {
+                [unit] if unit.0 == register.0 => memory.trim_end_matches(", ").to_owned(),
+                [unit] => format!("{memory}unit {}", unit.0),
+                units => {
+                    let numbers: Vec<String> =
+                        units.iter().map(|unit| unit.0.to_string()).collect();
+                    format!("{memory}units {}", numbers.join(" "))
+                }
+            }
+        }
+    }
+}
+
+/// What a place has to hold in the end, which held these words first.
+fn wanted(sense: &Sense<'_>, mut words: Vec<Word>, place: Place) -> String {
+    if let Some(&value) = sense.dests.get(&place) {
+        return sense.name(&sense.content(value), place);
+    }
+    // A unit that is free, or a destination's, may hold anything.
+    let is_any = |unit: &RegUnit| {
+        let mut dests = sense.dests.keys();
+        sense.free.contains(unit) || dests.any(|dest| sense.units(dest).contains(unit))
+    };
+    let is_memory = sense.is_memory(place);
+    let units = sense.units(&place);
+    for (index, word) in words.iter_mut().enumerate() {
+        let unit = units.get(if is_memory { 0 } else { index });
+        if unit.is_some_and(is_any) {
+            *word = Word::Nothing;
+        }
+    }
+    match sense.is_needed(&words) {
+        true => sense.name(&words, place),
+        false => "any".to_owned(),
+    }
+}
+
+/// What became of a place.
+fn fate(sense: &Sense<'_>, edits: &[Edit], place: Place, touched: bool) -> &'static str {
+    let saved = edits.iter().any(|edit| match *edit {
+        Edit::EmergencySpill { from, .. } => Place::Register(from) == place,
+        _ => false,
+    });
+    let is_emergency = matches!(place, Place::Slot(slot) if slot.0 >= sense.job.function.slots);
+    let is_source = sense.sources.contains_key(&place);
+    let mut units = sense.units(&place).iter();
+    let is_free = units.any(|unit| sense.free.contains(unit));
+    if sense.dests.contains_key(&place) {
+        "destination"
+    } else if saved {
+        "saved and loaded back"
+    } else if is_emergency {
+        "emergency slot"
+    } else {
+        match (is_source, is_free, touched) {
+            (true, _, true) => "source, written over",
+            (true, _, false) => "source, untouched",
+            (false, true, true) => "free, written over",
+            (false, true, false) => "free, untouched",
+            (false, false, true) => "written over",
+            (false, false, false) => "live, untouched",
+        }
+    }
+}
+
+/// Something of places.
+type Places<T> = BTreeMap<Place, T>;

@@ -89,19 +89,6 @@ impl JobBuilder {
         let Reading { job, end, .. } = Reading::of(job);
         end.map(|()| job)
     }
-
-    /// The job of these bytes as far as its numbers can be told apart, whatever stands behind:
-    /// all parts that are whole, so that the patches before a refused one can be shown.
-    ///
-    /// ```
-    /// let bytes = std::fs::read("../examples/swap-full.job").unwrap();
-    /// let cut_off = parallel_moves::JobBuilder::from_bytes_in_part(&bytes[..45]);
-    /// assert_eq!(cut_off.patches(), 0);
-    /// ```
-    #[must_use]
-    pub fn from_bytes_in_part(job: &[u8]) -> Self {
-        Reading::of(job).job
-    }
 }
 
 /// How many patches a job's bytes say that it has. The patches themselves are not read, and

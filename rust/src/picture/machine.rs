@@ -22,9 +22,6 @@ pub(crate) enum Word {
     Nothing,
 }
 
-/// As many values that are one are named.
-const MOST_NAMES: usize = 3;
-
 /// What a patch says of its places and values.
 pub(crate) struct Sense<'a> {
     pub job: &'a JobBuilder,
@@ -160,9 +157,10 @@ impl<'a> Sense<'a> {
         if !self.is_needed(words) {
             return "-".to_owned();
         }
-        match words {
-            [Word::Of(value, 0), ..] if self.is_value(words) => return self.value_name(*value),
-            _ => {}
+        if let [Word::Of(value, 0), ..] = words
+            && self.is_value(words)
+        {
+            return self.value_name(*value);
         }
         if let Some(register) = self.register_of(words, place) {
             return format!("({register})");
@@ -171,18 +169,12 @@ impl<'a> Sense<'a> {
         names.join(" ")
     }
 
-    /// A value's name, and those of the ones that it is one with; of many the first two, and
-    /// how many more there are.
+    /// A value's name, and those of the ones that it is one with.
     fn value_name(&self, value: Value) -> String {
         let others = self.same.iter().filter(|(_, first)| **first == value);
         let mut names: Vec<String> = others.map(|(value, _)| format!("v{}", value.0)).collect();
         if names.is_empty() {
             names.push(format!("v{}", value.0));
-        }
-        if names.len() > MOST_NAMES {
-            let more = format!("+{}", names.len() - 2);
-            names.truncate(2);
-            names.push(more);
         }
         names.join("=")
     }
@@ -211,7 +203,7 @@ impl<'a> Sense<'a> {
 }
 
 /// A place by its code.
-pub(super) fn place(code: u32) -> Place {
+fn place(code: u32) -> Place {
     Allocation { code }.into()
 }
 

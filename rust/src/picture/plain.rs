@@ -2,157 +2,113 @@
 
 use std::fmt;
 
-use super::Picture;
-use super::blocks::{Block, MOST_EDITS};
-use super::legend::{Legend, WAITING, meaning};
-use super::rows::{Cell, Mark, Row};
+use super::{Cell, Mark, Picture};
 
 /// Lines are no longer, unless one column makes them so.
 const WIDTH: usize = 100;
+
+const LEGEND: &str = "\
+*   written by this edit           +   a value in its destination
+[]  a value on its way, in scratch {}  what a register held that is saved
+~   a register that is saved       ()  what a register or slot held before
+-   nothing that is needed
+";
 
 /// Prints the picture for a terminal: a line for each place, a column for each stop.
 impl fmt::Display for Picture {
     fn fmt(&self, f: &mut fmt::Formatter<'_>) -> fmt::Result {
         writeln!(f, "{}", self.title())?;
-        self.put_plain(f)?;
-        Legend::of([self]).put_plain(f)
-    }
-}
-
-impl Picture {
-    /// All but title and legend.
-    pub(super) fn put_plain(&self, f: &mut fmt::Formatter<'_>) -> fmt::Result {
-        self.put_plain_entries(f)?;
-        for block in self.blocks(MOST_EDITS) {
-            self.put_plain_block(f, &block)?;
+        for entry in &self.entries {
+            writeln!(f, "  {entry}")?;
         }
-        match self.quiet.line() {
-            Some(line) => writeln!(f, "\n{line}"),
-            None => Ok(()),
-        }
-    }
-
-    fn put_plain_entries(&self, f: &mut fmt::Formatter<'_>) -> fmt::Result {
-        match &self.groups[..] {
-            [] | [_] => {
-                for entry in &self.entries {
-                    writeln!(f, "  {entry}")?;
-                }
-            }
-            groups => {
-                for (number, group) in (1..).zip(groups) {
-                    writeln!(f, "  group {number}")?;
-                    for &entry in &group.entries {
-                        writeln!(f, "    {}", self.entries[entry])?;
-                    }
-                }
-            }
-        }
-        Ok(())
-    }
-
-    /// The columns beside each other, and below each other where there is no room.
-    fn put_plain_block(&self, f: &mut fmt::Formatter<'_>, block: &Block) -> fmt::Result {
-        if let Some(head) = self.block_head(block) {
-            write!(f, "\n{head}")?;
-        }
-        let rows: Vec<&Row> = block.rows.iter().map(|&row| &self.rows[row]).collect();
-        let names = rows.iter().map(|row| row.place.to_string());
-        let names = filled([String::new()].into_iter().chain(names).collect());
-        let mut columns = self.columns(block, &rows).into_iter().peekable();
+        let mut columns = self.columns().into_iter().peekable();
+        let names = self.names();
         while columns.peek().is_some() {
             writeln!(f)?;
             let mut lines = names.clone();
-            while let Some(next) = columns.next_if(|next| {
-                let width = lines[0].chars().count() + 3 + next[0].chars().count();
-                lines[0] == names[0] || width <= WIDTH
-            }) {
-                for (line, cell) in lines.iter_mut().zip(&next) {
+            loop {
+                let column: Vec<String> = columns.next().unwrap_or_default();
+                for (line, cell) in lines.iter_mut().zip(&column) {
                     *line += " | ";
                     *line += cell;
+                }
+                let Some(next) = columns.peek() else {
+                    break;
+                };
+                if lines[0].chars().count() + 3 + next[0].chars().count() > WIDTH {
+                    break;
                 }
             }
             for line in lines {
                 writeln!(f, "{}", line.trim_end())?;
             }
         }
-        Ok(())
+        if !self.quiet.is_empty() {
+            writeln!(f, "\nUntouched: {}", self.quiet.join(" "))?;
+        }
+        write!(f, "\n{LEGEND}")
+    }
+}
+
+impl Picture {
+    /// What it is a picture of.
+    pub(super) fn title(&self) -> String {
+        let (name, patch, edits) = (&self.name, self.patch, self.edits.len());
+        let edits = match edits {
+            1 => "1 edit".to_owned(),
+            edits => format!("{edits} edits"),
+        };
+        format!("{name}, patch {patch}: {edits}")
+    }
+
+    /// The column of the places.
+    fn names(&self) -> Vec<String> {
+        let names = self.rows.iter().map(|row| row.place.to_string());
+        filled([String::new()].into_iter().chain(names).collect())
     }
 
     /// The columns of the stops, each under its edit, what is wanted, and what became of
     /// the places.
-    fn columns(&self, block: &Block, rows: &[&Row]) -> Vec<Vec<String>> {
-        let mut columns = Vec::new();
-        for stop in block.stops() {
-            let head = match (stop == block.edits.start, stop) {
-                (true, 0) => "before".to_owned(),
-                (true, stop) => format!("after {stop}"),
-                (false, stop) => self.edits[stop - 1].to_string(),
-            };
-            let cells = rows.iter().map(|row| marked(&row.at(stop)));
-            columns.push(filled([head].into_iter().chain(cells).collect()));
-        }
-        let wanted = rows.iter().map(|row| row.wanted.clone());
+    fn columns(&self) -> Vec<Vec<String>> {
+        let edits = self.edits.iter().map(ToString::to_string);
+        let heads = ["before".to_owned()].into_iter().chain(edits);
+        let stops = heads.enumerate().map(|(stop, head)| {
+            let cells = self.rows.iter().map(|row| marked(&row.cells[stop]));
+            filled([head].into_iter().chain(cells).collect())
+        });
+        let wanted = self.rows.iter().map(|row| row.wanted.clone());
         let wanted = filled(["wanted".to_owned()].into_iter().chain(wanted).collect());
-        let fates = rows.iter().map(|row| row.fate);
-        let ends = wanted.into_iter().zip([""].into_iter().chain(fates));
-        let ends = ends.map(|(wanted, fate)| format!("{wanted} | {fate}"));
-        columns.push(filled(ends.collect()));
-        columns
+        let fates = self.rows.iter().map(|row| row.fate.clone());
+        let ends = wanted
+            .into_iter()
+            .zip([String::new()].into_iter().chain(fates));
+        let ends = filled(
+            ends.map(|(wanted, fate)| format!("{wanted} | {fate}"))
+                .collect(),
+        );
+        stops.chain([ends]).collect()
     }
 }
 
 /// What a cell holds, with its marks.
 fn marked(cell: &Cell) -> String {
-    let mut marks = String::new();
-    if cell.mark == Mark::Arrived {
-        marks.push('+');
-    }
+    let holds = &cell.holds;
+    let (mut text, mut marks) = match cell.mark {
+        Mark::Scratch => (format!("[{holds}]"), String::new()),
+        Mark::Saved => (format!("{{{holds}}}"), String::new()),
+        Mark::Arrived => (holds.clone(), "+".to_owned()),
+        _ => (holds.clone(), String::new()),
+    };
     if cell.written {
         marks.push('*');
     }
     if cell.waiting {
         marks.push('~');
     }
-    let text = framed(cell.mark, &cell.holds);
-    match marks.is_empty() {
-        true => text,
-        false => format!("{text} {marks}"),
+    if !marks.is_empty() {
+        text = format!("{text} {marks}");
     }
-}
-
-/// What a cell holds, as its mark has it.
-fn framed(mark: Mark, holds: &str) -> String {
-    match mark {
-        Mark::Scratch => format!("[{holds}]"),
-        Mark::Saved => format!("{{{holds}}}"),
-        _ => holds.to_owned(),
-    }
-}
-
-impl Legend {
-    /// What occurs, a line for each.
-    pub(super) fn put_plain(&self, f: &mut fmt::Formatter<'_>) -> fmt::Result {
-        let marks = self.marks().filter_map(|(mark, holds)| match mark {
-            Mark::Scratch | Mark::Saved => Some((framed(mark, holds), meaning(mark).to_owned())),
-            Mark::Arrived => Some(("+".to_owned(), meaning(mark).to_owned())),
-            _ => None,
-        });
-        let waiting = self
-            .waiting
-            .iter()
-            .map(|_| ("~".to_owned(), WAITING.to_owned()));
-        let mut signs = self.signs().cloned().peekable();
-        let written = signs.peek().is_some();
-        let written = written.then(|| ("*".to_owned(), "written by the edit above".to_owned()));
-        let keys = written.into_iter().chain(marks).chain(waiting).chain(signs);
-        let (shown, meant): (Vec<String>, Vec<String>) = keys.unzip();
-        writeln!(f)?;
-        for (shown, meaning) in filled(shown).into_iter().zip(meant) {
-            writeln!(f, "{shown}  {meaning}")?;
-        }
-        Ok(())
-    }
+    text
 }
 
 /// The column with all its cells as wide as the widest.

@@ -144,7 +144,6 @@ fn endless_input() {
         "try --seed 1 --patches 1 --prices 1,2,3,4",
         "text",
         "show",
-        "show --all",
     ] {
         for (words, input) in [
             (
@@ -255,7 +254,6 @@ fn one_for_the_other() {
         "try --seed 1 --patches 1 --prices 1,2,3,4",
         "text",
         "show",
-        "show --all",
     ] {
         let output = run(&format!("{words} {text}"));
         let said = String::from_utf8(output.stderr).unwrap();

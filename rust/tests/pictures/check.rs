@@ -4,7 +4,7 @@ use std::collections::BTreeSet;
 
 use parallel_moves::Edit;
 
-use crate::common::machine::{Machine, Place};
+use crate::common::machine::Place;
 use crate::job::Job;
 use crate::meant::{Meant, OF_NONE};
 
@@ -19,7 +19,7 @@ pub struct Cell {
 }
 
 /// What stands between two texts.
-pub fn between<'a>(text: &'a str, start: &str, end: &str) -> &'a str {
+fn between<'a>(text: &'a str, start: &str, end: &str) -> &'a str {
     let (_, rest) = text.split_once(start).unwrap();
     rest.split_once(end).unwrap().0
 }
@@ -60,63 +60,43 @@ fn named(name: &str) -> Option<Place> {
     }
 }
 
-/// A patch of a job while its edits are done.
-struct Course<'a> {
-    job: &'a Job,
-    meant: Meant<'a>,
-    edits: &'a [Edit],
-    stops: Vec<Machine>,
-    /// The registers that are saved at a stop, with their slots.
-    saved: Vec<Vec<(Place, Place)>>,
-}
-
-impl<'a> Course<'a> {
-    fn of(job: &'a Job, number: usize, edits: &'a [Edit]) -> Self {
-        let meant = Meant::of(job, &job.patches[number - 1]);
-        let mut stops = vec![meant.start()];
-        let mut saved = vec![Vec::new()];
-        for &edit in edits {
-            let mut machine = stops.last().unwrap().clone();
-            machine.step(edit, &|value| meant.content(u32::from(value)));
-            stops.push(machine);
-            let mut now: Vec<(Place, Place)> = saved.last().unwrap().clone();
-            match edit {
-                Edit::EmergencySpill { to, from } => now.push((from.into(), to.into())),
-                Edit::EmergencyReload { to, .. } => now.retain(|&(of, _)| of != to.into()),
-                _ => {}
-            }
-            saved.push(now);
+/// Holds a page against the edits that it shows: how many cells it has.
+pub fn check(page: &str, job: &Job, number: usize, edits: &[Edit]) -> usize {
+    let meant = Meant::of(job, &job.patches[number - 1]);
+    let mut stops = vec![meant.start()];
+    // The registers that are saved at a stop, with their slots.
+    let mut saved = vec![Vec::<(Place, Place)>::new()];
+    for &edit in edits {
+        let mut machine = stops.last().unwrap().clone();
+        machine.step(edit, &|value| meant.content(u32::from(value)));
+        stops.push(machine);
+        let mut now = saved.last().unwrap().clone();
+        match edit {
+            Edit::EmergencySpill { to, from } => now.push((from.into(), to.into())),
+            Edit::EmergencyReload { to, .. } => now.retain(|&(of, _)| of != to.into()),
+            _ => {}
         }
-        Course {
-            job,
-            meant,
-            edits,
-            stops,
-            saved,
-        }
+        saved.push(now);
     }
-
-    /// What a place, or a unit, holds at a stop.
-    fn held(&self, name: &str, stop: usize) -> Vec<u32> {
-        let machine = &self.stops[stop];
-        match named(name) {
+    let first_written = |place| {
+        let mut writes = edits.iter().map(|&edit| ends(edit).0);
+        writes.position(|to| job.overlap(to, place))
+    };
+    let last_read = |place| {
+        let mut reads = edits.iter().map(|&edit| ends(edit).1);
+        reads.rposition(|from| from.is_some_and(|from| job.overlap(from, place)))
+    };
+    let mut shown = BTreeSet::new();
+    let cells = cells(page);
+    for cell in &cells {
+        let (name, stop) = (&cell.place, cell.stop);
+        let machine = &stops[stop];
+        let held = match named(name) {
             Some(place) => machine.read(place),
             None => vec![machine.units[name[1..].parse::<usize>().unwrap()]],
-        }
-    }
-
-    fn is_written(&self, index: usize, place: Place) -> bool {
-        self.job.overlap(ends(self.edits[index]).0, place)
-    }
-
-    fn is_read(&self, index: usize, place: Place) -> bool {
-        let from = ends(self.edits[index]).1;
-        from.is_some_and(|from| self.job.overlap(from, place))
-    }
-
-    fn check_holds(&self, cell: &Cell) {
-        let held = self.held(&cell.place, cell.stop);
-        let said = self.meant.said(&cell.holds);
+        };
+        shown.insert((name.clone(), stop));
+        let said = meant.said(&cell.holds);
         let same = |(held, said): (&u32, &Option<u32>)| match said {
             Some(said) => held == said,
             None => *held >= OF_NONE,
@@ -126,129 +106,75 @@ impl<'a> Course<'a> {
             _ => held.len() == said.len() && held.iter().zip(&said).all(same),
         };
         assert!(right, "{cell:?}: {held:?}");
-    }
-
-    fn check_marks(&self, cell: &Cell, place: Place) {
-        let (stop, held) = (cell.stop, self.held(&cell.place, cell.stop));
+        let Some(place) = named(name) else {
+            continue;
+        };
         let has = |class: &str| cell.classes.contains(class);
-        let written = stop > 0 && self.is_written(stop - 1, place);
+        let last = stop.checked_sub(1).map(|index| ends(edits[index]).0);
+        let written = last.is_some_and(|to| job.overlap(to, place));
         assert_eq!(has("written"), written, "{cell:?}");
-        let now = &self.saved[stop];
+        let now = &saved[stop];
         assert_eq!(has("saved"), now.iter().any(|&(_, to)| to == place));
-        let waits = now.iter().any(|&(of, _)| self.job.overlap(of, place));
+        let waits = now.iter().any(|&(of, _)| job.overlap(of, place));
         assert_eq!(cell.waits, waits, "{cell:?}");
-        let touched = (0..stop).any(|index| self.is_written(index, place));
-        let mut dests = self.meant.dests();
-        let arrived = dests.any(|(to, value)| to == place && held == self.meant.content(value));
+        let touched = first_written(place).is_some_and(|index| index < stop);
+        let mut dests = meant.dests();
+        let arrived = dests.any(|(to, value)| to == place && held == meant.content(value));
         if !has("saved") {
             assert_eq!(has("arrived"), touched && arrived, "{cell:?}");
         }
         // A value is on its way where it was put, and is read again.
+        let is_value = meant.dests().any(|(_, value)| held == meant.content(value));
         if has("scratch") {
-            let mut dests = self.meant.dests();
-            let is_value = dests.any(|(_, value)| held == self.meant.content(value));
-            let is_read = (stop..self.edits.len()).any(|index| self.is_read(index, place));
-            assert!(touched && is_value && is_read, "{cell:?}");
+            assert!(touched && is_value, "{cell:?}");
+            assert!(
+                last_read(place).is_some_and(|index| index >= stop),
+                "{cell:?}"
+            );
         }
     }
-
-    /// What an edit reads or writes is shown before and after it, and so is each other place
-    /// that has a row and changes.
-    fn check_shown(&self, shown: &BTreeSet<(String, usize)>) {
-        let names: BTreeSet<&String> = shown.iter().map(|(name, _)| name).collect();
-        for (index, &edit) in self.edits.iter().enumerate() {
-            let (to, from) = ends(edit);
-            for place in [Some(to), from].into_iter().flatten() {
-                for stop in [index, index + 1] {
-                    assert!(shown.contains(&(place.to_string(), stop)), "{place} {stop}");
-                }
-            }
-            for name in &names {
-                let changes = self.held(name, index) != self.held(name, index + 1);
-                let is_shown = shown.contains(&(name.to_string(), index + 1));
-                assert!(!changes || is_shown, "{name} {index}");
-            }
+    // Each place of an entry or an edit is shown at every stop, and each other unit and
+    // slot is, or is said to be untouched.
+    let entries = job.patches[number - 1].entries.iter();
+    let of_entries = entries.flat_map(|&(from, to, _)| [from, Some(to)]);
+    let of_edits = edits
+        .iter()
+        .flat_map(|&edit| [Some(ends(edit).0), ends(edit).1]);
+    for place in of_entries.chain(of_edits).flatten() {
+        for stop in 0..=edits.len() {
+            assert!(shown.contains(&(place.to_string(), stop)), "{place} {stop}");
         }
     }
-
-    /// Each unit and slot has a row, or is said to stay as it is: as many places as are said.
-    fn check_quiet(&self, page: &str, shown: &BTreeSet<(String, usize)>) {
-        let (count, quiet) = quiet(page);
-        assert_eq!(count, quiet.len());
-        for place in quiet.iter().filter_map(|name| named(name)) {
-            let mut edits = 0..self.edits.len();
-            let is_touched = |index| self.is_written(index, place) || self.is_read(index, place);
-            assert!(!edits.any(is_touched), "{place}");
-        }
-        let rows: BTreeSet<&str> = shown.iter().map(|(name, _)| &name[..]).collect();
-        assert!(quiet.iter().all(|name| !rows.contains(&name[..])));
-        let all: BTreeSet<&str> = rows
-            .into_iter()
-            .chain(quiet.iter().map(|name| &name[..]))
-            .collect();
-        let units: BTreeSet<usize> = all
-            .iter()
-            .flat_map(|name| match named(name) {
-                Some(place) => self.job.units(place).to_vec(),
-                None => vec![name[1..].parse().unwrap()],
-            })
-            .collect();
-        let mut of_registers = self.job.registers.iter().flat_map(|one| &one.units);
-        assert!(of_registers.all(|unit| units.contains(unit)));
-        assert!((0..self.job.slots).all(|slot| all.contains(&format!("s{slot}")[..])));
+    let quiet = match page.contains("untouched: <code>") {
+        true => between(page, "untouched: <code>", "</code>"),
+        false => "",
+    };
+    for place in quiet.split_whitespace().filter_map(named) {
+        assert!(edits.iter().all(|&edit| !job.overlap(ends(edit).0, place)));
+        assert!(!shown.contains(&(place.to_string(), 0)));
     }
-
-    /// In the end each destination has its value, and it is said to be wanted there.
-    fn check_wanted(&self, page: &str) {
-        for (to, value) in self.meant.dests() {
-            let content = self.meant.content(value);
-            assert_eq!(self.stops[self.edits.len()].read(to), content);
-            let wanted = format!("<text class=\"wanted middle\" data-place=\"{to}\"");
-            let label = between(between(page, &wanted, "/text>"), ">", "<");
-            let said: Option<Vec<u32>> = self.meant.said(label).into_iter().collect();
-            assert_eq!(said, Some(content));
-        }
+    let rows = shown
+        .iter()
+        .filter(|(_, stop)| *stop == 0)
+        .map(|(name, _)| name.as_str());
+    let all: BTreeSet<&str> = rows.chain(quiet.split_whitespace()).collect();
+    let units: BTreeSet<usize> = all
+        .iter()
+        .flat_map(|name| match named(name) {
+            Some(place) => job.units(place).to_vec(),
+            None => vec![name[1..].parse().unwrap()],
+        })
+        .collect();
+    let of_registers = job.registers.iter().flat_map(|register| &register.units);
+    assert!(of_registers.copied().all(|unit| units.contains(&unit)));
+    assert!((0..job.slots).all(|slot| all.contains(&format!("s{slot}")[..])));
+    // In the end each destination has its value, and it is said to be wanted there.
+    for (to, value) in meant.dests() {
+        assert_eq!(stops[edits.len()].read(to), meant.content(value));
+        let wanted = format!("<text class=\"wanted middle\" data-place=\"{to}\"");
+        let label = between(between(page, &wanted, "/text>"), ">", "<");
+        let said: Option<Vec<u32>> = meant.said(label).into_iter().collect();
+        assert_eq!(said, Some(meant.content(value)));
     }
-}
-
-/// How many places are said to stay as they are, and their names.
-pub fn quiet(page: &str) -> (usize, Vec<String>) {
-    if !page.contains("<p class=\"quiet\">") {
-        return (0, Vec::new());
-    }
-    let said = between(page, "<p class=\"quiet\">", "</p>");
-    let count = said.split(' ').next().unwrap().parse().unwrap();
-    let lists = said.split("<code>").skip(1);
-    let lists = lists.map(|list| list.split_once("</code>").unwrap().0);
-    let mut names = Vec::new();
-    for run in lists.flat_map(|list| list.split(", ")) {
-        match run.split_once(" to ") {
-            None => names.push(run.to_owned()),
-            Some((first, last)) => {
-                let number = |name: &str| name[1..].parse::<u32>().unwrap();
-                assert_eq!(first[..1], last[..1]);
-                assert!(number(first) + 1 < number(last));
-                let numbers = number(first)..=number(last);
-                names.extend(numbers.map(|number| format!("{}{number}", &first[..1])));
-            }
-        }
-    }
-    (count, names)
-}
-
-/// Holds a page against the edits that it shows: how many cells it has.
-pub fn check(page: &str, job: &Job, number: usize, edits: &[Edit]) -> usize {
-    let course = Course::of(job, number, edits);
-    let (mut shown, cells) = (BTreeSet::new(), cells(page));
-    for cell in &cells {
-        shown.insert((cell.place.clone(), cell.stop));
-        course.check_holds(cell);
-        if let Some(place) = named(&cell.place) {
-            course.check_marks(cell, place);
-        }
-    }
-    course.check_shown(&shown);
-    course.check_quiet(page, &shown);
-    course.check_wanted(page);
     cells.len()
 }

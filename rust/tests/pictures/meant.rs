@@ -1,6 +1,6 @@
 //! What a patch means: what its values are, and what is held at the start.
 
-use std::collections::{BTreeMap, BTreeSet};
+use std::collections::BTreeMap;
 
 use crate::common::machine::{Machine, Place};
 use crate::job::{Job, Patch};
@@ -88,26 +88,6 @@ impl<'a> Meant<'a> {
         machine
     }
 
-    /// The content of values that are said to be one. Of many two are named, and how many more
-    /// there are.
-    fn content_of_all(&self, names: &str) -> Vec<u32> {
-        let (names, more) = match names.split_once("=+") {
-            Some((names, more)) => (names, more.parse().unwrap()),
-            None => (names, 0),
-        };
-        let values = names.split('=').map(|name| name[1..].parse().unwrap());
-        let values: Vec<u32> = values.collect();
-        let content = self.content(values[0]);
-        assert!(values.iter().all(|&value| self.content(value) == content));
-        let same = self.patch.entries.iter().map(|&(_, _, value)| value);
-        let same: BTreeSet<u32> = same.filter(|&one| self.content(one) == content).collect();
-        assert!(
-            more == 0 || more + 2 == same.len(),
-            "{names} {more} {same:?}"
-        );
-        content
-    }
-
     /// The words that a cell says a place holds: none for one that nobody needs.
     pub fn said(&self, label: &str) -> Vec<Option<u32>> {
         let words = label.split(' ').flat_map(|name| {
@@ -129,7 +109,9 @@ impl<'a> Meant<'a> {
                     Some((values, index)) => (values, Some(index.parse::<usize>().unwrap())),
                     None => (name, None),
                 };
-                let content = self.content_of_all(values);
+                let mut contents = values.split('=').map(|value| self.content(number(value)));
+                let content = contents.next().unwrap();
+                assert!(contents.all(|other| other == content), "{label}");
                 match index {
                     Some(index) => vec![content[index]],
                     None => content,

@@ -21,8 +21,6 @@ pub struct Command {
 pub enum Run {
     /// Once.
     Once(fn(&Given) -> Outcome),
-    /// Once, and it prints and says all itself: the exit status.
-    Alone(fn(&Given) -> u8),
     /// Once for each job that is given.
     Each(Each),
 }
@@ -163,7 +161,7 @@ impl Command {
     /// The options, those of all commands for each job included.
     pub fn all_options(&self) -> impl Iterator<Item = &Opt> {
         let of_each: &[Opt] = match self.run {
-            Run::Once(_) | Run::Alone(_) => &[],
+            Run::Once(_) => &[],
             Run::Each(_) => given::OF_EACH,
         };
         self.options.iter().chain(of_each)
@@ -177,7 +175,7 @@ impl Command {
             .map(|line| format!("    {line}\n"))
             .collect();
         let files = match self.run {
-            Run::Once(_) | Run::Alone(_) => String::new(),
+            Run::Once(_) => String::new(),
             Run::Each(Each { kind, writes, .. }) => {
                 let reads = kind.ending();
                 format!("    Of a folder *.{reads} are read; --to makes *.{writes}.\n")

@@ -95,7 +95,7 @@ impl Kind {
 }
 
 /// What is named, or standard input.
-pub fn sources(given: &Given, ending: &str) -> Result<Vec<Source>, Failure> {
+fn sources(given: &Given, ending: &str) -> Result<Vec<Source>, Failure> {
     if given.words.is_empty() {
         return Ok(vec![Source::StandardInput]);
     }
@@ -244,7 +244,7 @@ impl<'a> Work<'a> {
     }
 }
 
-pub fn remove(path: &Path) -> io::Result<()> {
+fn remove(path: &Path) -> io::Result<()> {
     match fs::remove_file(path) {
         Err(error) if error.kind() != io::ErrorKind::NotFound => Err(error),
         _ => Ok(()),
@@ -252,7 +252,7 @@ pub fn remove(path: &Path) -> io::Result<()> {
 }
 
 /// The name of the file that a result is written to, but for its ending.
-pub fn file_name(source: &Source) -> OsString {
+fn file_name(source: &Source) -> OsString {
     let name = match source {
         Source::StandardInput => None,
         Source::File(path) => path.file_name(),
@@ -261,7 +261,7 @@ pub fn file_name(source: &Source) -> OsString {
 }
 
 /// Whether no two results go to one file.
-pub fn distinct(sources: &[Source]) -> Result<(), Failure> {
+fn distinct(sources: &[Source]) -> Result<(), Failure> {
     let mut seen = BTreeMap::new();
     for source in sources {
         let stem = Path::new(&file_name(source)).with_extension("");

@@ -67,7 +67,6 @@ fn run(words: &[OsString]) -> u8 {
         Err(failure) => end(Err(failure)),
         Ok(given) => match command.run {
             Run::Once(run) => end(run(&given)),
-            Run::Alone(run) => run(&given),
             Run::Each(each) => jobs::run_each(&given, each),
         },
     }
