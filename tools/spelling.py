@@ -1,7 +1,7 @@
 #!/usr/bin/env python3
 """Brings the names of definitions and lemmas to today's spelling: snake case for what is no type and no module.
 
-usage: tools/spelling.py          in the repository, once, behind /opt/rattle/port/port.py: rewrites the .rt and .antt files of crates/
+usage: tools/spelling.py          in the repository, once, behind the kit's port.py: rewrites the .rt and .antt files of crates/
        tools/spelling.py names    prints each old name beside its new one
 
 A name that begins with a small letter and has a capital behind a small letter or a digit is respelled, wherever it stands outside a string. Names of

@@ -7,7 +7,7 @@ ghost use Rattle.arguments.specs.Number.{stepped, number_in, narrowed};
 use std::env::FillError;
 use std::rt::Env;
 
-// How many words a program is given, its own name counted.
+// How many words a program is given, its own name counted. It promises nothing, since no contract can say what a program is given.
 pub fn count<E: Env>(rt: &E) -> usize {
     for i in 0..usize::MAX {
         if let Err(FillError::NotPresent) = rt.arg(i, &mut []) {
