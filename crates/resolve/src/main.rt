@@ -7,7 +7,7 @@ ghost use Rattle.std.specs.Prelude.{◌≡◌, length};
 ghost use Rattle.entity.specs.Logic.{Anything};
 ghost use Rattle.job_text.specs.Standing.{Stands, Piece};
 ghost use Rattle.resolve.specs.Setting.{setting_of, setting_from};
-ghost use Rattle.resolve.specs.Moving.{WroteOn, AllWritten};
+ghost use Rattle.resolve.specs.Moving.{WroteOn, AllWritten, PieceOn, TextOn};
 
 use carried::Carried;
 use edit::Edits;
@@ -76,7 +76,8 @@ fn write_piece<W: io::Write>(
     p: Progress,
 ) -> Write
     requires { Piece kept_evictions s.now out.now p }
-    ensures { WroteOn p result }
+    ensures emptied { WroteOn p result }
+    ensures written { PieceOn (W.contents to.old) (W.contents to.new) out.now p result }
 {
     let n = p.held;
     match streams::write_all(to, &out[..n]) {
@@ -110,6 +111,7 @@ fn write_text<W: io::Write>(
 ) -> Written
     requires { Stands kept_evictions t.now f.now s.now cache.old out.old from × (length out.old ≡ 86016) }
     ensures all_written { AllWritten kept_evictions s.now result }
+    ensures written { TextOn (W.contents to.old) (W.contents to.new) kept_evictions from.written s.now result }
     ensures anything { Anything cache.new × Anything list.new × Anything free.new × Anything e.new × Anything w.new × Anything available.new × Anything sources.new × Anything edits.new × Anything slots.new × Anything d.new × Anything marks.new × Anything c.new × Anything out.new }
 {
     let mut p = from;
@@ -159,6 +161,7 @@ fn answer<W: io::Write>(
 ) -> Written
     requires { length out.old ≡ 86016 }
     ensures all_written { AllWritten kept_evictions s.now result }
+    ensures written { TextOn (W.contents to.old) (W.contents to.new) kept_evictions 0 s.now result }
     ensures anything { Anything t.new × Anything f.new × Anything cache.new × Anything list.new × Anything free.new × Anything e.new × Anything w.new × Anything available.new × Anything sources.new × Anything edits.new × Anything slots.new × Anything d.new × Anything marks.new × Anything c.new × Anything out.new }
 {
     let p = job_text::start(kept_evictions, s, t, f, cache, out);

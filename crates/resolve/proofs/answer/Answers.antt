@@ -6,4 +6,4 @@ pub write_text-requires : goal.write_text-requires
 write_text-requires g c = let p = c.start-p in (p.ensures.0, p.auto.out ∙ c.requires)
 
 pub returns : goal.returns
-returns g c = record { all_written = c.write_text.ensures.all_written; anything = (tt, tt, tt, tt, tt, tt, tt, tt, tt, tt, tt, tt, tt, tt, tt) }
+returns g c = record { all_written = c.write_text.ensures.all_written; written = rw c.start-p.ensures.1 at c.write_text.ensures.written; anything = (tt, tt, tt, tt, tt, tt, tt, tt, tt, tt, tt, tt, tt, tt, tt) }
