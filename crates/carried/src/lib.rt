@@ -6,22 +6,14 @@ ghost use Rattle.std.specs.Prelude.{◌≡◌, [], ◌∷◌, ◌++◌, ℕ, ◌
 ghost use Rattle.entity.specs.Logic.{pick, and, has};
 ghost use Rattle.carried.specs.Carried.{count_of, move_at, value_at, carried_by};
 
-use entity::{Value, narrow, wide};
+use entity::Value;
 
 pub type Carried = [u16; 2049];
-
-// It does nothing: a call tells the length of the table that is passed.
-fn told(c: [u16; 2049]) -> bool
-    ensures { length c ≡ 2049 }
-{
-    true
-}
 
 // Nothing is carried. What the table held does not matter.
 pub fn clear(c: &mut Carried)
     ensures { (count_of c.new ≡ 0) × ((m : ℕ) → carried_by c.new m ≡ []) }
 {
-    told(*c);
     c[2048] = 0;
 }
 
@@ -29,7 +21,7 @@ pub fn clear(c: &mut Carried)
 pub fn len(c: &Carried) -> usize
     ensures { result ≡ count_of c.now }
 {
-    wide(c[2048])
+    usize::from(c[2048])
 }
 
 // The move of row i.
@@ -37,7 +29,7 @@ pub fn row_move(c: &Carried, i: usize) -> usize
     requires { i < 1024 }
     ensures { result ≡ move_at c.now i }
 {
-    wide(c[i * 2])
+    usize::from(c[i * 2])
 }
 
 // The value of row i.
@@ -57,7 +49,7 @@ fn row_is(c: &Carried, i: usize, m: usize, v: Value) -> bool
         return false;
     }
     let x = row_value(c, i);
-    v.0 == x.0
+    v == x
 }
 
 // Whether the move m carries the value. Asked before a row is added, since a writer counts once, however many units of the source it writes.
@@ -65,14 +57,11 @@ pub fn carries(c: &Carried, m: usize, v: Value) -> bool
     requires { count_of c.now ≤ 1024 }
     ensures { result ≡ has v.0 (carried_by c.now m) }
 {
-    let mut i: usize = 0;
-    let mut left = len(c);
-    while 0 < left {
+    let n = len(c);
+    for i in 0..n {
         if row_is(c, i, m, v) {
             return true;
         }
-        i += 1;
-        left -= 1;
     }
     false
 }
@@ -82,9 +71,8 @@ pub fn add(c: &mut Carried, m: usize, v: Value)
     requires { (count_of c.old < 1024) × (m < 128) }
     ensures { (count_of c.new ≡ count_of c.old + 1) × ((x : ℕ) → carried_by c.new x ≡ pick (eqb x m) (carried_by c.old m ++ (v.0 ∷ [])) (carried_by c.old x)) }
 {
-    told(*c);
-    let n = wide(c[2048]);
-    c[n * 2] = narrow(m);
+    let n = usize::from(c[2048]);
+    c[n * 2] = m as u16;
     c[1 + n * 2] = v.0;
-    c[2048] = narrow(n + 1);
+    c[2048] = (n + 1) as u16;
 }

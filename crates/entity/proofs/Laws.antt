@@ -10,7 +10,11 @@ use lib.ListN.{get_or, length, drop, length-map}
 use lib.Seq.{drop-cons}
 use borrow.Author.Tests.{lt-ltb, le-ltb, eq-eqb, ne_eqb, eqb-true, eqb-false, ltb-true, ltb-false}
 use Rattle.entity.specs.Logic.{pick, and, or, no, any_in, all_in, has, meets, last_or, indices, cells}
-use Rattle.entity.specs.Place.{Place, reg, slot, code_of, place_at, reg_unit, slot_unit, unit_code, unit_at}
+use Rattle.std.specs.Prelude as std
+use Rattle.std.specs.Prelude.{Some, None, is_some, min, max}
+use Rattle.std.proofs.Math.Option.{Option, some, none}
+use Rattle.entity.specs.declared.AllocationKind.{AllocationKind}
+use Rattle.entity.specs.Place.{Place, reg, slot, code_of, place_at, place_of, named_of, names, read_place, reg_unit, slot_unit, unit_code, unit_at}
 
 -- what a test says of its parts
 pub or-false : (a b : Bool) → or a b ≡ false → (a ≡ false) × (b ≡ false)
@@ -201,3 +205,32 @@ pub meets-comm : (l m : List ℕ) → meets l m ≡ meets m l
 unfolding meets
 meets-comm [] m = sym (meets-nil m)
 meets-comm (x ∷ l) m = ap (or (has x m)) (meets-comm l m) ∙ sym (meets-cons x m l)
+
+-- a code names something exactly when its place is one of the first registers or slots
+some-picked : (b : Bool) (p q : Place) → some p ≡ pick b (some q) none → true ≡ b
+some-picked true p q e = refl
+some-picked false p q e = cc
+
+none-picked : (b : Bool) (q : Place) → none ≡ pick b (some q) none → false ≡ b
+none-picked true q e = cc
+none-picked false q e = refl
+
+pub is-named : (regs slots c : ℕ) (r : std.Option AllocationKind) → named_of r ≡ read_place regs slots c → is_some r ≡ names regs slots (place_at c)
+unfolding read_place
+is-named regs slots c (Some k) e = some-picked (names regs slots (place_at c)) (place_of k) (place_at c) e
+is-named regs slots c None e = none-picked (names regs slots (place_at c)) (place_at c) e
+
+-- what std's `min` and `max` give, as the definitions say it
+pub least : (a b : ℕ) → min a b ≡ pick (ltb a b) a b
+least a b = go (ltb a b) refl
+  where
+    go : (p : Bool) → ltb a b ≡ p → min a b ≡ pick p a b
+    go true e = omega (arith, ltb-true a b e)
+    go false e = omega (arith, ltb-false a b e)
+
+pub greatest : (a b : ℕ) → max a b ≡ pick (ltb a b) b a
+greatest a b = go (ltb a b) refl
+  where
+    go : (p : Bool) → ltb a b ≡ p → max a b ≡ pick p b a
+    go true e = omega (arith, ltb-true a b e)
+    go false e = omega (arith, ltb-false a b e)

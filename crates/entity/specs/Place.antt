@@ -1,15 +1,12 @@
 -- 01, Places. A place is a register or a spill slot; units have one numbering over both.
-use Rattle.std.specs.Prelude.{ℕ, ◌+◌, ◌-◌, ◌*◌, ◌/◌, ◌%◌, Bool, false, eqb, ltb}
+use Rattle.std.specs.Prelude.{ℕ, ◌+◌, ◌-◌, ◌*◌, ◌/◌, ◌%◌, Bool, false, eqb, ltb, Some, None}
+use Rattle.std.specs.Prelude as std
 use Rattle.std.proofs.Math.Option.{Option, none, some}
 use Rattle.entity.specs.Logic.{pick}
-use Rattle.entity.specs.declared.PhysReg.{PhysReg}
-use Rattle.entity.specs.declared.SpillSlot.{SpillSlot}
 use Rattle.entity.specs.declared.AllocationKind as AK
 use Rattle.entity.specs.declared.AllocationKind.{AllocationKind}
 use Rattle.entity.specs.declared.AllocationUnitKind as UK
 use Rattle.entity.specs.declared.AllocationUnitKind.{AllocationUnitKind}
-use Rattle.entity.specs.declared.Named as NM
-use Rattle.entity.specs.declared.Named.{Named}
 
 -- 01: "A place is a register or a spill slot."
 pub data Place : Type 0 where
@@ -60,7 +57,7 @@ abbrev pub unit_of : AllocationUnitKind → PlaceUnit
 unit_of (UK.TheVariants.Reg u) = reg_unit u.0
 unit_of (UK.TheVariants.SpillSlot s) = slot_unit s.0
 
-abbrev pub named_of : Named → Option Place
-named_of (NM.TheVariants.PhysReg r) = some (reg r.0)
-named_of (NM.TheVariants.SpillSlot s) = some (slot s.0)
-named_of NM.TheVariants.Nothing = none
+-- what a code from outside names: a place, or nothing
+abbrev pub named_of : std.Option AllocationKind → Option Place
+named_of (Some k) = some (place_of k)
+named_of None = none

@@ -5,55 +5,32 @@ ghost use Rattle.std.specs.Prelude.{◌≡◌, ◌<◌, ◌+◌, ◌*◌};
 ghost use Rattle.entity.specs.Place.{reg, slot, code_of, place_at, read_place, place_of, named_of, unit_at, unit_of, unit_code, reg_unit, slot_unit};
 
 // One number each, so that no two numberings are mixed up.
-#[derive(Clone, Copy)]
+#[derive(Clone, Copy, PartialEq, Eq)]
 pub struct RegUnit(pub u16);
 
-#[derive(Clone, Copy)]
+#[derive(Clone, Copy, PartialEq, Eq)]
 pub struct PhysReg(pub u16);
 
-#[derive(Clone, Copy)]
+#[derive(Clone, Copy, PartialEq, Eq)]
 pub struct SpillSlot(pub u16);
 
-#[derive(Clone, Copy)]
+#[derive(Clone, Copy, PartialEq, Eq)]
 pub struct Value(pub u16);
 
-#[derive(Clone, Copy)]
+#[derive(Clone, Copy, PartialEq, Eq)]
 pub struct RegClass(pub u16);
 
-#[derive(Clone, Copy)]
+#[derive(Clone, Copy, PartialEq, Eq)]
 pub struct RegBank(pub u16);
 
-// A cell of a table as an index.
-pub fn wide(x: u16) -> usize
-    ensures { (result ≡ x) × (result < 65536) }
-{
-    x as usize
-}
-
-// An index as a cell of a table.
-pub fn narrow(x: usize) -> u16
-    requires { x < 65536 }
-    ensures { result ≡ x }
-{
-    x as u16
-}
-
 // 01: a place. The number is its place code.
-#[derive(Clone, Copy)]
+#[derive(Clone, Copy, PartialEq, Eq)]
 pub struct Allocation(pub u16);
 
 #[derive(Drop)]
 pub enum AllocationKind {
     PhysReg(PhysReg),
     SpillSlot(SpillSlot),
-}
-
-// What a place code from outside names.
-#[derive(Drop)]
-pub enum Named {
-    PhysReg(PhysReg),
-    SpillSlot(SpillSlot),
-    Nothing,
 }
 
 impl Allocation {
@@ -85,25 +62,25 @@ impl Allocation {
     }
 
     // The place of a code from outside, of `regs` registers and `slots` slots; what names nothing is refused.
-    pub fn read(code: u32, regs: u16, slots: u16) -> Named
+    pub fn read(code: u32, regs: u16, slots: u16) -> Option<AllocationKind>
         ensures { named_of result ≡ read_place regs slots code }
     {
         let i = code / 2;
         if code % 2 == 1 {
             if i < regs as u32 {
-                return Named::PhysReg(PhysReg(i as u16));
+                return Some(AllocationKind::PhysReg(PhysReg(i as u16)));
             }
-            return Named::Nothing;
+            return None;
         }
         if i < slots as u32 {
-            return Named::SpillSlot(SpillSlot(i as u16));
+            return Some(AllocationKind::SpillSlot(SpillSlot(i as u16)));
         }
-        Named::Nothing
+        None
     }
 }
 
 // A register unit or a spill slot as one number, for a table over all units.
-#[derive(Clone, Copy)]
+#[derive(Clone, Copy, PartialEq, Eq)]
 pub struct AllocationUnit(pub u16);
 
 #[derive(Drop)]

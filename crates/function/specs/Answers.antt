@@ -1,12 +1,12 @@
 -- What the enums of the code stand for.
-use Rattle.std.specs.Prelude.{ℕ}
+use Rattle.std.specs.Prelude.{ℕ, Result, Ok, Err, ⊤}
 use Rattle.std.proofs.Math.Option.{Option, none, some}
 use Rattle.entity.specs.Logic.{pick}
 use Rattle.function.specs.Function.{Function, remat_cost, remat_class, can_rematerialize}
 use Rattle.function.specs.declared.Remat.{Remat}
 use Rattle.function.specs.declared.Remat.TheVariants.{Never, CheaperThanMove, CheaperThanLoad}
-use Rattle.function.specs.declared.FunctionCheck.{FunctionCheck}
-use Rattle.function.specs.declared.FunctionCheck.TheVariants.{Accepted, OtherSetting, OutsideLimits, ForeignClass}
+use Rattle.function.specs.declared.FunctionError.{FunctionError}
+use Rattle.function.specs.declared.FunctionError.TheVariants.{OtherSetting, OutsideLimits, ForeignClass}
 
 -- 01's code and the class
 pub record RematData : Type 0 where
@@ -23,8 +23,8 @@ unfoldable pub rematerialize : Function → ℕ → Option RematData
 rematerialize f v = pick (can_rematerialize f v) (some (record { cost = remat_cost f v; class = remat_class f v })) none
 
 -- the number by which a function is refused
-abbrev pub number_of : FunctionCheck → Option ℕ
-number_of Accepted = none
-number_of OtherSetting = some 22
-number_of OutsideLimits = some 2
-number_of ForeignClass = some 9
+abbrev pub number_of : Result ⊤ FunctionError → Option ℕ
+number_of (Ok _) = none
+number_of (Err OtherSetting) = some 22
+number_of (Err OutsideLimits) = some 2
+number_of (Err ForeignClass) = some 9

@@ -11,7 +11,7 @@ ghost use Rattle.function.specs.Known.{KnownValue};
 ghost use Rattle.function.specs.Refused.{counts_fit, value_fits, foreign_class, function_refusal};
 ghost use Rattle.function.specs.Answers.{rematerialize, remat_of, number_of};
 
-use entity::{RegBank, RegClass, Value, narrow, wide};
+use entity::{RegBank, RegClass, Value};
 use reginfo::{RegInfo, bank_for_class, num_banks, num_classes};
 
 pub type Function = [u16; 16388];
@@ -24,9 +24,9 @@ pub enum Remat {
     CheaperThanLoad(RegClass),
 }
 
-#[derive(Drop)]
-pub enum FunctionCheck {
-    Accepted,
+// Why a function is refused.
+#[derive(Clone, Copy, PartialEq, Eq)]
+pub enum FunctionError {
     OtherSetting,
     OutsideLimits,
     ForeignClass,
@@ -36,25 +36,25 @@ pub enum FunctionCheck {
 pub fn num_values(f: &Function) -> usize
     ensures { result ≡ num_values (function_of f.now) }
 {
-    wide(f[16384])
+    usize::from(f[16384])
 }
 
 pub fn num_slots(f: &Function) -> usize
     ensures { result ≡ (function_of f.now).slots }
 {
-    wide(f[16385])
+    usize::from(f[16385])
 }
 
 pub fn slot_limit(f: &Function) -> usize
     ensures { result ≡ (function_of f.now).limit }
 {
-    wide(f[16386])
+    usize::from(f[16386])
 }
 
 pub fn kept_evictions(f: &Function) -> usize
     ensures { result ≡ (function_of f.now).kept }
 {
-    wide(f[16387])
+    usize::from(f[16387])
 }
 
 // Values.
@@ -62,7 +62,7 @@ pub fn value_bank(f: &Function, v: Value) -> RegBank
     requires { KnownValue (function_of f.now) v.0 }
     ensures { result.0 ≡ value_bank (function_of f.now) v.0 }
 {
-    let i = wide(v.0);
+    let i = usize::from(v.0);
     RegBank(f[i * 4])
 }
 
@@ -70,19 +70,20 @@ fn remat_cost(f: &Function, v: Value) -> usize
     requires { KnownValue (function_of f.now) v.0 }
     ensures { result ≡ remat_cost (function_of f.now) v.0 }
 {
-    let i = wide(v.0);
-    wide(f[1 + i * 4])
+    let i = usize::from(v.0);
+    usize::from(f[1 + i * 4])
 }
 
 fn remat_class(f: &Function, v: Value) -> RegClass
     requires { KnownValue (function_of f.now) v.0 }
     ensures { result.0 ≡ remat_class (function_of f.now) v.0 }
 {
-    let i = wide(v.0);
+    let i = usize::from(v.0);
     RegClass(f[2 + i * 4])
 }
 
 // The cost and the class of a value that can be rebuilt.
+#[tactic(auto, unfolding(crate::specs::Answers::rematerialize))]
 pub fn can_rematerialize(f: &Function, v: Value) -> Remat
     requires { KnownValue (function_of f.now) v.0 × (remat_cost (function_of f.now) v.0 ≤ 2) }
     ensures { remat_of result ≡ rematerialize (function_of f.now) v.0 }
@@ -99,6 +100,7 @@ pub fn can_rematerialize(f: &Function, v: Value) -> Remat
 }
 
 // What is refused of a function. Evictions kept are one or two.
+#[tactic(auto, unfolding(crate::specs::Function::is_setting))]
 pub fn is_setting(n: usize) -> bool
     ensures { result ≡ is_setting n }
 {
@@ -108,6 +110,7 @@ pub fn is_setting(n: usize) -> bool
     n == 2
 }
 
+#[tactic(auto, unfolding(crate::specs::Refused::counts_fit))]
 fn counts_fit(f: &Function) -> bool
     ensures { result ≡ counts_fit (function_of f.now) }
 {
@@ -120,12 +123,13 @@ fn counts_fit(f: &Function) -> bool
     slot_limit(f) <= 2048
 }
 
+#[tactic(auto, unfolding(crate::specs::Refused::value_fits))]
 fn value_fits(t: &RegInfo, f: &Function, v: Value) -> bool
     requires { KnownValue (function_of f.now) v.0 }
     ensures { result ≡ value_fits (reg_info_of t.now) (function_of f.now) v.0 }
 {
     let bank = value_bank(f, v);
-    if num_banks(t) <= wide(bank.0) {
+    if num_banks(t) <= usize::from(bank.0) {
         return false;
     }
     let cost = remat_cost(f, v);
@@ -136,10 +140,11 @@ fn value_fits(t: &RegInfo, f: &Function, v: Value) -> bool
         return true;
     }
     let class = remat_class(f, v);
-    wide(class.0) < num_classes(t)
+    usize::from(class.0) < num_classes(t)
 }
 
 // The class is read only where there is one, which has been seen to be the target's.
+#[tactic(auto, unfolding(crate::specs::Refused::foreign_class))]
 fn foreign_class(t: &RegInfo, f: &Function, v: Value) -> bool
     requires { KnownValue (function_of f.now) v.0 × (num_classes (reg_info_of t.now) ≤ 64) × (value_fits (reg_info_of t.now) (function_of f.now) v.0 ≡ true) }
     ensures { result ≡ foreign_class (reg_info_of t.now) (function_of f.now) v.0 }
@@ -149,32 +154,29 @@ fn foreign_class(t: &RegInfo, f: &Function, v: Value) -> bool
     }
     let bank = bank_for_class(t, remat_class(f, v));
     let own = value_bank(f, v);
-    bank.0 != own.0
+    bank != own
 }
 
 // Tests a function over an accepted target, its setting first, then value by value.
-pub fn check(t: &RegInfo, f: &Function) -> FunctionCheck
+#[tactic(auto, unfolding(crate::specs::Refused::function_refusal))]
+pub fn check(t: &RegInfo, f: &Function) -> Result<(), FunctionError>
     requires { num_classes (reg_info_of t.now) ≤ 64 }
     ensures { number_of result ≡ function_refusal (reg_info_of t.now) (function_of f.now) }
 {
     if !is_setting(kept_evictions(f)) {
-        return FunctionCheck::OtherSetting;
+        return Err(FunctionError::OtherSetting);
     }
     if !counts_fit(f) {
-        return FunctionCheck::OutsideLimits;
+        return Err(FunctionError::OutsideLimits);
     }
-    let mut i = 0;
-    let mut left = num_values(f);
-    while 0 < left {
-        let v = Value(narrow(i));
+    for i in 0..num_values(f) {
+        let v = Value(i as u16);
         if !value_fits(t, f, v) {
-            return FunctionCheck::OutsideLimits;
+            return Err(FunctionError::OutsideLimits);
         }
         if foreign_class(t, f, v) {
-            return FunctionCheck::ForeignClass;
+            return Err(FunctionError::ForeignClass);
         }
-        i += 1;
-        left -= 1;
     }
-    FunctionCheck::Accepted
+    Ok(())
 }

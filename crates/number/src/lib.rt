@@ -12,13 +12,6 @@ pub enum Number {
     Refused(u8),
 }
 
-// A byte, with room to reckon.
-fn wide(b: u8) -> u64
-    ensures { result ≡ b }
-{
-    b as u64
-}
-
 // The number n, once its last group is read: in the shortest form that is not 0, and n is below 2^32.
 fn ended(last: u64, n: u64, next: usize) -> Number
     ensures { result ≡ pick (eqb last 0) (Number.Refused 1) (pick (ltb n 4294967296) (Number.Is n next) (Number.Refused 1)) }
@@ -37,22 +30,20 @@ fn longer(s: &[u8], at: usize) -> Number
     requires { (at < length s.now) × (128 ≤ get_or s.now at 0) }
     ensures { NumberAt s.now at result }
 {
-    let mut n = wide(s[at]) % 128;
+    let mut n = u64::from(s[at]) % 128;
     let mut weight: u64 = 128;
     let mut next = at + 1;
-    let mut left: usize = 4;
-    while 0 < left {
+    for _group in 0..4usize {
         if s.len() <= next {
             return Number::Refused(1);
         }
-        let b = wide(s[next]);
+        let b = u64::from(s[next]);
         n += b % 128 * weight;
         next += 1;
         if b < 128 {
             return ended(b, n, next);
         }
         weight *= 128;
-        left -= 1;
     }
     Number::Refused(1)
 }

@@ -11,7 +11,6 @@ ghost use Rattle.reginfo.specs.Known.{KnownReg, KnownClass, KnownBank, KnownUnit
 
 use entity::{
     Allocation, AllocationKind, AllocationUnit, PhysReg, RegBank, RegClass, RegUnit, SpillSlot,
-    wide,
 };
 
 pub type RegInfo = [u16; 107520];
@@ -20,25 +19,25 @@ pub type RegInfo = [u16; 107520];
 pub fn num_units(t: &RegInfo) -> usize
     ensures { result ≡ (reg_info_of t.now).units }
 {
-    wide(t[8736])
+    usize::from(t[8736])
 }
 
 pub fn num_banks(t: &RegInfo) -> usize
     ensures { result ≡ num_banks (reg_info_of t.now) }
 {
-    wide(t[8737])
+    usize::from(t[8737])
 }
 
 pub fn num_regs(t: &RegInfo) -> usize
     ensures { result ≡ num_regs (reg_info_of t.now) }
 {
-    wide(t[8738])
+    usize::from(t[8738])
 }
 
 pub fn num_classes(t: &RegInfo) -> usize
     ensures { result ≡ num_classes (reg_info_of t.now) }
 {
-    wide(t[8739])
+    usize::from(t[8739])
 }
 
 // Bank data.
@@ -46,15 +45,15 @@ pub fn spillslot_size(t: &RegInfo, b: RegBank) -> usize
     requires { KnownBank (reg_info_of t.now) b.0 }
     ensures { result ≡ spillslot_size (reg_info_of t.now) b.0 }
 {
-    let i = wide(b.0);
-    wide(t[8704 + i * 4])
+    let i = usize::from(b.0);
+    usize::from(t[8704 + i * 4])
 }
 
 pub fn top_level_class(t: &RegInfo, b: RegBank) -> RegClass
     requires { KnownBank (reg_info_of t.now) b.0 }
     ensures { result.0 ≡ top_level_class (reg_info_of t.now) b.0 }
 {
-    let i = wide(b.0);
+    let i = usize::from(b.0);
     RegClass(t[8705 + i * 4])
 }
 
@@ -62,7 +61,7 @@ pub fn stack_to_stack_class(t: &RegInfo, b: RegBank) -> RegClass
     requires { KnownBank (reg_info_of t.now) b.0 }
     ensures { result.0 ≡ stack_to_stack_class (reg_info_of t.now) b.0 }
 {
-    let i = wide(b.0);
+    let i = usize::from(b.0);
     RegClass(t[8706 + i * 4])
 }
 
@@ -71,15 +70,15 @@ pub fn is_memory_reg(t: &RegInfo, r: PhysReg) -> bool
     requires { KnownReg (reg_info_of t.now) r.0 }
     ensures { result ≡ is_memory_reg (reg_info_of t.now) r.0 }
 {
-    let i = wide(r.0);
-    wide(t[i * 16]) == 1
+    let i = usize::from(r.0);
+    usize::from(t[i * 16]) == 1
 }
 
 pub fn bank_for_reg(t: &RegInfo, r: PhysReg) -> RegBank
     requires { KnownReg (reg_info_of t.now) r.0 }
     ensures { result.0 ≡ bank_for_reg (reg_info_of t.now) r.0 }
 {
-    let i = wide(r.0);
+    let i = usize::from(r.0);
     RegBank(t[1 + i * 16])
 }
 
@@ -87,8 +86,8 @@ pub fn num_reg_units(t: &RegInfo, r: PhysReg) -> usize
     requires { KnownReg (reg_info_of t.now) r.0 }
     ensures { result ≡ length (reg_units (reg_info_of t.now) r.0) }
 {
-    let i = wide(r.0);
-    wide(t[2 + i * 16])
+    let i = usize::from(r.0);
+    usize::from(t[2 + i * 16])
 }
 
 // Unit j of a register.
@@ -96,7 +95,7 @@ pub fn reg_unit(t: &RegInfo, r: PhysReg, j: usize) -> RegUnit
     requires { KnownReg (reg_info_of t.now) r.0 × (j < length (reg_units (reg_info_of t.now) r.0)) × (j < 8) }
     ensures { result.0 ≡ get_or (reg_units (reg_info_of t.now) r.0) j 0 }
 {
-    let i = wide(r.0);
+    let i = usize::from(r.0);
     RegUnit(t[8 + i * 16 + j])
 }
 
@@ -105,7 +104,7 @@ pub fn bank_for_class(t: &RegInfo, c: RegClass) -> RegBank
     requires { KnownClass (reg_info_of t.now) c.0 }
     ensures { result.0 ≡ bank_for_class (reg_info_of t.now) c.0 }
 {
-    let i = wide(c.0);
+    let i = usize::from(c.0);
     RegBank(t[8192 + i * 8])
 }
 
@@ -113,16 +112,16 @@ pub fn class_includes_spillslots(t: &RegInfo, c: RegClass) -> bool
     requires { KnownClass (reg_info_of t.now) c.0 }
     ensures { result ≡ includes_spillslots (reg_info_of t.now) c.0 }
 {
-    let i = wide(c.0);
-    wide(t[8193 + i * 8]) == 1
+    let i = usize::from(c.0);
+    usize::from(t[8193 + i * 8]) == 1
 }
 
 pub fn num_members(t: &RegInfo, c: RegClass) -> usize
     requires { KnownClass (reg_info_of t.now) c.0 }
     ensures { result ≡ length (class_members (reg_info_of t.now) c.0) }
 {
-    let i = wide(c.0);
-    wide(t[8194 + i * 8])
+    let i = usize::from(c.0);
+    usize::from(t[8194 + i * 8])
 }
 
 // Member p of a class, in the order listed.
@@ -130,7 +129,7 @@ pub fn class_member(t: &RegInfo, c: RegClass, p: usize) -> PhysReg
     requires { KnownClass (reg_info_of t.now) c.0 × (p < length (class_members (reg_info_of t.now) c.0)) × (p < 512) }
     ensures { result.0 ≡ get_or (class_members (reg_info_of t.now) c.0) p 0 }
 {
-    let i = wide(c.0);
+    let i = usize::from(c.0);
     PhysReg(t[9216 + i * 512 + p])
 }
 
@@ -138,8 +137,8 @@ pub fn order_len(t: &RegInfo, c: RegClass) -> usize
     requires { KnownClass (reg_info_of t.now) c.0 }
     ensures { result ≡ length (allocation_order (reg_info_of t.now) c.0) }
 {
-    let i = wide(c.0);
-    wide(t[8195 + i * 8])
+    let i = usize::from(c.0);
+    usize::from(t[8195 + i * 8])
 }
 
 // Register p of a class's order.
@@ -147,7 +146,7 @@ pub fn order_at(t: &RegInfo, c: RegClass, p: usize) -> PhysReg
     requires { KnownClass (reg_info_of t.now) c.0 × (p < length (allocation_order (reg_info_of t.now) c.0)) × (p < 512) }
     ensures { result.0 ≡ get_or (allocation_order (reg_info_of t.now) c.0) p 0 }
 {
-    let i = wide(c.0);
+    let i = usize::from(c.0);
     PhysReg(t[41984 + i * 512 + p])
 }
 
@@ -165,12 +164,12 @@ pub fn class_has_reg(t: &RegInfo, c: RegClass, r: PhysReg) -> bool
     requires { KnownMembers t.now c.0 × (r.0 < 512) }
     ensures { result ≡ has r.0 (class_members (reg_info_of t.now) c.0) }
 {
-    let i = wide(c.0);
-    let j = wide(r.0);
-    let p = wide(t[74752 + i * 512 + j]);
+    let i = usize::from(c.0);
+    let j = usize::from(r.0);
+    let p = usize::from(t[74752 + i * 512 + j]);
     if p < num_members(t, c) {
         let m = class_member(t, c, p);
-        return m.0 == r.0;
+        return m == r;
     }
     false
 }
@@ -181,13 +180,11 @@ pub fn has_unit(t: &RegInfo, r: PhysReg, u: RegUnit) -> bool
     ensures { result ≡ has u.0 (reg_units (reg_info_of t.now) r.0) }
 {
     let n = num_reg_units(t, r);
-    let mut j: usize = 0;
-    while j < n {
+    for j in 0..n {
         let v = reg_unit(t, r, j);
-        if u.0 == v.0 {
+        if u == v {
             return true;
         }
-        j += 1;
     }
     false
 }
@@ -198,13 +195,11 @@ pub fn regs_overlap(t: &RegInfo, a: PhysReg, b: PhysReg) -> bool
     ensures { (result ≡ meets (reg_units (reg_info_of t.now) a.0) (reg_units (reg_info_of t.now) b.0)) × (result ≡ meets (reg_units (reg_info_of t.now) b.0) (reg_units (reg_info_of t.now) a.0)) }
 {
     let n = num_reg_units(t, b);
-    let mut k: usize = 0;
-    while k < n {
+    for k in 0..n {
         let u = reg_unit(t, b, k);
         if has_unit(t, a, u) {
             return true;
         }
-        k += 1;
     }
     false
 }
@@ -228,7 +223,7 @@ pub fn of_bank(t: &RegInfo, p: Allocation, b: RegBank) -> bool
     match p.kind() {
         AllocationKind::PhysReg(r) => {
             let o = bank_for_reg(t, r);
-            o.0 == b.0
+            o == b
         }
         AllocationKind::SpillSlot(_) => true,
     }
@@ -282,7 +277,7 @@ fn is_slot(p: Allocation, s: SpillSlot) -> bool
 {
     match p.kind() {
         AllocationKind::PhysReg(_) => false,
-        AllocationKind::SpillSlot(q) => q.0 == s.0,
+        AllocationKind::SpillSlot(q) => q == s,
     }
 }
 

@@ -1,23 +1,27 @@
 -- 01, Scratch keeper: "the first register of its order whose units are all available (none of them a source unit of a kept move, if asked
 -- for a cycle)", on lent sets of units.
-use Rattle.std.specs.Prelude.{ℕ, ◌≡◌, Bool, List, [], length}
+use Rattle.std.specs.Prelude.{ℕ, ◌≡◌, Bool, List, [], length, Some, None}
 use Rattle.std.proofs.Math.Option.{Option, none, some}
 use Rattle.entity.specs.Logic.{and, or, no, all_in, has}
 use Rattle.entity.specs.Place.{Place, reg, slot}
 use Rattle.reginfo.specs.RegInfo.{RegInfo, reg_units}
 use Rattle.small_set.specs.Set.{set_of}
 use Rattle.rules.specs.Edit.{find, first_at}
-use Rattle.search.specs.declared.Search as SE
-use Rattle.search.specs.declared.Search.{Search}
+use Rattle.std.specs.Prelude as std
+use Rattle.entity.specs.declared.PhysReg.{PhysReg}
+
+-- what the search answers
+abbrev pub Search : Type 0
+Search = std.Option (PhysReg × ℕ)
 
 abbrev pub search_of : Search → Option ℕ
-search_of (SE.TheVariants.At r i) = some r.0
-search_of SE.TheVariants.Nothing = none
+search_of (Some (r, i)) = some r.0
+search_of None = none
 
 -- 02 d: "the position in the order, counted from 0, [..] or the order's length", which is n
 abbrev pub position_in : ℕ → Search → ℕ
-position_in n (SE.TheVariants.At r i) = i
-position_in n SE.TheVariants.Nothing = n
+position_in n (Some (r, i)) = i
+position_in n None = n
 
 -- the first of an order that passes a test, and where it stands
 pub record Searched (p : ℕ → Bool) (order : List ℕ) (s : Search) : Type 0 where

@@ -10,16 +10,9 @@ ghost use Rattle.reginfo.specs.Table.{reg_info_of};
 ghost use Rattle.small_set.specs.Set.{set_of};
 ghost use Rattle.search.specs.Search.{barred_by, usable_in, Searched, with_units, without_units};
 
-use entity::{Allocation, AllocationKind, PhysReg, RegClass, RegUnit, narrow};
+use entity::{Allocation, AllocationKind, PhysReg, RegClass, RegUnit};
 use reginfo::RegInfo;
 use small_set::RegUnitSet;
-
-// A register of a class's order and its position there, or none that would do.
-#[derive(Drop)]
-pub enum Search {
-    At(PhysReg, u16),
-    Nothing,
-}
 
 // Whether a unit is a source unit of a kept move, if asked for a cycle: a diversion outlasts moves that are still to read their sources.
 fn barred(sources: &RegUnitSet, cycle: bool, u: RegUnit) -> bool
@@ -44,8 +37,7 @@ pub fn usable(
     ensures { result ≡ usable_in (reg_info_of t.now) available.now sources.now cycle r.0 }
 {
     let n = reginfo::num_reg_units(t, r);
-    let mut j: usize = 0;
-    while j < n {
+    for j in 0..n {
         let u = reginfo::reg_unit(t, r, j);
         if !small_set::contains(available, u) {
             return false;
@@ -53,32 +45,29 @@ pub fn usable(
         if barred(sources, cycle, u) {
             return false;
         }
-        j += 1;
     }
     true
 }
 
-// The first register of a class's order that is usable, and its position. The order is the target's: what it wants used first stands first.
+// The first register of a class's order that is usable, and its position there, if one would do. The order is the target's: what it wants used first stands first.
 pub fn first_usable(
     t: &RegInfo,
     available: &RegUnitSet,
     sources: &RegUnitSet,
     cycle: bool,
     c: RegClass,
-) -> Search
+) -> Option<(PhysReg, u16)>
     requires { Accepted (reg_info_of t.now) × (c.0 < num_classes (reg_info_of t.now)) }
     ensures { Searched (usable_in (reg_info_of t.now) available.now sources.now cycle) (allocation_order (reg_info_of t.now) c.0) result }
 {
     let n = reginfo::order_len(t, c);
-    let mut i: usize = 0;
-    while i < n {
+    for i in 0..n {
         let r = reginfo::order_at(t, c, i);
         if usable(t, available, sources, cycle, r) {
-            return Search::At(r, narrow(i));
+            return Some((r, i as u16));
         }
-        i += 1;
     }
-    Search::Nothing
+    None
 }
 
 // Puts the units of a place into the set; a slot has none.
@@ -90,10 +79,8 @@ pub fn insert_units(t: &RegInfo, s: &mut RegUnitSet, p: Allocation)
         return;
     };
     let n = reginfo::num_reg_units(t, r);
-    let mut j: usize = 0;
-    while j < n {
+    for j in 0..n {
         small_set::insert(s, reginfo::reg_unit(t, r, j));
-        j += 1;
     }
 }
 
@@ -106,9 +93,7 @@ pub fn remove_units(t: &RegInfo, s: &mut RegUnitSet, p: Allocation)
         return;
     };
     let n = reginfo::num_reg_units(t, r);
-    let mut j: usize = 0;
-    while j < n {
+    for j in 0..n {
         small_set::remove(s, reginfo::reg_unit(t, r, j));
-        j += 1;
     }
 }

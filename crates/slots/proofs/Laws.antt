@@ -12,7 +12,7 @@ use lib.Dec.{eqb, ltb}
 use borrow.Author.Tests.{eqb-true, eqb-false, lt-ltb, le-ltb, ltb-true, ltb-false}
 use Rattle.entity.specs.Logic.{pick}
 use Rattle.rules.specs.Edit.{updated}
-use Rattle.slots.specs.declared.Popped.TheVariants.{At, Empty}
+use Rattle.std.specs.Prelude.{Some, None}
 use Rattle.slots.specs.Stacks.{top_first, depth_of, left_of, own_of, low_of, high_of, met_of, cache_of, stamp_of, raised, stacks_of, CacheFits, SlotsFit, Unchanged, Untouched}
 use Rattle.slots.specs.Steps.{Cleared, Raised, Begun, Touched, Taken, PutBack, Meets, Settled, Committed}
 
@@ -216,7 +216,7 @@ module _ (slots cache : List ℕ) (long : length slots ≡ 32835) (z : ℕ) (low
             let q : y ≡ z → ⊥ = λ e. omega (arith, k.1, ap (λ (x : ℕ). own_of slots x) e) in
             (get_or-set_other slots (32 + z) y v 0 (λ e. omega arith) ∙ k.0, get_or-set_other slots (32 + z) (32 + y) v 0 (λ e. q (omega arith)) ∙ k.1)
 
-    pub took-own : Taken slots cache (set slots (32 + z) (own - 1)) z (At (record { 0 = get_or (set slots (32 + z) (own - 1)) (64 + z * 1024 + (own - 1)) 0 }))
+    pub took-own : Taken slots cache (set slots (32 + z) (own - 1)) z (Some (record { 0 = get_or (set slots (32 + z) (own - 1)) (64 + z * 1024 + (own - 1)) 0 }))
     took-own =
         record {
           got = rw (own-top, get_or-set_other slots (32 + z) (64 + z * 1024 + (own - 1)) (own - 1) 0 (λ e. omega arith));
@@ -242,7 +242,7 @@ module _ (slots cache : List ℕ) (long : length slots ≡ 32835) (z : ℕ) (low
     left-fits : (n : ℕ) → SlotsFit n slots → SlotsFit n (set slots z (left - 1))
     left-fits n f = fits-left slots long z low n f (left - 1) (omega (arith, f.left z low))
 
-    pub took-left : (exit : List ℕ) → 0 < left → SlotsFit 1024 slots → Touched (set slots z (left - 1)) exit z → Taken slots cache exit z (At (record { 0 = get_or cache (64 + z * 2048 + (left - 1)) 0 }))
+    pub took-left : (exit : List ℕ) → 0 < left → SlotsFit 1024 slots → Touched (set slots z (left - 1)) exit z → Taken slots cache exit z (Some (record { 0 = get_or cache (64 + z * 2048 + (left - 1)) 0 }))
     took-left exit some f t =
         let u = set slots z (left - 1) in
         let top : stacks_of slots cache z ≡ get_or cache (64 + z * 2048 + (left - 1)) 0 ∷ top_first cache (64 + z * 2048) (left - 1) = left-stack ∙ top-step cache (64 + z * 2048) left some in
@@ -260,7 +260,7 @@ module _ (slots cache : List ℕ) (long : length slots ≡ 32835) (z : ℕ) (low
           met = t.met ∙ get_or-set_other slots z 32834 (left - 1) 0 (λ e. omega arith);
         }
 
-    pub took-none : left ≡ 0 → Taken slots cache slots z Empty
+    pub took-none : left ≡ 0 → Taken slots cache slots z None
     unfolding top_first
     took-none e =
         let top : stacks_of slots cache z ≡ [] = left-stack ∙ ap (top_first cache (64 + z * 2048)) e in

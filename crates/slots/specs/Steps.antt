@@ -1,16 +1,20 @@
 -- What each step promises, of the tables before and after.
-use Rattle.std.specs.Prelude.{ℕ, ◌+◌, ◌*◌, ◌<◌, ◌≤◌, ◌≡◌, List, [], ◌∷◌, get_or, ltb}
+use Rattle.std.specs.Prelude.{ℕ, ◌+◌, ◌*◌, ◌<◌, ◌≤◌, ◌≡◌, List, [], ◌∷◌, get_or, ltb, Some, None}
 use Rattle.std.proofs.Math.Option.{Option, none, some}
 use Rattle.entity.specs.Logic.{pick}
 use Rattle.rules.specs.Edit.{updated}
 use Rattle.rules.specs.Scratch.{empty_cache}
-use Rattle.slots.specs.declared.Popped.{Popped}
-use Rattle.slots.specs.declared.Popped.TheVariants.{At, Empty}
+use Rattle.std.specs.Prelude as std
+use Rattle.entity.specs.declared.SpillSlot.{SpillSlot}
 use Rattle.slots.specs.Stacks.{top_first, depth_of, low_of, high_of, met_of, cache_of, stamp_of, raised, stacks_of, CacheFits, SlotsFit, Untouched}
 
+-- what a stack gives
+abbrev pub Popped : Type 0
+Popped = std.Option SpillSlot
+
 abbrev pub popped_of : Popped → Option ℕ
-popped_of (At s) = some s.0
-popped_of Empty = none
+popped_of (Some s) = some s.0
+popped_of None = none
 
 -- the slot last put back on a stack
 abbrev pub top_of : List ℕ → Option ℕ

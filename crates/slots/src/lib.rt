@@ -3,46 +3,22 @@
 // refusal leaves it as it was and asking changes nothing (02 g).
 #![tactic(auto)]
 
-ghost use Rattle.std.specs.Prelude.{◌≡◌, ℕ, ◌+◌, ◌<◌, ◌≤◌, length, get_or, ltb};
-ghost use Rattle.entity.specs.Logic.{pick};
+ghost use Rattle.std.specs.Prelude.{◌≡◌, ℕ, ◌+◌, ◌<◌, ◌≤◌, length, get_or};
 ghost use Rattle.slots.specs.Stacks.{depth_of, cache_of, stamp_of, left_of, own_of, met_of, stacks_of, CacheFits, SlotsFit, Untouched};
 ghost use Rattle.slots.specs.Steps.{Cleared, Raised, Begun, Touched, Taken, PutBack, Meets, Settled, Committed};
 
-use entity::{SpillSlot, narrow, wide};
+use entity::SpillSlot;
 
 pub type EmergencySpillSlotCache = [u16; 65600];
 
 pub type Slots = [u16; 32835];
 
-// What a stack gives.
-#[derive(Drop)]
-pub enum Popped {
-    At(SpillSlot),
-    Empty,
-}
-
-// These do nothing: a call tells the length of the table that is passed.
-fn told_cache(t: [u16; 65600]) -> bool
-    ensures { length t ≡ 65600 }
-{
-    true
-}
-
-fn told_slots(t: [u16; 32835]) -> bool
-    ensures { length t ≡ 32835 }
-{
-    true
-}
-
 // A new function starts with no slots. The stamp goes on rising, so that what was asked for of the function before is not taken by this one.
 pub fn clear(cache: &mut EmergencySpillSlotCache)
     ensures { Cleared cache.old cache.new }
 {
-    told_cache(*cache);
-    let mut z: usize = 0;
-    while z < 32 {
+    for z in 0..32 {
         cache[z] = 0;
-        z += 1;
     }
     raise(cache, 0);
 }
@@ -58,8 +34,8 @@ pub fn made(cache: &EmergencySpillSlotCache) -> u16
 pub fn stamp(cache: &EmergencySpillSlotCache) -> u64
     ensures { (result ≡ stamp_of cache.now) × (result < 18446744073709551616) }
 {
-    let low = wide(cache[33]) + wide(cache[34]) * 65536;
-    let high = wide(cache[35]) + wide(cache[36]) * 65536;
+    let low = usize::from(cache[33]) + usize::from(cache[34]) * 65536;
+    let high = usize::from(cache[35]) + usize::from(cache[36]) * 65536;
     low as u64 + high as u64 * 4294967296
 }
 
@@ -68,24 +44,22 @@ fn carry(cache: &mut EmergencySpillSlotCache)
     requires { get_or cache.old 33 0 ≡ 65535 }
     ensures { Raised cache.old cache.new (get_or cache.old 32 0) }
 {
-    told_cache(*cache);
-    stamp(cache);
     cache[33] = 0;
-    let second = wide(cache[34]);
+    let second = usize::from(cache[34]);
     if second < 65535 {
-        cache[34] = narrow(second + 1);
+        cache[34] = (second + 1) as u16;
         return;
     }
     cache[34] = 0;
-    let third = wide(cache[35]);
+    let third = usize::from(cache[35]);
     if third < 65535 {
-        cache[35] = narrow(third + 1);
+        cache[35] = (third + 1) as u16;
         return;
     }
     cache[35] = 0;
-    let fourth = wide(cache[36]);
+    let fourth = usize::from(cache[36]);
     if fourth < 65535 {
-        cache[36] = narrow(fourth + 1);
+        cache[36] = (fourth + 1) as u16;
         return;
     }
     cache[36] = 0;
@@ -95,12 +69,10 @@ fn carry(cache: &mut EmergencySpillSlotCache)
 pub fn raise(cache: &mut EmergencySpillSlotCache, made: u16)
     ensures { Raised cache.old cache.new made }
 {
-    told_cache(*cache);
-    stamp(cache);
     cache[32] = made;
-    let first = wide(cache[33]);
+    let first = usize::from(cache[33]);
     if first < 65535 {
-        cache[33] = narrow(first + 1);
+        cache[33] = (first + 1) as u16;
         return;
     }
     carry(cache);
@@ -111,10 +83,8 @@ fn depths_of(cache: &EmergencySpillSlotCache) -> [u16; 32]
     ensures { (length result ≡ 32) × ((z : ℕ) → z < 32 → get_or result z 0 ≡ depth_of cache.now z) }
 {
     let mut d = [0u16; 32];
-    let mut z: usize = 0;
-    while z < 32 {
+    for z in 0..32 {
         d[z] = cache[z];
-        z += 1;
     }
     d
 }
@@ -125,38 +95,16 @@ pub fn begin(slots: &mut Slots, cache: &EmergencySpillSlotCache)
     requires { CacheFits cache.now }
     ensures { Begun cache.now slots.new }
 {
-    told_slots(*slots);
     let depths = depths_of(cache);
-    let mut z: usize = 0;
-    while z < 32 {
+    for z in 0..32 {
         slots[z] = depths[z];
-        z += 1;
     }
-    while z < 64 {
+    for z in 32..64 {
         slots[z] = 0;
-        z += 1;
     }
     slots[32832] = 32;
     slots[32833] = 0;
     slots[32834] = 0;
-}
-
-fn lesser(a: u16, b: u16) -> u16
-    ensures { result ≡ pick (ltb a b) a b }
-{
-    if a < b {
-        return a;
-    }
-    b
-}
-
-fn greater(a: u16, b: u16) -> u16
-    ensures { result ≡ pick (ltb a b) b a }
-{
-    if a < b {
-        return b;
-    }
-    a
 }
 
 // The range of stacks that the patch has changed reaches to this one: a commit goes through these alone, not through all 32.
@@ -164,32 +112,30 @@ fn touch(slots: &mut Slots, z: usize)
     requires { z < 32 }
     ensures { Touched slots.old slots.new z }
 {
-    told_slots(*slots);
-    slots[32832] = lesser(slots[32832], narrow(z));
-    slots[32833] = greater(slots[32833], narrow(z + 1));
+    slots[32832] = slots[32832].min(z as u16);
+    slots[32833] = slots[32833].max((z + 1) as u16);
 }
 
 // Takes the slot last put back: by this patch, else what is left of the cache's. The answer is the slot or that there is none: whether one may be made
 // is asked once, at the end of the patch.
-pub fn acquire(slots: &mut Slots, cache: &EmergencySpillSlotCache, z: usize) -> Popped
+pub fn acquire(slots: &mut Slots, cache: &EmergencySpillSlotCache, z: usize) -> Option<SpillSlot>
     requires { (z < 32) × SlotsFit 1024 slots.old }
     ensures { Taken slots.old cache.now slots.new z result }
 {
-    told_slots(*slots);
-    let own = wide(slots[32 + z]);
+    let own = usize::from(slots[32 + z]);
     if 0 < own {
         let i = own - 1;
-        slots[32 + z] = narrow(i);
-        return Popped::At(SpillSlot(slots[64 + z * 1024 + i]));
+        slots[32 + z] = i as u16;
+        return Some(SpillSlot(slots[64 + z * 1024 + i]));
     }
-    let left = wide(slots[z]);
+    let left = usize::from(slots[z]);
     if 0 < left {
         let i = left - 1;
-        slots[z] = narrow(i);
+        slots[z] = i as u16;
         touch(slots, z);
-        return Popped::At(SpillSlot(cache[64 + z * 2048 + i]));
+        return Some(SpillSlot(cache[64 + z * 2048 + i]));
     }
-    Popped::Empty
+    None
 }
 
 // Puts a slot back on a stack.
@@ -197,10 +143,9 @@ pub fn release(slots: &mut Slots, z: usize, s: SpillSlot)
     requires { (z < 32) × SlotsFit 1024 slots.old × (own_of slots.old z < 1024) }
     ensures { PutBack slots.old slots.new z s.0 }
 {
-    told_slots(*slots);
-    let own = wide(slots[32 + z]);
+    let own = usize::from(slots[32 + z]);
     slots[64 + z * 1024 + own] = s.0;
-    slots[32 + z] = narrow(own + 1);
+    slots[32 + z] = (own + 1) as u16;
     touch(slots, z);
 }
 
@@ -208,8 +153,7 @@ pub fn release(slots: &mut Slots, z: usize, s: SpillSlot)
 pub fn meet(slots: &mut Slots, n: u16)
     ensures { Meets slots.old slots.new n }
 {
-    told_slots(*slots);
-    slots[32834] = greater(slots[32834], n);
+    slots[32834] = slots[32834].max(n);
 }
 
 // The greatest position that the patch met.
@@ -225,15 +169,12 @@ fn settle(slots: &Slots, cache: &mut EmergencySpillSlotCache, z: usize)
     requires { (z < 32) × (own_of slots.now z ≤ 1024) × (own_of slots.now z + left_of slots.now z ≤ 2048) }
     ensures { Settled slots.now cache.old cache.new z }
 {
-    told_cache(*cache);
-    let left = wide(slots[z]);
-    let own = wide(slots[32 + z]);
-    let mut i: usize = 0;
-    while i < own {
+    let left = usize::from(slots[z]);
+    let own = usize::from(slots[32 + z]);
+    for i in 0..own {
         cache[64 + z * 2048 + (left + i)] = slots[64 + z * 1024 + i];
-        i += 1;
     }
-    cache[z] = narrow(left + own);
+    cache[z] = (left + own) as u16;
 }
 
 // The cache becomes what the patch left, and its stamp is raised. Only the stacks that the patch has changed are settled.
@@ -241,11 +182,10 @@ pub fn commit(slots: &Slots, cache: &mut EmergencySpillSlotCache, made: u16)
     requires { SlotsFit 1024 slots.now × ((z : ℕ) → z < 32 → length (stacks_of slots.now cache.old z) ≤ 2048) × Untouched cache.old slots.now }
     ensures { Committed slots.now cache.old cache.new made }
 {
-    let end = wide(slots[32833]);
-    let mut z = wide(slots[32832]);
-    while z < end {
+    let start = usize::from(slots[32832]);
+    let end = usize::from(slots[32833]);
+    for z in start..end {
         settle(slots, cache, z);
-        z += 1;
     }
     raise(cache, made);
 }

@@ -8,13 +8,6 @@ use entity::RegUnit;
 
 pub type RegUnitSet = [bool; 512];
 
-// It does nothing: a call tells the length of the table that is passed.
-pub fn told(t: [bool; 512]) -> bool
-    ensures { length t ≡ 512 }
-{
-    true
-}
-
 pub fn contains(s: &RegUnitSet, u: RegUnit) -> bool
     requires { u.0 < 512 }
     ensures { result ≡ set_of s.now u.0 }
@@ -27,7 +20,6 @@ pub fn insert(s: &mut RegUnitSet, u: RegUnit)
     requires { u.0 < 512 }
     ensures { (set_of s.new ≡ inserted (set_of s.old) u.0) × (length s.new ≡ 512) }
 {
-    told(*s);
     let i = u.0 as usize;
     s[i] = true;
 }
@@ -36,7 +28,6 @@ pub fn remove(s: &mut RegUnitSet, u: RegUnit)
     requires { u.0 < 512 }
     ensures { (set_of s.new ≡ removed (set_of s.old) u.0) × (length s.new ≡ 512) }
 {
-    told(*s);
     let i = u.0 as usize;
     s[i] = false;
 }

@@ -1,11 +1,10 @@
 -- 01: "the writer of each unit". A sparse map from units to numbers, in one table: cell k below 4,608 is unit k's sparse cell,
 -- key j stands at 4608 + 2 j and its value at 4609 + 2 j, and the count of keys at 6656.
 -- The keys and values are the map; the sparse cells only speed up the look-up.
-use Rattle.std.specs.Prelude.{ℕ, zero, suc, ◌+◌, ◌*◌, ◌<◌, ◌≤◌, ◌≡◌, Bool, true, false, List, [], ◌∷◌, ◌++◌, get_or, set, eqb}
+use Rattle.std.specs.Prelude.{ℕ, zero, suc, ◌+◌, ◌*◌, ◌<◌, ◌≤◌, ◌≡◌, Bool, true, false, List, [], ◌∷◌, ◌++◌, get_or, set, eqb, Some, None}
 use Rattle.std.proofs.Math.Option.{Option, none, some}
 use Rattle.entity.specs.Logic.{pick}
-use Rattle.sparse.specs.declared.Found.{Found}
-use Rattle.sparse.specs.declared.Found.TheVariants.{Value, Nothing}
+use Rattle.std.specs.Prelude as std
 
 -- the cells of a table
 abbrev pub count_of : List ℕ → ℕ
@@ -90,7 +89,7 @@ pub record Same (t u : List ℕ) : Type 0 where
 abbrev pub Shortened : List ℕ → List ℕ → ℕ → Type 0
 Shortened u u' n = (t : List ℕ) → count_of t ≡ n → Begins t u → Same t u'
 
--- what the enum of the code stands for
-abbrev pub found_of : Found → Option ℕ
-found_of (Value v) = some v
-found_of Nothing = none
+-- what the code's Option stands for
+abbrev pub found_of : std.Option ℕ → Option ℕ
+found_of (Some v) = some v
+found_of None = none

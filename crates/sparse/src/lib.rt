@@ -5,29 +5,14 @@ ghost use Rattle.std.specs.Prelude.{◌≡◌, ◌<◌, ◌≤◌, length, get_o
 ghost use Rattle.std.proofs.Math.Option.{none};
 ghost use Rattle.sparse.specs.Map.{map_of, keys_of, found_of, Linked, Placed, Emptied, Inserted, Shortened};
 
-use entity::{AllocationUnit, narrow, wide};
+use entity::AllocationUnit;
 
 pub type SparseMap = [u16; 6657];
-
-// What a look-up finds.
-#[derive(Drop)]
-pub enum Found {
-    Value(u16),
-    Nothing,
-}
-
-// It does nothing: a call tells the length of the table that is passed.
-fn told(t: [u16; 6657]) -> bool
-    ensures { length t ≡ 6657 }
-{
-    true
-}
 
 // Forgets every key. The rest of the table stays as it is: so a patch begins with one store, not with one for each of 4,608 units.
 pub fn clear(t: &mut SparseMap)
     ensures { Emptied t.old t.new }
 {
-    told(*t);
     t[6656] = 0;
 }
 
@@ -35,7 +20,7 @@ pub fn clear(t: &mut SparseMap)
 pub fn len(t: &SparseMap) -> usize
     ensures { result ≡ length (keys_of t.now) }
 {
-    wide(t[6656])
+    usize::from(t[6656])
 }
 
 // The key that was put in as number j.
@@ -52,28 +37,28 @@ fn place_of(t: &SparseMap, k: usize) -> usize
     requires { Linked t.now × (k < 4608) }
     ensures { Placed t.now k result }
 {
-    let n = wide(t[6656]);
-    let i = wide(t[k]);
+    let n = usize::from(t[6656]);
+    let i = usize::from(t[k]);
     if n <= i {
         return n;
     }
-    let x = wide(t[4608 + i * 2]);
+    let x = usize::from(t[4608 + i * 2]);
     if x == k {
         return i;
     }
     n
 }
 
-pub fn get(t: &SparseMap, u: AllocationUnit) -> Found
+pub fn get(t: &SparseMap, u: AllocationUnit) -> Option<u16>
     requires { Linked t.now × (u.0 < 4608) }
     ensures { found_of result ≡ map_of t.now u.0 }
 {
-    let n = wide(t[6656]);
+    let n = usize::from(t[6656]);
     let i = place_of(t, u.0 as usize);
     if n <= i {
-        return Found::Nothing;
+        return None;
     }
-    Found::Value(t[4609 + i * 2])
+    Some(t[4609 + i * 2])
 }
 
 // A key that is not there is put in.
@@ -81,13 +66,12 @@ pub fn insert(t: &mut SparseMap, u: AllocationUnit, v: u16)
     requires { Linked t.old × (u.0 < 4608) × (length (keys_of t.old) < 1024) × (map_of t.old u.0 ≡ none) }
     ensures { Inserted t.old t.new u.0 v }
 {
-    told(*t);
     let k = u.0 as usize;
-    let n = wide(t[6656]);
+    let n = usize::from(t[6656]);
     t[4609 + n * 2] = v;
-    t[k] = narrow(n);
+    t[k] = n as u16;
     t[4608 + n * 2] = u.0;
-    t[6656] = narrow(n + 1);
+    t[6656] = (n + 1) as u16;
 }
 
 // Forgets all but the first n keys. Keys stand in the order in which they were put in, so this takes back the last ones, as a refused entry must.
@@ -95,6 +79,5 @@ pub fn shorten(t: &mut SparseMap, n: usize)
     requires { Linked t.old × (n ≤ length (keys_of t.old)) }
     ensures { Shortened t.old t.new n }
 {
-    told(*t);
-    t[6656] = narrow(n);
+    t[6656] = n as u16;
 }

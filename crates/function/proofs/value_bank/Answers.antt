@@ -1,7 +1,6 @@
 -- `value_bank` meets its contract.
-use borrow.Author.Rules.{rules}
 use Rattle.function.proofs.Table.{value-bank-is}
 use Rattle.function.proofs.value_bank.Goals as goal
 
 pub returns : goal.returns
-returns c = rw (value-bank-is c.args.f.now c.args.v.0 c.requires.is, c.wide-i.ensures.0)
+returns c = rw (value-bank-is c.args.f.now c.args.v.0 c.requires.is, c.from-i.ensures)

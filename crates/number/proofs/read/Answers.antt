@@ -1,5 +1,4 @@
 -- `read` meets its contract: no byte, one byte, or more.
-use borrow.Author.Rules.{rules}
 use Rattle.number.proofs.Reading.{past_end, one_byte}
 use Rattle.number.proofs.read.Goals as goal
 

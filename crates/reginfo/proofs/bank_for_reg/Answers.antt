@@ -1,7 +1,6 @@
 -- `bank_for_reg` meets its contract: a cell of the table.
-use borrow.Author.Rules.{rules}
 use Rattle.reginfo.proofs.Table.{reg-bank-is}
 use Rattle.reginfo.proofs.bank_for_reg.Goals as goal
 
 pub returns : goal.returns
-returns c = rw (reg-bank-is c.args.t.now c.args.r.0 c.requires.is, c.wide-i.ensures.0)
+returns c = rw (reg-bank-is c.args.t.now c.args.r.0 c.requires.is, c.from-i.ensures)

@@ -2,7 +2,6 @@
 use Prim.Native.Nat.{ℕ}
 use mathlib.Core.Path.{sym, ap, ◌∙◌}
 use native.Mathlib.Omega.{arith}
-use borrow.Author.Rules.{rules}
 use borrow.Author.Tests.{lt-ltb, le-ltb}
 use lib.ListN.{length}
 use lib.Dec.{eqb}
@@ -14,9 +13,9 @@ use Rattle.reginfo.proofs.class_has_reg.Goals as goal
 pub returns-then-p-num_members : goal.returns-then-p-num_members
 returns-then-p-num_members c =
     let n = length (class_members (reg_info_of c.args.t.now) c.args.c.0) in
-    ap (λ (m : ℕ). eqb m c.args.r.0) c.class_member-m.ensures ∙ sym (member-at c.args.t.now c.args.c.0 c.args.r.0 c.wide-p.result c.requires.0 (c.wide-p.ensures.0 ∙ rw (c.wide-i.ensures.0, c.wide-j.ensures.0)) ∙ rw (lt-ltb c.wide-p.result n (omega arith)))
+    c.eq.ensures ∙ ap (λ (m : ℕ). eqb m c.args.r.0) c.class_member-m.ensures ∙ sym (member-at c.args.t.now c.args.c.0 c.args.r.0 c.from-p.result c.requires.0 (c.from-p.ensures ∙ rw (c.from-i.ensures, c.from-j.ensures)) ∙ rw (lt-ltb c.from-p.result n (omega arith)))
 
 pub returns : goal.returns
 returns c =
     let n = length (class_members (reg_info_of c.args.t.now) c.args.c.0) in
-    sym (member-at c.args.t.now c.args.c.0 c.args.r.0 c.wide-p.result c.requires.0 (c.wide-p.ensures.0 ∙ rw (c.wide-i.ensures.0, c.wide-j.ensures.0)) ∙ rw (le-ltb c.wide-p.result n (omega arith)))
+    sym (member-at c.args.t.now c.args.c.0 c.args.r.0 c.from-p.result c.requires.0 (c.from-p.ensures ∙ rw (c.from-i.ensures, c.from-j.ensures)) ∙ rw (le-ltb c.from-p.result n (omega arith)))

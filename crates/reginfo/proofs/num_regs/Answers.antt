@@ -1,8 +1,7 @@
 -- `num_regs` meets its contract: a cell of the table.
-use borrow.Author.Rules.{rules}
 use mathlib.Core.Path.{◌∙◌, sym}
 use Rattle.reginfo.proofs.Table.{regs_count}
 use Rattle.reginfo.proofs.num_regs.Goals as goal
 
 pub returns : goal.returns
-returns c = c.wide.ensures.0 ∙ sym (regs_count c.args.t.now)
+returns c = c.from.ensures ∙ sym (regs_count c.args.t.now)

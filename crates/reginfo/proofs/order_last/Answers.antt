@@ -1,7 +1,6 @@
 -- `order_last` meets its contract: the last stands one before the length.
 use Prim.Native.Nat.{ℕ, ◌-◌}
 use mathlib.Core.Path.{sym, ap, ◌∙◌}
-use borrow.Author.Rules.{rules}
 use lib.ListN.{get_or}
 use Rattle.entity.proofs.Laws.{last-get_d}
 use Rattle.reginfo.specs.RegInfo.{allocation_order}

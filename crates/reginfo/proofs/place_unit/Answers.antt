@@ -1,9 +1,5 @@
 -- `place_unit` meets its contract: a register's unit, or the slot's only one.
-use Prim.Native.Nat.{ℕ, ◌+◌}
-use mathlib.Core.Path.{◌≡◌, ap, ◌∙◌}
-use mathlib.Core.List.{[], ◌∷◌}
 use native.Mathlib.Omega.{arith}
-use borrow.Author.Rules.{rules}
 use lib.ListN.{get_or, length}
 use Rattle.entity.specs.Place.{Place}
 use Rattle.entity.proofs.Laws.{has_get_d}
@@ -12,12 +8,6 @@ use Rattle.reginfo.specs.Table.{reg_info_of}
 use Rattle.reginfo.proofs.Laws.{by_kind, known-kind}
 use Rattle.reginfo.proofs.place_unit.Goals as goal
 
-pub reg_unit-requires : goal.reg_unit-requires
-reg_unit-requires c =
-    let k = known-kind (reg_info_of c.args.t.now) c.requires.0 c.kind.ensures c.in-PhysReg.is in
-    let e = by_kind (λ (q : Place). length (place_units (reg_info_of c.args.t.now) q)) c.kind.ensures c.in-PhysReg.is in
-    (k.known, omega arith, omega arith)
-
 pub reg-requires : goal.reg-requires
 reg-requires c =
     let k = known-kind (reg_info_of c.args.t.now) c.requires.0 c.kind.ensures c.in-PhysReg.is in
@@ -25,15 +15,3 @@ reg-requires c =
     let us = reg_units (reg_info_of c.args.t.now) c.in-PhysReg.r.0 in
     let h = k.low (get_or us c.args.j 0) (has_get_d us c.args.j (omega arith)) in
     omega arith
-
-pub spillslot-requires : goal.spillslot-requires
-spillslot-requires c = known-kind (reg_info_of c.args.t.now) c.requires.0 c.kind.ensures c.in-SpillSlot.is
-
-pub returns-in-PhysReg : goal.returns-in-PhysReg
-returns-in-PhysReg c = c.reg.ensures ∙ c.reg_unit.ensures ∙ by_kind (λ (q : Place). get_or (place_units (reg_info_of c.args.t.now) q) c.args.j 0) c.kind.ensures c.in-PhysReg.is
-
-pub returns-in-SpillSlot : goal.returns-in-SpillSlot
-returns-in-SpillSlot c =
-    let e = by_kind (λ (q : Place). length (place_units (reg_info_of c.args.t.now) q)) c.kind.ensures c.in-SpillSlot.is in
-    let z : 0 ≡ c.args.j = omega arith in
-    c.spillslot.ensures ∙ ap (λ (i : ℕ). get_or ((512 + c.in-SpillSlot.s.0) ∷ []) i 0) z ∙ by_kind (λ (q : Place). get_or (place_units (reg_info_of c.args.t.now) q) c.args.j 0) c.kind.ensures c.in-SpillSlot.is

@@ -1,10 +1,9 @@
-use Prim.Native.Nat.{ℕ, ◌≤◌, ◌-◌}
-use mathlib.Core.Path.{◌≡◌, refl, sym, ap, ◌∙◌}
+use Prim.Native.Nat.{ℕ}
+use mathlib.Core.Path.{◌≡◌, sym, ap, ◌∙◌}
 use mathlib.Core.Bool.{Bool, true, false}
 use mathlib.Core.List.{List}
 use native.Mathlib.Omega.{arith}
-use borrow.Author.Rules.{rules}
-use lib.ListN.{get_or, length, drop, drop_of_length-le}
+use lib.ListN.{get_or, drop_of_length-le}
 use Rattle.entity.specs.Logic.{has, meets}
 use Rattle.entity.proofs.Laws.{meets-step, meets-comm}
 use Rattle.reginfo.specs.RegInfo.{reg_units}
@@ -14,9 +13,6 @@ use Rattle.reginfo.proofs.regs_overlap.Goals as goal
 -- what is shared is shared either way round
 either : {o : Bool} (l m : List ℕ) → o ≡ meets l m → (o ≡ meets m l) × (o ≡ meets l m)
 either l m e = (e ∙ meets-comm l m, e)
-
-pub loop-k-init : goal.loop-k-init
-loop-k-init c = (refl, search rules)
 
 pub returns-then-has_unit : goal.returns-then-has_unit
 returns-then-has_unit c =

@@ -1,7 +1,6 @@
 -- `top_level_class` meets its contract: a cell of the table.
-use borrow.Author.Rules.{rules}
 use Rattle.reginfo.proofs.Table.{top-is}
 use Rattle.reginfo.proofs.top_level_class.Goals as goal
 
 pub returns : goal.returns
-returns c = rw (top-is c.args.t.now c.args.b.0 c.requires.is, c.wide-i.ensures.0)
+returns c = rw (top-is c.args.t.now c.args.b.0 c.requires.is, c.from-i.ensures)

@@ -1,15 +1,11 @@
-use Prim.Native.Nat.{◌-◌}
-use mathlib.Core.Path.{refl, sym, ◌∙◌}
+use mathlib.Core.Path.{sym, ◌∙◌}
 use native.Mathlib.Omega.{arith}
-use borrow.Author.Rules.{rules}
-use lib.ListN.{length}
 use Rattle.entity.specs.Place.{Place, reg, slot}
-use Rattle.reginfo.specs.RegInfo.{reg_units}
 use Rattle.reginfo.specs.Table.{reg_info_of}
-use Rattle.reginfo.proofs.Laws.{by_kind, known-kind}
+use Rattle.reginfo.proofs.Laws.{by_kind}
 use Rattle.small_set.specs.Set.{set_of, inserted_all}
 use Rattle.search.specs.Search.{with_units}
-use Rattle.search.proofs.Laws.{Walk, insert-step, walk_end, with-units, unit-below}
+use Rattle.search.proofs.Laws.{insert-step, walk_end, with-units, unit-below}
 use Rattle.search.proofs.insert_units.Goals as goal
 
 pub returns-in_default : goal.returns-in_default
@@ -18,20 +14,6 @@ returns-in_default c =
     let a = c.args in
     let t = reg_info_of a.t.now in
     with-units t (slot 0) (set_of a.s.now) ∙ by_kind (λ (q : Place). with_units t q (set_of a.s.now)) c.kind.ensures c.in_default.is
-
-pub num_reg_units-n-requires : goal.num_reg_units-n-requires
-num_reg_units-n-requires c =
-    let s = c in
-    (known-kind (reg_info_of s.args.t.now) s.requires c.kind.ensures c.in-PhysReg.is).known
-
-pub loop-j-init : goal.loop-j-init
-loop-j-init c =
-    let s = c in
-    let k = known-kind (reg_info_of s.args.t.now) s.requires c.kind.ensures c.in-PhysReg.is in
-    record { known = k; same = refl; within = search rules }
-
-pub reg_unit-requires : goal.reg_unit-requires
-reg_unit-requires c = let w = c.loop-j.invariant in (w.known.known, omega arith, omega arith)
 
 pub insert-requires : goal.insert-requires
 insert-requires c =

@@ -1,20 +1,8 @@
 -- `remove_units` meets its contract: the set without all units from the start equals the set without those from here.
-use Prim.Native.Nat.{◌-◌}
-use mathlib.Core.Path.{refl, sym, ◌∙◌}
-use native.Mathlib.Omega.{arith}
-use borrow.Author.Rules.{rules}
-use lib.ListN.{length}
-use Rattle.entity.specs.Place.{Place, reg, slot}
-use Rattle.reginfo.specs.RegInfo.{reg_units}
 use Rattle.reginfo.specs.Table.{reg_info_of}
-use Rattle.reginfo.proofs.Laws.{by_kind, known-kind}
 use Rattle.small_set.specs.Set.{set_of, removed_all}
-use Rattle.search.specs.Search.{without_units}
-use Rattle.search.proofs.Laws.{Walk, remove-step, walk_end, without-units, unit-below}
+use Rattle.search.proofs.Laws.{Walk}
 use Rattle.search.proofs.remove_units.Given as goal
 
 abbrev pub invariant-loop-j : goal.invariant-loop-j
 invariant-loop-j l = Walk removed_all (reg_info_of l.t) l.r.0 (set_of l.initial.s) (set_of l.s) l.j
-
-abbrev pub decreases-loop-j : goal.decreases-loop-j
-decreases-loop-j l = length (reg_units (reg_info_of l.t) l.r.0) - l.j

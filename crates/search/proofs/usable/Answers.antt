@@ -1,26 +1,15 @@
-use Prim.Native.Nat.{◌≤◌, ◌-◌}
-use mathlib.Core.Path.{◌≡◌, refl, sym, ap, ◌∙◌}
+use mathlib.Core.Path.{refl, sym, ap, ◌∙◌}
 use mathlib.Core.Bool.{true, false, not-not}
 use native.Mathlib.Omega.{arith}
-use borrow.Author.Rules.{rules}
-use lib.ListN.{length, drop_of_length-le}
+use lib.ListN.{drop_of_length-le}
 use Rattle.entity.specs.Logic.{and, no, all_in}
 use Rattle.entity.proofs.Laws.{no_false}
 use Rattle.reginfo.specs.RegInfo.{reg_units}
 use Rattle.reginfo.specs.Table.{reg_info_of}
 use Rattle.small_set.specs.Set.{set_of}
-use Rattle.search.specs.Search.{barred_by, usable_in}
-use Rattle.search.proofs.Laws.{usable_from, usable-step, unit-below}
+use Rattle.search.specs.Search.{barred_by}
+use Rattle.search.proofs.Laws.{usable-step, unit-below}
 use Rattle.search.proofs.usable.Goals as goal
-
-pub num_reg_units-n-requires : goal.num_reg_units-n-requires
-num_reg_units-n-requires c = c.requires.known
-
-pub loop-j-init : goal.loop-j-init
-loop-j-init c = (refl, search rules)
-
-pub reg_unit-u-requires : goal.reg_unit-u-requires
-reg_unit-u-requires c = let known = c.requires in (known.known, omega arith, omega arith)
 
 pub contains-requires : goal.contains-requires
 contains-requires c =

@@ -1,6 +1,5 @@
 -- `made` meets its contract.
 use mathlib.Core.Path.{refl}
-use borrow.Author.Rules.{rules}
 use Rattle.slots.specs.Stacks.{cache_of}
 use Rattle.slots.proofs.made.Goals as goal
 

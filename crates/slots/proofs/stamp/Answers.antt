@@ -1,6 +1,5 @@
 -- `stamp` meets its contract.
 use native.Mathlib.Omega.{arith}
-use borrow.Author.Rules.{rules}
 use Rattle.slots.specs.Stacks.{stamp_of}
 use Rattle.slots.proofs.stamp.Goals as goal
 

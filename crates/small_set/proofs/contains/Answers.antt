@@ -1,6 +1,5 @@
 -- `contains` meets its contract: the flag is the answer.
 use mathlib.Core.Path.{refl}
-use borrow.Author.Rules.{rules}
 use Rattle.small_set.specs.Set.{set_of}
 use Rattle.small_set.proofs.contains.Goals as goal
 

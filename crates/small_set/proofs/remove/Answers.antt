@@ -1,6 +1,5 @@
 -- `remove` meets its contract: one flag is cleared.
 use native.Mathlib.Omega.{arith}
-use borrow.Author.Rules.{rules}
 use lib.ListN.{length-set}
 use Rattle.small_set.proofs.Laws.{store-false}
 use Rattle.small_set.proofs.remove.Goals as goal
@@ -8,4 +7,4 @@ use Rattle.small_set.proofs.remove.Goals as goal
 pub returns : goal.returns
 returns c =
     let a = c.args in
-    (store-false a.s.now a.u.0 (omega arith), simp length-set c.told.ensures)
+    (store-false a.s.now a.u.0 (omega arith), simp length-set c.told-s)

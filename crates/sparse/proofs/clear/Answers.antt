@@ -1,7 +1,6 @@
 -- `clear` meets its contract: with a count of 0 whatever the table holds is an empty map.
-use borrow.Author.Rules.{rules}
 use Rattle.sparse.proofs.Laws.{forgotten}
 use Rattle.sparse.proofs.clear.Goals as goal
 
 pub returns : goal.returns
-returns c = forgotten c.args.t.now c.told.ensures
+returns c = forgotten c.args.t.now c.told-t

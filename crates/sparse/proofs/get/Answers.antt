@@ -1,7 +1,6 @@
 -- `get` meets its contract: the value stands beside the key.
 use mathlib.Core.Path.{sym}
 use native.Mathlib.Omega.{arith}
-use borrow.Author.Rules.{rules}
 use Rattle.sparse.proofs.Laws.{got-none, got-some}
 use Rattle.sparse.proofs.get.Goals as goal
 

@@ -1,5 +1,4 @@
 -- `Allocation::read` meets its contract: the code's place, where it names one.
-use borrow.Author.Rules.{rules}
 use borrow.Author.Tests.{eq-eqb, ne_eqb, lt-ltb, le-ltb}
 use Rattle.entity.specs.Place.{place_at, read_place}
 use Rattle.entity.proofs.Allocation.read.Goals as goal
