@@ -33,7 +33,6 @@ use scratch::Diversions;
 use slots::{EmergencySpillSlotCache, Slots};
 use small_set::RegUnitSet;
 use sparse::SparseMap;
-use target_check::TargetCheck;
 use visits::States;
 
 // How many edits a patch has, the greatest position that it met and where the next one stands, or 01's number.
@@ -59,18 +58,13 @@ fn read_after_target(
     ensures { BegunAt s.now (unless_given (target_refusal (reg_info_of t.old)) (unless_outside in_range (with_function_within least most (reg_info_of t.old) kept (drop at s.now)))) result t.new f.new }
 {
     match target_check::check(t) {
-        TargetCheck::Accepted => {
+        Ok(()) => {
             if !in_range {
                 return Next::Refused(19);
             }
             job_function::read_function_within(least, most, t, s, at, f, kept)
         }
-        TargetCheck::OutsideLimits => Next::Refused(2),
-        TargetCheck::ListedTwice => Next::Refused(3),
-        TargetCheck::UnequalWidths => Next::Refused(4),
-        TargetCheck::ForeignMember => Next::Refused(5),
-        TargetCheck::SharedMemory => Next::Refused(6),
-        TargetCheck::UnfitClass => Next::Refused(7),
+        Err(error) => Next::Refused(error.number()),
     }
 }
 

@@ -29,10 +29,9 @@ use Rattle.scratch.specs.Promises.{Tables, tables, state_of, FitsIn, Brought, Fo
 use Rattle.scratch.specs.Diversions.{Diversion, Diverting, count_at, alloc_at, scratch_at, diversion_at, divert_by, Diverts, Undiverts}
 use Rattle.scratch.proofs.Bounds.{fewer}
 use Rattle.scratch.proofs.Unlimited.{same-bank}
-use Rattle.target_check.specs.declared.TargetCheck.TheVariants as check
-use Rattle.target_check.specs.declared.TargetCheck.{TargetCheck}
+use Rattle.std.specs.Prelude.{Result, Ok, Err, ⊤, OnOk, is_err}
+use Rattle.target_check.specs.declared.TargetError.{TargetError}
 use Rattle.target_check.specs.Checked.{number_of}
-use Rattle.target_check.specs.contracts.TargetCheck.{the_type}
 use Rattle.scratch_trials.specs.Cells.{after_trials}
 use Rattle.scratch_trials.specs.Steps.{Started, Ends, slot_to_slot, slots_swapped, rematted}
 
@@ -116,11 +115,11 @@ module _ (t f cache : List ℕ) where
       record { is = rw (same-bank f v, ← eb, ← before.is, found.is, moved.is) (ap some (sym done)); few = few }
 
 -- after a target that is refused the function's table is as it was
-pub refused-stays : (r : TargetCheck) (f : List ℕ) → OneOf (1 ∷ 2 ∷ 3 ∷ 4 ∷ 5 ∷ 6 ∷ []) (tag_of the_type r) → f ≡ after_trials (number_of r) f
-refused-stays check.Accepted f h = absurd (miss (1 ∷ 2 ∷ 3 ∷ 4 ∷ 5 ∷ 6 ∷ []) 0 tt h)
-refused-stays check.OutsideLimits f h = refl
-refused-stays check.ListedTwice f h = refl
-refused-stays check.UnequalWidths f h = refl
-refused-stays check.ForeignMember f h = refl
-refused-stays check.SharedMemory f h = refl
-refused-stays check.UnfitClass f h = refl
+pub refused-stays : (r : Result ⊤ TargetError) (f : List ℕ) → is_err r ≡ true → f ≡ after_trials (number_of r) f
+refused-stays (Ok _) f h = never h
+refused-stays (Err _) f h = refl
+
+-- one that is not refused has no number, and is as an accepted one is said to be
+pub not-refused : {P : Type 0} (r : Result ⊤ TargetError) → is_err r ≡ false → OnOk r P → (none ≡ number_of r) × P
+not-refused (Ok _) h p = (refl, p)
+not-refused (Err _) h p = never (sym h)

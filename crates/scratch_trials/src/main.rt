@@ -22,12 +22,11 @@ ghost use Rattle.scratch_trials.specs.Cells.{with_cells, three_registers, moved_
 
 use edit::Edits;
 use entity::{Allocation, PhysReg, RegClass, SpillSlot, Value};
-use function::{Function, FunctionCheck};
+use function::Function;
 use reginfo::RegInfo;
 use scratch::{Diversions, ScratchAllocator};
 use slots::{EmergencySpillSlotCache, Slots};
 use small_set::RegUnitSet;
-use target_check::TargetCheck;
 
 // Nothing made, nothing available, an empty cache.
 fn start(
@@ -166,12 +165,10 @@ fn differ(e: &Edits, want: [u64; 9]) -> bool
 {
     let mut list = [0u64; 1024];
     edit::hand_out(e, &mut list);
-    let mut i = 0;
-    while i < 9 {
+    for i in 0..9 {
         if list[i] != want[i] {
             return true;
         }
-        i += 1;
     }
     false
 }
@@ -307,10 +304,7 @@ fn ready(t: &RegInfo, f: &Function) -> bool
     if function::num_values(f) < 2 {
         return false;
     }
-    let FunctionCheck::Accepted = function::check(t, f) else {
-        return false;
-    };
-    true
+    function::check(t, f).is_ok()
 }
 
 // The trials with values that are not rebuilt; N and L are 2, and one eviction is kept.
@@ -346,9 +340,9 @@ fn remat_trial(t: &RegInfo, f: &mut Function)
 fn trials(t: &mut RegInfo, f: &mut Function)
     ensures { (reg_info_of t.new ≡ reg_info_of t.old) × (f.new ≡ after_trials (reginfo.target_refusal (reg_info_of t.old)) f.old) }
 {
-    let TargetCheck::Accepted = target_check::check(t) else {
+    if target_check::check(t).is_err() {
         return;
-    };
+    }
     move_trials(t, f);
     remat_trial(t, f);
 }

@@ -7,7 +7,7 @@ ghost use Rattle.shipped.specs.Shipped.{shipped_units, shipped_row, shipped};
 ghost use Rattle.shipped.specs.Table.{table, start_of};
 ghost use Rattle.shipped.specs.Writes.{copied, written, rising, reg_writes, regs_writes, class_writes, bank_writes};
 
-use entity::{PhysReg, RegBank, RegClass, RegUnit, narrow, wide};
+use entity::{PhysReg, RegBank, RegClass, RegUnit};
 use reginfo::RegInfo;
 
 // The unit lists of registers 0 to 31, 32 to 47 and 48 to 55; then for each of 32 units its three registers.
@@ -26,11 +26,12 @@ const TABLE: [u16; 192] = [
 ];
 
 // How many units a register has.
+#[tactic(auto, unfolding(crate::specs::Shipped::shipped_units, entity::specs::Logic::indices))]
 pub fn num_reg_units(r: PhysReg) -> usize
     requires { r.0 < 56 }
     ensures { result ≡ length (shipped_units r.0) }
 {
-    let i = wide(r.0);
+    let i = usize::from(r.0);
     match i {
         0..=31 => 1,
         32..=47 => 2,
@@ -39,11 +40,12 @@ pub fn num_reg_units(r: PhysReg) -> usize
 }
 
 // Where the unit list of a register stands.
+#[tactic(auto, unfolding(crate::specs::Table::start_of))]
 fn unit_start(r: PhysReg) -> usize
     requires { r.0 < 56 }
     ensures { result ≡ start_of r.0 }
 {
-    let i = wide(r.0);
+    let i = usize::from(r.0);
     match i {
         0..=31 => i,
         32..=47 => i * 2 - 32,
@@ -72,15 +74,8 @@ pub fn unit_reg(u: RegUnit, k: usize) -> PhysReg
     requires { (u.0 < 32) × (k < 3) }
     ensures { result.0 ≡ get_or (shipped_row u.0) k 0 }
 {
-    let at = 96 + wide(u.0) * 3 + k;
+    let at = 96 + usize::from(u.0) * 3 + k;
     PhysReg(entry(at))
-}
-
-// Nothing is done: that it was called tells the length of what it was passed.
-fn told(t: RegInfo) -> bool
-    ensures { length t ≡ 107520 }
-{
-    true
 }
 
 // The n numbers from x on, from a cell on.
@@ -88,14 +83,8 @@ fn put_rising(t: &mut RegInfo, at: usize, x: u16, n: u16)
     requires { (at + n ≤ 107520) × (x + n < 65536) }
     ensures { t.new ≡ written t.old (rising at x n) }
 {
-    let mut i = at;
-    let mut word = x;
-    let mut left = n;
-    while 0 < left {
-        t[i] = word;
-        i += 1;
-        word += 1;
-        left -= 1;
+    for i in 0..n {
+        t[at + usize::from(i)] = x + i;
     }
 }
 
@@ -104,10 +93,8 @@ fn put_units(t: &mut RegInfo, at: usize, r: PhysReg, n: usize)
     requires { (r.0 < 56) × (n ≡ length (shipped_units r.0)) × (at + n ≤ 107520) }
     ensures { t.new ≡ written t.old (copied at (shipped_units r.0)) }
 {
-    let mut j: usize = 0;
-    while j < n {
+    for j in 0..n {
         t[at + j] = reg_unit(r, j).0;
-        j += 1;
     }
 }
 
@@ -116,9 +103,9 @@ fn put_reg(t: &mut RegInfo, r: PhysReg)
     requires { r.0 < 56 }
     ensures { t.new ≡ written t.old (reg_writes r.0) }
 {
-    let i = wide(r.0);
+    let i = usize::from(r.0);
     let count = num_reg_units(r);
-    let n = narrow(count);
+    let n = count as u16;
     t[i * 16] = 0;
     t[1 + i * 16] = n / 2;
     t[2 + i * 16] = n;
@@ -128,12 +115,8 @@ fn put_reg(t: &mut RegInfo, r: PhysReg)
 fn put_regs(t: &mut RegInfo)
     ensures { t.new ≡ written t.old (regs_writes 0 56) }
 {
-    let mut r: u16 = 0;
-    let mut left: usize = 56;
-    while 0 < left {
+    for r in 0..56 {
         put_reg(t, PhysReg(r));
-        r += 1;
-        left -= 1;
     }
 }
 
@@ -142,8 +125,8 @@ fn put_class(t: &mut RegInfo, c: RegClass, r: PhysReg, n: u16)
     requires { (c.0 < 6) × (r.0 + n ≤ 56) }
     ensures { t.new ≡ written t.old (class_writes c.0 r.0 n) }
 {
-    let i = wide(c.0);
-    let first = wide(r.0);
+    let i = usize::from(c.0);
+    let first = usize::from(r.0);
     t[8192 + i * 8] = c.0 / 2;
     t[8193 + i * 8] = 1 - c.0 % 2;
     t[8194 + i * 8] = n;
@@ -158,7 +141,7 @@ fn put_bank(t: &mut RegInfo, b: RegBank, r: PhysReg, n: u16)
     requires { (b.0 < 3) × (r.0 + n ≤ 56) }
     ensures { t.new ≡ written t.old (bank_writes b.0 r.0 n) }
 {
-    let i = wide(b.0);
+    let i = usize::from(b.0);
     let top = RegClass(b.0 * 2);
     let stack = RegClass(b.0 * 2 + 1);
     t[8704 + i * 4] = 2 + b.0;
@@ -172,7 +155,6 @@ fn put_bank(t: &mut RegInfo, b: RegBank, r: PhysReg, n: u16)
 pub fn fill(t: &mut RegInfo)
     ensures { (reg_info_of t.new ≡ shipped) × Indexed t.new }
 {
-    told(*t);
     t[8736] = 32;
     t[8737] = 3;
     t[8738] = 56;

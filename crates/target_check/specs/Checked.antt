@@ -1,20 +1,24 @@
 -- What a check of a target answers, and what it leaves of the table.
-use Rattle.std.specs.Prelude.{ℕ, ◌<◌, ◌≡◌, Bool, List, get_or}
+use Rattle.std.specs.Prelude.{ℕ, ◌<◌, ◌≡◌, Bool, List, get_or, Result, Ok, Err, ⊤}
 use Rattle.std.proofs.Math.Option.{Option, none, some}
 use Rattle.entity.specs.Logic.{or, twice}
 use Rattle.reginfo.specs.RegInfo.{RegInfo, class_members, allocation_order}
-use Rattle.target_check.specs.declared.TargetCheck.{TargetCheck}
-use Rattle.target_check.specs.declared.TargetCheck.TheVariants.{Accepted, OutsideLimits, ListedTwice, UnequalWidths, ForeignMember, SharedMemory, UnfitClass}
+use Rattle.target_check.specs.declared.TargetError.{TargetError}
+use Rattle.target_check.specs.declared.TargetError.TheVariants.{OutsideLimits, ListedTwice, UnequalWidths, ForeignMember, SharedMemory, UnfitClass}
+
+-- the number of the rule that is broken
+abbrev pub rule_of : TargetError → ℕ
+rule_of OutsideLimits = 2
+rule_of ListedTwice = 3
+rule_of UnequalWidths = 4
+rule_of ForeignMember = 5
+rule_of SharedMemory = 6
+rule_of UnfitClass = 7
 
 -- the number with which the target is refused
-abbrev pub number_of : TargetCheck → Option ℕ
-number_of Accepted = none
-number_of OutsideLimits = some 2
-number_of ListedTwice = some 3
-number_of UnequalWidths = some 4
-number_of ForeignMember = some 5
-number_of SharedMemory = some 6
-number_of UnfitClass = some 7
+abbrev pub number_of : Result ⊤ TargetError → Option ℕ
+number_of (Ok _) = none
+number_of (Err e) = some (rule_of e)
 
 -- every cell of u below n is as in t
 abbrev pub SameBelow : ℕ → List ℕ → List ℕ → Type 0

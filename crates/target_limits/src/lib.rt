@@ -9,7 +9,7 @@ ghost use Rattle.reginfo.specs.Known.{KnownReg, KnownClass, KnownBank};
 ghost use Rattle.reginfo.specs.Refused.{some_below, within, all_below, order_total, counts_fit, bank_fits, reg_fits, class_fits, outside_limits};
 ghost use Rattle.target_limits.specs.Fits.{list_fits};
 
-use entity::{PhysReg, RegBank, RegClass, wide};
+use entity::{PhysReg, RegBank, RegClass};
 use reginfo::{
     RegInfo, bank_for_class, bank_for_reg, num_banks, num_classes, num_members, num_reg_units,
     num_regs, num_units, order_len, spillslot_size, stack_to_stack_class, top_level_class,
@@ -20,15 +20,10 @@ pub fn cells_below(t: &RegInfo, at: usize, n: usize, bound: usize) -> bool
     requires { at + n ≤ 107520 }
     ensures { result ≡ all_below bound (cells t.now at n) }
 {
-    let mut i = at;
-    let mut left = n;
-    while 0 < left {
-        let x = wide(t[i]);
-        if bound <= x {
+    for i in 0..n {
+        if bound <= usize::from(t[at + i]) {
             return false;
         }
-        i += 1;
-        left -= 1;
     }
     true
 }
@@ -38,15 +33,10 @@ pub fn cells_has(t: &RegInfo, at: usize, n: usize, x: usize) -> bool
     requires { at + n ≤ 107520 }
     ensures { result ≡ has x (cells t.now at n) }
 {
-    let mut i = at;
-    let mut left = n;
-    while 0 < left {
-        let y = wide(t[i]);
-        if x == y {
+    for i in 0..n {
+        if x == usize::from(t[at + i]) {
             return true;
         }
-        i += 1;
-        left -= 1;
     }
     false
 }
@@ -56,13 +46,8 @@ pub fn cells_twice(t: &RegInfo, at: usize, n: usize) -> bool
     requires { at + n ≤ 107520 }
     ensures { result ≡ twice (cells t.now at n) }
 {
-    let mut i = at;
-    let mut left = n;
-    while 0 < left {
-        let x = wide(t[i]);
-        i += 1;
-        left -= 1;
-        if cells_has(t, i, left, x) {
+    for i in 0..n {
+        if cells_has(t, at + i + 1, n - i - 1, usize::from(t[at + i])) {
             return true;
         }
     }
@@ -74,21 +59,21 @@ pub fn units_from(r: PhysReg) -> usize
     requires { r.0 < 512 }
     ensures { result ≡ 8 + r.0 * 16 }
 {
-    8 + wide(r.0) * 16
+    8 + usize::from(r.0) * 16
 }
 
 pub fn members_from(c: RegClass) -> usize
     requires { c.0 < 64 }
     ensures { result ≡ 9216 + c.0 * 512 }
 {
-    9216 + wide(c.0) * 512
+    9216 + usize::from(c.0) * 512
 }
 
 pub fn order_from(c: RegClass) -> usize
     requires { c.0 < 64 }
     ensures { result ≡ 41984 + c.0 * 512 }
 {
-    41984 + wide(c.0) * 512
+    41984 + usize::from(c.0) * 512
 }
 
 // The flags as numbers, which the accessors only compare with 1.
@@ -96,16 +81,16 @@ fn memory_flag(t: &RegInfo, r: PhysReg) -> usize
     requires { KnownReg (reg_info_of t.now) r.0 }
     ensures { result ≡ reg_memory (reg_info_of t.now) r.0 }
 {
-    let i = wide(r.0);
-    wide(t[i * 16])
+    let i = usize::from(r.0);
+    usize::from(t[i * 16])
 }
 
 fn slots_flag(t: &RegInfo, c: RegClass) -> usize
     requires { KnownClass (reg_info_of t.now) c.0 }
     ensures { result ≡ class_slots (reg_info_of t.now) c.0 }
 {
-    let i = wide(c.0);
-    wide(t[8193 + i * 8])
+    let i = usize::from(c.0);
+    usize::from(t[8193 + i * 8])
 }
 
 // 01: "units 1 to 512, banks 1 to 8, registers 1 to 512, classes 1 to 64".
@@ -118,6 +103,7 @@ fn within(low: usize, high: usize, n: usize) -> bool
     n <= high
 }
 
+#[tactic(auto, unfolding(reginfo::specs::Refused::counts_fit))]
 fn counts_fit(t: &RegInfo) -> bool
     ensures { result ≡ counts_fit (reg_info_of t.now) }
 {
@@ -134,6 +120,7 @@ fn counts_fit(t: &RegInfo) -> bool
 }
 
 // A bank: its size and its two classes.
+#[tactic(auto, unfolding(reginfo::specs::Refused::bank_fits))]
 fn bank_fits(t: &RegInfo, b: RegBank) -> bool
     requires { KnownBank (reg_info_of t.now) b.0 }
     ensures { result ≡ bank_fits (reg_info_of t.now) b.0 }
@@ -143,11 +130,11 @@ fn bank_fits(t: &RegInfo, b: RegBank) -> bool
     }
     let n = num_classes(t);
     let top = top_level_class(t, b);
-    if n <= wide(top.0) {
+    if n <= usize::from(top.0) {
         return false;
     }
     let stack = stack_to_stack_class(t, b);
-    wide(stack.0) < n
+    usize::from(stack.0) < n
 }
 
 // A register: a flag, a bank, and 1 to 8 units.
@@ -161,6 +148,7 @@ fn units_below(t: &RegInfo, r: PhysReg) -> bool
     cells_below(t, at, n, bound)
 }
 
+#[tactic(auto, unfolding(reginfo::specs::Refused::reg_fits))]
 fn reg_fits(t: &RegInfo, r: PhysReg) -> bool
     requires { KnownReg (reg_info_of t.now) r.0 }
     ensures { result ≡ reg_fits (reg_info_of t.now) r.0 }
@@ -169,7 +157,7 @@ fn reg_fits(t: &RegInfo, r: PhysReg) -> bool
         return false;
     }
     let b = bank_for_reg(t, r);
-    if num_banks(t) <= wide(b.0) {
+    if num_banks(t) <= usize::from(b.0) {
         return false;
     }
     if !within(1, 8, num_reg_units(t, r)) {
@@ -205,12 +193,13 @@ fn order_fits(t: &RegInfo, c: RegClass) -> bool
     cells_below(t, at, n, bound)
 }
 
+#[tactic(auto, unfolding(reginfo::specs::Refused::class_fits))]
 fn class_fits(t: &RegInfo, c: RegClass) -> bool
     requires { KnownClass (reg_info_of t.now) c.0 }
     ensures { result ≡ class_fits (reg_info_of t.now) c.0 }
 {
     let b = bank_for_class(t, c);
-    if num_banks(t) <= wide(b.0) {
+    if num_banks(t) <= usize::from(b.0) {
         return false;
     }
     if 1 < slots_flag(t, c) {
@@ -227,48 +216,21 @@ fn banks_unfit(t: &RegInfo) -> bool
     requires { num_banks (reg_info_of t.now) ≤ 8 }
     ensures { result ≡ some_below (num_banks (reg_info_of t.now)) (λ b. no (bank_fits (reg_info_of t.now) b)) }
 {
-    let mut i: u16 = 0;
-    let mut left = num_banks(t);
-    while 0 < left {
-        if !bank_fits(t, RegBank(i)) {
-            return true;
-        }
-        i += 1;
-        left -= 1;
-    }
-    false
+    (0..num_banks(t)).any(|i| !bank_fits(t, RegBank(i as u16)))
 }
 
 fn regs_unfit(t: &RegInfo) -> bool
     requires { num_regs (reg_info_of t.now) ≤ 512 }
     ensures { result ≡ some_below (num_regs (reg_info_of t.now)) (λ r. no (reg_fits (reg_info_of t.now) r)) }
 {
-    let mut i: u16 = 0;
-    let mut left = num_regs(t);
-    while 0 < left {
-        if !reg_fits(t, PhysReg(i)) {
-            return true;
-        }
-        i += 1;
-        left -= 1;
-    }
-    false
+    (0..num_regs(t)).any(|i| !reg_fits(t, PhysReg(i as u16)))
 }
 
 fn classes_unfit(t: &RegInfo) -> bool
     requires { num_classes (reg_info_of t.now) ≤ 64 }
     ensures { result ≡ some_below (num_classes (reg_info_of t.now)) (λ c. no (class_fits (reg_info_of t.now) c)) }
 {
-    let mut i: u16 = 0;
-    let mut left = num_classes(t);
-    while 0 < left {
-        if !class_fits(t, RegClass(i)) {
-            return true;
-        }
-        i += 1;
-        left -= 1;
-    }
-    false
+    (0..num_classes(t)).any(|i| !class_fits(t, RegClass(i as u16)))
 }
 
 // The order entries over all classes, of which each has at most 512.
@@ -276,18 +238,15 @@ fn order_total(t: &RegInfo) -> usize
     requires { (num_classes (reg_info_of t.now) ≤ 64) × (some_below (num_classes (reg_info_of t.now)) (λ c. no (class_fits (reg_info_of t.now) c)) ≡ false) }
     ensures { result ≡ order_total (reg_info_of t.now).classes }
 {
-    let mut i: u16 = 0;
-    let mut left = num_classes(t);
     let mut n: usize = 0;
-    while 0 < left {
-        n += order_len(t, RegClass(i));
-        i += 1;
-        left -= 1;
+    for i in 0..num_classes(t) {
+        n += order_len(t, RegClass(i as u16));
     }
     n
 }
 
 // 01: the target is outside a limit, and so refused with 2.
+#[tactic(auto, unfolding(reginfo::specs::Refused::outside_limits))]
 pub fn outside_limits(t: &RegInfo) -> bool
     ensures { result ≡ outside_limits (reg_info_of t.now) }
 {

@@ -14,7 +14,7 @@ use Rattle.reginfo.specs.RegInfo.{RegInfo, num_banks, num_regs, num_classes, reg
 use Rattle.reginfo.specs.Refused.{some_below, within, counts_fit, outside_limits, shared_memory}
 use Rattle.target_limits.proofs.Limits.{within-high, counts_of, reg-limits}
 use Rattle.target_rules.specs.UnitKinds.{kind_of, NotedAt, Differs, Lister, Noted}
-use Rattle.target_rules.proofs.Some.{some_at, none-at}
+use Rattle.target_limits.proofs.Walks.{some-below, none-below}
 
 -- two lists share a number that both list
 meets-true : (l m : List ℕ) (u : ℕ) → has u l ≡ true → has u m ≡ true → meets l m ≡ true
@@ -59,8 +59,8 @@ module _ (t : RegInfo) where
   unfolding shared_memory
   both-list r q u h k m n a b =
       let here : shares r q ≡ true = rw (n, meets-true (reg_units t r) (reg_units t q) u a b) in
-      let there : shared r ≡ true = rw (m, some_at (shares r) (num_regs t) q k here) in
-      some_at shared (num_regs t) r h there
+      let there : shared r ≡ true = rw (m, some-below (shares r) (num_regs t) q k here) in
+      some-below shared (num_regs t) r h there
 
   -- two registers of different kinds do
   kinds-differ : (r q u : ℕ) → r < num_regs t → q < num_regs t → Lists r u → Lists q u → (kind_of t q ≡ kind_of t r → ⊥) → shared_memory t ≡ true
@@ -88,11 +88,11 @@ module _ (t : RegInfo) where
     shared-none : (r : ℕ) → r < num_regs t → shared r ≡ true → ⊥
     shared-none r h e =
         let p = and-true (is_memory_reg t r) (some_below (num_regs t) (shares r)) e in
-        true≢false (sym p.1 ∙ none-at (shares r) (num_regs t) (λ q k. never_true (shares r q) (shares-none r q h k p.0)))
+        true≢false (sym p.1 ∙ none-below (shares r) (num_regs t) (λ q k. never_true (shares r q) (shares-none r q h k p.0)))
 
     kinds-same : shared_memory t ≡ false
     unfolding shared_memory
-    kinds-same = none-at shared (num_regs t) (λ r h. never_true (shared r) (shared-none r h))
+    kinds-same = none-below shared (num_regs t) (λ r h. never_true (shared r) (shared-none r h))
 
   -- every register's units are noted
   pub all_noted : (kinds : List ℕ) → Noted t (num_regs t) kinds → shared_memory t ≡ false

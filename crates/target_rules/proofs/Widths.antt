@@ -14,7 +14,7 @@ use Rattle.reginfo.specs.RegInfo.{RegInfo, num_banks, num_regs, bank_for_reg, re
 use Rattle.reginfo.specs.Refused.{some_below, outside_limits, width_differs, unfit_width, unequal_widths}
 use Rattle.target_limits.proofs.Limits.{banks-few, counts_of, reg-limits}
 use Rattle.target_rules.specs.Rules.{Widths}
-use Rattle.target_rules.proofs.Some.{some_at, none-at}
+use Rattle.target_limits.proofs.Walks.{some-below, none-below}
 
 -- of the registers below i, and of register i
 each_next : (P : ℕ → Type 0) (i : ℕ) → ((r : ℕ) → r < i → P r) → P i → (r : ℕ) → r < i + 1 → P r
@@ -28,20 +28,20 @@ module _ (t : RegInfo) where
   -- a memory register of another width than one
   wide-memory : (r : ℕ) → r < num_regs t → is_memory_reg t r ≡ true → (length (reg_units t r) ≡ 1 → ⊥) → unequal_widths t ≡ true
   unfolding unequal_widths
-  wide-memory r h m f = some_at (unfit_width t) (num_regs t) r h (rw (m, ne_eqb (length (reg_units t r)) 1 f))
+  wide-memory r h m f = some-below (unfit_width t) (num_regs t) r h (rw (m, ne_eqb (length (reg_units t r)) 1 f))
 
   -- two registers of one bank that are not memory
   unequal : (r q : ℕ) → r < num_regs t → q < num_regs t → is_memory_reg t r ≡ false → is_memory_reg t q ≡ false → bank_for_reg t r ≡ bank_for_reg t q
       → (length (reg_units t r) ≡ length (reg_units t q) → ⊥) → unequal_widths t ≡ true
   unfolding unequal_widths
   unequal r q h k m n e f =
-      some_at (unfit_width t) (num_regs t) r h
-      (rw m (some_at (width_differs t r) (num_regs t) q k (rw (n, eq-eqb (bank_for_reg t r) (bank_for_reg t q) e, ne_eqb (length (reg_units t r)) (length (reg_units t q)) f))))
+      some-below (unfit_width t) (num_regs t) r h
+      (rw m (some-below (width_differs t r) (num_regs t) q k (rw (n, eq-eqb (bank_for_reg t r) (bank_for_reg t q) e, ne_eqb (length (reg_units t r)) (length (reg_units t q)) f))))
 
   -- at the end
   pub widths-equal : (w : List ℕ) → Widths t w (num_regs t) → unequal_widths t ≡ false
   unfolding unequal_widths
-  widths-equal w k = none-at (unfit_width t) (num_regs t) (λ r h. fit r h (is_memory_reg t r) refl)
+  widths-equal w k = none-below (unfit_width t) (num_regs t) (λ r h. fit r h (is_memory_reg t r) refl)
     where
       alike : (r q : ℕ) → r < num_regs t → q < num_regs t → is_memory_reg t r ≡ false → width_differs t r q ≡ false
       alike r q h g m = go (is_memory_reg t q) refl (eqb (bank_for_reg t r) (bank_for_reg t q)) refl
@@ -55,7 +55,7 @@ module _ (t : RegInfo) where
 
       fit : (r : ℕ) → r < num_regs t → (a : Bool) → is_memory_reg t r ≡ a → pick a (no (eqb (length (reg_units t r)) 1)) (some_below (num_regs t) (width_differs t r)) ≡ false
       fit r h true m = rw (eq-eqb (length (reg_units t r)) 1 (k.memory r h m))
-      fit r h false m = none-at (width_differs t r) (num_regs t) (λ q g. alike r q h g m)
+      fit r h false m = none-below (width_differs t r) (num_regs t) (λ q g. alike r q h g m)
 
   -- within the limits
   module _ (h : outside_limits t ≡ false) where

@@ -9,7 +9,7 @@ ghost use Rattle.reginfo.specs.Refused.{some_below, all_below, outside_limits, u
 ghost use Rattle.target_rules.specs.Rules.{Widths, foreign_to, no_member, foreign_class, foreign_bank, unfit_bank, unfit_order};
 ghost use Rattle.target_rules.specs.UnitKinds.{kind_of, NotedAt, Differs, Noted};
 
-use entity::{PhysReg, RegBank, RegClass, RegUnit, wide};
+use entity::{PhysReg, RegBank, RegClass, RegUnit};
 use reginfo::{
     RegInfo, bank_for_class, bank_for_reg, class_has_reg, class_includes_spillslots, is_memory_reg,
     num_banks, num_classes, num_members, num_reg_units, num_regs, order_last, order_len, reg_unit,
@@ -30,7 +30,7 @@ fn width_agrees(t: &RegInfo, r: PhysReg, widths: &mut [usize; 8]) -> bool
         return n == 1;
     }
     let b = bank_for_reg(t, r);
-    let at = wide(b.0);
+    let at = usize::from(b.0);
     if widths[at] == 0 {
         widths[at] = n;
         return true;
@@ -43,14 +43,10 @@ pub fn unequal_widths(t: &RegInfo) -> bool
     ensures { result ≡ unequal_widths (reg_info_of t.now) }
 {
     let mut widths = [0usize; 8];
-    let mut i: u16 = 0;
-    let mut left = num_regs(t);
-    while 0 < left {
-        if !width_agrees(t, PhysReg(i), &mut widths) {
+    for i in 0..num_regs(t) {
+        if !width_agrees(t, PhysReg(i as u16), &mut widths) {
             return true;
         }
-        i += 1;
-        left -= 1;
     }
     false
 }
@@ -60,15 +56,11 @@ fn regs_foreign(t: &RegInfo, at: usize, n: usize, b: RegBank) -> bool
     requires { (outside_limits (reg_info_of t.now) ≡ false) × (at + n ≤ 107520) × (all_below (num_regs (reg_info_of t.now)) (cells t.now at n) ≡ true) }
     ensures { result ≡ any_in (foreign_to (reg_info_of t.now) b.0) (cells t.now at n) }
 {
-    let mut i = at;
-    let mut left = n;
-    while 0 < left {
-        let o = bank_for_reg(t, PhysReg(t[i]));
-        if o.0 != b.0 {
+    for i in 0..n {
+        let o = bank_for_reg(t, PhysReg(t[at + i]));
+        if o != b {
             return true;
         }
-        i += 1;
-        left -= 1;
     }
     false
 }
@@ -88,14 +80,11 @@ fn order_foreign(t: &RegInfo, c: RegClass) -> bool
     requires { (outside_limits (reg_info_of t.now) ≡ false) × (c.0 < num_classes (reg_info_of t.now)) × Indexed t.now }
     ensures { result ≡ any_in (no_member (reg_info_of t.now) c.0) (allocation_order (reg_info_of t.now) c.0) }
 {
-    let mut i = order_from(c);
-    let mut left = order_len(t, c);
-    while 0 < left {
-        if !class_has_reg(t, c, PhysReg(t[i])) {
+    let at = order_from(c);
+    for i in 0..order_len(t, c) {
+        if !class_has_reg(t, c, PhysReg(t[at + i])) {
             return true;
         }
-        i += 1;
-        left -= 1;
     }
     false
 }
@@ -114,16 +103,7 @@ fn classes_foreign(t: &RegInfo) -> bool
     requires { (outside_limits (reg_info_of t.now) ≡ false) × Indexed t.now }
     ensures { result ≡ some_below (num_classes (reg_info_of t.now)) (foreign_class (reg_info_of t.now)) }
 {
-    let mut i: u16 = 0;
-    let mut left = num_classes(t);
-    while 0 < left {
-        if class_foreign(t, RegClass(i)) {
-            return true;
-        }
-        i += 1;
-        left -= 1;
-    }
-    false
+    (0..num_classes(t)).any(|i| class_foreign(t, RegClass(i as u16)))
 }
 
 // A bank's two classes are of that bank.
@@ -133,12 +113,12 @@ fn bank_foreign(t: &RegInfo, b: RegBank) -> bool
 {
     let top = top_level_class(t, b);
     let x = bank_for_class(t, top);
-    if x.0 != b.0 {
+    if x != b {
         return true;
     }
     let stack = stack_to_stack_class(t, b);
     let y = bank_for_class(t, stack);
-    if y.0 != b.0 {
+    if y != b {
         return true;
     }
     false
@@ -148,18 +128,10 @@ fn banks_foreign(t: &RegInfo) -> bool
     requires { outside_limits (reg_info_of t.now) ≡ false }
     ensures { result ≡ some_below (num_banks (reg_info_of t.now)) (foreign_bank (reg_info_of t.now)) }
 {
-    let mut i: u16 = 0;
-    let mut left = num_banks(t);
-    while 0 < left {
-        if bank_foreign(t, RegBank(i)) {
-            return true;
-        }
-        i += 1;
-        left -= 1;
-    }
-    false
+    (0..num_banks(t)).any(|i| bank_foreign(t, RegBank(i as u16)))
 }
 
+#[tactic(auto, unfolding(reginfo::specs::Refused::foreign_member))]
 pub fn foreign_member(t: &RegInfo) -> bool
     requires { (outside_limits (reg_info_of t.now) ≡ false) × Indexed t.now }
     ensures { result ≡ foreign_member (reg_info_of t.now) }
@@ -172,13 +144,6 @@ pub fn foreign_member(t: &RegInfo) -> bool
 
 // 6: a memory register shares no unit with one that isn't memory. A table has a kind for each unit: 0 where no register
 // so far lists it, 1 where one that isn't memory does, 2 where a memory register does.
-// `kinds_told` does nothing: a call tells the length of the table that is passed.
-fn kinds_told(kinds: [u8; 512]) -> bool
-    ensures { length kinds ≡ 512 }
-{
-    true
-}
-
 fn kind_of(t: &RegInfo, r: PhysReg) -> u8
     requires { (outside_limits (reg_info_of t.now) ≡ false) × (r.0 < num_regs (reg_info_of t.now)) }
     ensures { result ≡ kind_of (reg_info_of t.now) r.0 }
@@ -194,8 +159,7 @@ fn unit_agrees(kinds: &mut [u8; 512], u: RegUnit, kind: u8) -> bool
     requires { u.0 < 512 }
     ensures { (result ≡ true → NotedAt kinds.old kinds.new u.0 kind) × (result ≡ false → Differs kinds.old u.0 kind) }
 {
-    kinds_told(*kinds);
-    let i = wide(u.0);
+    let i = usize::from(u.0);
     let k = kinds[i];
     if k == kind {
         return true;
@@ -214,13 +178,11 @@ fn units_agree(t: &RegInfo, r: PhysReg, kinds: &mut [u8; 512]) -> bool
 {
     let kind = kind_of(t, r);
     let n = num_reg_units(t, r);
-    let mut j: usize = 0;
-    while j < n {
+    for j in 0..n {
         let u = reg_unit(t, r, j);
         if !unit_agrees(kinds, u, kind) {
             return false;
         }
-        j += 1;
     }
     true
 }
@@ -230,14 +192,10 @@ pub fn shared_memory(t: &RegInfo) -> bool
     ensures { result ≡ shared_memory (reg_info_of t.now) }
 {
     let mut kinds = [0u8; 512];
-    let mut i: u16 = 0;
-    let mut left = num_regs(t);
-    while 0 < left {
-        if !units_agree(t, PhysReg(i), &mut kinds) {
+    for i in 0..num_regs(t) {
+        if !units_agree(t, PhysReg(i as u16), &mut kinds) {
             return true;
         }
-        i += 1;
-        left -= 1;
     }
     false
 }
@@ -247,14 +205,10 @@ fn any_memory(t: &RegInfo, at: usize, n: usize) -> bool
     requires { (outside_limits (reg_info_of t.now) ≡ false) × (at + n ≤ 107520) × (all_below (num_regs (reg_info_of t.now)) (cells t.now at n) ≡ true) }
     ensures { result ≡ any_in (λ r. is_memory_reg (reg_info_of t.now) r) (cells t.now at n) }
 {
-    let mut i = at;
-    let mut left = n;
-    while 0 < left {
-        if is_memory_reg(t, PhysReg(t[i])) {
+    for i in 0..n {
+        if is_memory_reg(t, PhysReg(t[at + i])) {
             return true;
         }
-        i += 1;
-        left -= 1;
     }
     false
 }
@@ -288,16 +242,7 @@ fn banks_unfit(t: &RegInfo) -> bool
     requires { outside_limits (reg_info_of t.now) ≡ false }
     ensures { result ≡ some_below (num_banks (reg_info_of t.now)) (unfit_bank (reg_info_of t.now)) }
 {
-    let mut i: u16 = 0;
-    let mut left = num_banks(t);
-    while 0 < left {
-        if bank_unfit(t, RegBank(i)) {
-            return true;
-        }
-        i += 1;
-        left -= 1;
-    }
-    false
+    (0..num_banks(t)).any(|i| bank_unfit(t, RegBank(i as u16)))
 }
 
 // A class without slots has an order, whose last register isn't memory.
@@ -319,18 +264,10 @@ fn classes_unfit(t: &RegInfo) -> bool
     requires { outside_limits (reg_info_of t.now) ≡ false }
     ensures { result ≡ some_below (num_classes (reg_info_of t.now)) (unfit_order (reg_info_of t.now)) }
 {
-    let mut i: u16 = 0;
-    let mut left = num_classes(t);
-    while 0 < left {
-        if class_unfit(t, RegClass(i)) {
-            return true;
-        }
-        i += 1;
-        left -= 1;
-    }
-    false
+    (0..num_classes(t)).any(|i| class_unfit(t, RegClass(i as u16)))
 }
 
+#[tactic(auto, unfolding(reginfo::specs::Refused::unfit_class))]
 pub fn unfit_class(t: &RegInfo) -> bool
     requires { outside_limits (reg_info_of t.now) ≡ false }
     ensures { result ≡ unfit_class (reg_info_of t.now) }

@@ -1,5 +1,4 @@
 -- `scratch_trials::move_trials` meets its contract.
-use borrow.Author.Rules.{rules}
 use Rattle.scratch_trials.proofs.move_trials.Goals as goal
 
 pub report_slot_to_slot-requires : goal.report_slot_to_slot-requires

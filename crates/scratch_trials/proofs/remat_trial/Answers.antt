@@ -1,5 +1,4 @@
 -- `scratch_trials::rebuild_trial` meets its contract.
-use borrow.Author.Rules.{rules}
 use Rattle.scratch_trials.proofs.remat_trial.Goals as goal
 
 pub report_remat-requires : goal.report_remat-requires

@@ -2,7 +2,6 @@
 use native.Mathlib.Omega.{arith}
 use Rattle.scratch.proofs.Bounds.{fewer}
 use Rattle.scratch_trials.proofs.Laws.{slot-zero}
-use borrow.Author.Rules.{rules}
 use Rattle.scratch_trials.proofs.report_remat.Goals as goal
 
 pub remat-requires : goal.remat-requires

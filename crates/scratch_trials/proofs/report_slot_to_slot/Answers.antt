@@ -2,7 +2,6 @@
 use native.Mathlib.Omega.{arith}
 use Rattle.scratch.proofs.Bounds.{fewer}
 use Rattle.scratch_trials.proofs.Laws.{slot-zero, slot-one}
-use borrow.Author.Rules.{rules}
 use Rattle.scratch_trials.proofs.report_slot_to_slot.Goals as goal
 
 pub slot_to_slot-requires : goal.slot_to_slot-requires

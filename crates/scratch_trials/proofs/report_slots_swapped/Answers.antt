@@ -3,7 +3,6 @@ use native.Mathlib.Omega.{arith}
 use Rattle.scratch.proofs.Bounds.{fewer}
 use mathlib.Core.Path.{refl}
 use Rattle.scratch_trials.proofs.Laws.{slot-zero, slot-one}
-use borrow.Author.Rules.{rules}
 use Rattle.scratch_trials.proofs.report_slots_swapped.Goals as goal
 
 pub slots_swapped-requires : goal.slots_swapped-requires

@@ -1,7 +1,6 @@
 -- `scratch_trials::start` meets its contract.
 use Rattle.scratch_trials.proofs.Laws.{started}
 use native.Mathlib.Omega.{arith}
-use borrow.Author.Rules.{rules}
 use Rattle.scratch_trials.proofs.start.Goals as goal
 
 pub new-requires : goal.new-requires

@@ -3,7 +3,6 @@ use mathlib.Core.Path.{refl}
 use Rattle.entity.specs.Logic.{indices}
 use Rattle.shipped.specs.Shipped.{shipped_units, shipped_row}
 use Rattle.shipped.specs.Table.{joined, table}
-use borrow.Author.Rules.{rules}
 use Rattle.shipped.proofs.entry.Goals as goal
 
 pub returns : goal.returns

@@ -1,7 +1,6 @@
 -- `put_class` meets its contract, part by part.
 use Rattle.shipped.proofs.Writes.{class-written}
-use borrow.Author.Rules.{rules}
 use Rattle.shipped.proofs.put_class.Goals as goal
 
 pub returns : goal.returns
-returns c = rw (class-written, c.put_rising-3.ensures, c.put_rising-2.ensures, c.put_rising.ensures, c.wide-first.ensures.0, c.wide-i.ensures.0)
+returns c = rw (class-written, c.put_rising-3.ensures, c.put_rising-2.ensures, c.put_rising.ensures, c.from-first.ensures, c.from-i.ensures)

@@ -1,22 +1,20 @@
-use Prim.Native.Nat.{ℕ, ◌+◌}
-use mathlib.Core.Path.{◌≡◌, refl, sym, ap, ◌∙◌}
+use Prim.Native.Nat.{ℕ, ◌+◌, ◌-◌, ◌<◌, ◌≤◌}
+use mathlib.Core.Path.{◌≡◌, sym, ◌∙◌}
+use mathlib.Core.List.{List}
 use native.Mathlib.Omega.{arith}
-use borrow.Author.Rules.{rules}
-use Rattle.shipped.specs.Writes.{written, regs_writes}
+use Rattle.shipped.specs.Writes.{written, reg_writes, regs_writes}
 use Rattle.shipped.proofs.Writes.{regs-step}
 use Rattle.shipped.proofs.put_regs.Goals as goal
 
-pub loop-left-init : goal.loop-left-init
-loop-left-init c = (refl, refl)
+one-more : (t : List ℕ) (r : ℕ) → r < 56 → written t (regs_writes r (56 - r)) ≡ written (written t (reg_writes r)) (regs_writes (r + 1) (56 - (r + 1)))
+one-more t r h = let m : 56 - (r + 1) ≡ 56 - r - 1 = omega arith in rw m (regs-step t r (56 - r) (omega arith))
 
-pub loop-left-preserved : goal.loop-left-preserved
-loop-left-preserved c =
-    let l = c.loop-left in
-    (l.invariant.0 ∙ regs-step l.t l.r l.left c.loop-left-test.true ∙ rw c.put_reg.ensures, omega arith)
+none-left : (t : List ℕ) (r : ℕ) → 56 ≤ r → written t (regs_writes r (56 - r)) ≡ t
+unfolding written regs_writes
+none-left t r h = let z : 56 - r ≡ 0 = omega arith in rw z
+
+pub loop-r-preserved : goal.loop-r-preserved
+loop-r-preserved c = c.loop-r.invariant ∙ one-more c.loop-r.t c.loop-r.r (omega arith) ∙ rw c.put_reg.ensures
 
 pub returns : goal.returns
-unfolding written regs_writes
-returns c =
-    let l = c.loop-left in
-    let z : l.left ≡ 0 = omega arith in
-    sym (l.invariant.0 ∙ ap (λ (n : ℕ). written l.t (regs_writes l.r n)) z)
+returns c = sym (c.loop-r.invariant ∙ none-left c.loop-r.t c.loop-r.r (omega arith))

@@ -1,7 +1,6 @@
 -- `reg_unit` meets its contract: the unit list stands in the table.
 use native.Mathlib.Omega.{arith}
 use Rattle.shipped.proofs.Rule.{list_inside, unit-is}
-use borrow.Author.Rules.{rules}
 use Rattle.shipped.proofs.reg_unit.Goals as goal
 
 pub overflow_add-at : goal.overflow_add-at

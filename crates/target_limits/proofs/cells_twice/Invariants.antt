@@ -1,15 +1,9 @@
--- A search: the number at each cell is looked for among the cells after it.
-use Prim.Native.Nat.{◌+◌}
-use mathlib.Core.Path.{◌≡◌, refl, sym, ◌∙◌}
-use native.Mathlib.Omega.{arith}
-use borrow.Author.Rules.{rules}
-use Rattle.entity.specs.Logic.{twice, cells}
-use Rattle.entity.proofs.Laws.{cells-step}
-use Rattle.target_limits.proofs.Laws.{twice-here, twice-on}
+-- The number at each cell so far is not among the cells after it.
+use Prim.Native.Nat.{ℕ, ◌<◌}
+use mathlib.Core.Path.{◌≡◌}
+use mathlib.Core.Bool.{false}
+use Rattle.target_limits.proofs.Walks.{again}
 use Rattle.target_limits.proofs.cells_twice.Given as goal
 
-abbrev pub invariant-loop-left : goal.invariant-loop-left
-invariant-loop-left l = (twice (cells l.t l.at l.n) ≡ twice (cells l.t l.i l.left)) × (l.i + l.left ≡ l.at + l.n)
-
-abbrev pub decreases-loop-left : goal.decreases-loop-left
-decreases-loop-left l = l.left
+abbrev pub invariant-loop-i : goal.invariant-loop-i
+invariant-loop-i l = (k : ℕ) → k < l.i → again l.t l.at l.n k ≡ false

@@ -1,15 +1,11 @@
 -- A class's members are cells of the table.
 use mathlib.Core.Path.{sym, ap, ◌∙◌}
-use borrow.Author.Rules.{rules}
-use borrow.Author.Tests.{le-leb, lt-leb}
+use borrow.Author.Tests.{le-leb}
 use Rattle.reginfo.specs.RegInfo.{num_regs}
 use Rattle.reginfo.specs.Table.{reg_info_of}
 use Rattle.reginfo.specs.Refused.{all_below}
 use Rattle.target_limits.proofs.Laws.{members-cells}
 use Rattle.target_limits.proofs.members_fit.Goals as goal
-
-pub returns-then-n-gt512 : goal.returns-then-n-gt512
-returns-then-n-gt512 c = rw (lt-leb _ _ (rw c.num_members-n.ensures at c.if-n-gt512.true))
 
 pub returns : goal.returns
 returns c =

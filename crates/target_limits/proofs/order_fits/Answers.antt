@@ -1,15 +1,11 @@
 -- A class's order is cells of the table.
 use mathlib.Core.Path.{sym, ap, ◌∙◌}
-use borrow.Author.Rules.{rules}
-use borrow.Author.Tests.{le-leb, lt-leb}
+use borrow.Author.Tests.{le-leb}
 use Rattle.reginfo.specs.RegInfo.{num_regs}
 use Rattle.reginfo.specs.Table.{reg_info_of}
 use Rattle.reginfo.specs.Refused.{all_below}
 use Rattle.target_limits.proofs.Laws.{order-cells}
 use Rattle.target_limits.proofs.order_fits.Goals as goal
-
-pub returns-then-n-gt512 : goal.returns-then-n-gt512
-returns-then-n-gt512 c = rw (lt-leb _ _ (rw c.order_len-n.ensures at c.if-n-gt512.true))
 
 pub returns : goal.returns
 returns c =

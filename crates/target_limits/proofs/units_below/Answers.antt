@@ -1,6 +1,5 @@
 -- A register's units are cells of the table.
 use mathlib.Core.Path.{sym, ap, ◌∙◌}
-use borrow.Author.Rules.{rules}
 use Rattle.reginfo.specs.Table.{reg_info_of}
 use Rattle.reginfo.specs.Refused.{all_below}
 use Rattle.target_limits.proofs.Laws.{units-cells}

@@ -1,45 +1,13 @@
-use Prim.Native.Nat.{ℕ, ◌+◌}
-use mathlib.Core.Path.{◌≡◌, sym, ◌∙◌}
-use mathlib.Core.Bool.{Bool}
-use mathlib.Core.List.{List}
-use native.Mathlib.Omega.{arith}
-use borrow.Author.Rules.{rules}
-use Rattle.entity.specs.Logic.{any_in, indices}
-use Rattle.entity.proofs.Laws.{indices_step}
-use Rattle.reginfo.specs.RegInfo.{num_classes}
+use Rattle.std.proofs.Common.{rules, tests}
+use Rattle.std.proofs.iter.Serving.{serving}
 use Rattle.reginfo.specs.Table.{reg_info_of}
-use Rattle.target_limits.proofs.Laws.{any_here, any-on}
 use Rattle.target_limits.proofs.Limits.{classes-few, counts_of}
+use Rattle.target_limits.proofs.Walks.{below-from_any}
 use Rattle.target_rules.specs.Rules.{foreign_class}
-use Rattle.target_rules.proofs.classes_foreign.Invariants.{bad}
 use Rattle.target_rules.proofs.classes_foreign.Goals as goal
 
-pub loop-left-init : goal.loop-left-init
-loop-left-init c = (rw c.num_classes-left.ensures, omega arith)
-
-pub class_foreign-requires : goal.class_foreign-requires
-class_foreign-requires c =
-    let start = c in
-    (start.requires.0, omega arith, start.requires.1)
-
-pub returns-then-class_foreign : goal.returns-then-class_foreign
-returns-then-class_foreign c =
-    let turn = c.loop-left in
-    sym (turn.invariant.0 ∙ any_here (bad c.args.t.now) (indices_step turn.i turn.left c.loop-left-test.true) (sym c.class_foreign.ensures ∙ c.if-class_foreign.true))
-
-pub overflow_add-i : goal.overflow_add-i
-overflow_add-i c =
-    let start = c in
-    omega (arith, classes-few (reg_info_of start.args.t.now) (counts_of (reg_info_of start.args.t.now) start.requires.0))
-
-pub loop-left-preserved : goal.loop-left-preserved
-loop-left-preserved c =
-    let turn = c.loop-left in
-    (turn.invariant.0 ∙ any-on (bad c.args.t.now) (indices_step turn.i turn.left c.loop-left-test.true) (sym c.class_foreign.ensures ∙ c.if-class_foreign.false), omega arith)
+pub any-requires-clause-callable : goal.any-requires-clause-callable
+any-requires-clause-callable c = grind (serving, classes-few (reg_info_of c.args.t.now) (counts_of (reg_info_of c.args.t.now) c.requires.0))
 
 pub returns : goal.returns
-unfolding any_in indices
-returns c =
-    let turn = c.loop-left in
-    let z : turn.left ≡ 0 = omega arith in
-    sym (turn.invariant.0 ∙ rw z)
+returns c = below-from_any (foreign_class (reg_info_of c.args.t.now)) _ c.any.ensures.ran _ (cc) (λ x b q k. search (rules, tests))

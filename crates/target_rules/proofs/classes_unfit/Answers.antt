@@ -1,43 +1,13 @@
-use Prim.Native.Nat.{ℕ, ◌+◌}
-use mathlib.Core.Path.{◌≡◌, sym, ◌∙◌}
-use mathlib.Core.Bool.{Bool}
-use mathlib.Core.List.{List}
-use native.Mathlib.Omega.{arith}
-use borrow.Author.Rules.{rules}
-use Rattle.entity.specs.Logic.{any_in, indices}
-use Rattle.entity.proofs.Laws.{indices_step}
-use Rattle.reginfo.specs.RegInfo.{num_classes}
+use Rattle.std.proofs.Common.{rules, tests}
+use Rattle.std.proofs.iter.Serving.{serving}
 use Rattle.reginfo.specs.Table.{reg_info_of}
-use Rattle.target_limits.proofs.Laws.{any_here, any-on}
 use Rattle.target_limits.proofs.Limits.{classes-few, counts_of}
+use Rattle.target_limits.proofs.Walks.{below-from_any}
 use Rattle.target_rules.specs.Rules.{unfit_order}
-use Rattle.target_rules.proofs.classes_unfit.Invariants.{bad}
 use Rattle.target_rules.proofs.classes_unfit.Goals as goal
 
-pub loop-left-init : goal.loop-left-init
-loop-left-init c = (rw c.num_classes-left.ensures, omega arith)
-
-pub class_unfit-requires : goal.class_unfit-requires
-class_unfit-requires c = (c.requires, omega arith)
-
-pub returns-then-class_unfit : goal.returns-then-class_unfit
-returns-then-class_unfit c =
-    let turn = c.loop-left in
-    sym (turn.invariant.0 ∙ any_here (bad c.args.t.now) (indices_step turn.i turn.left c.loop-left-test.true) (sym c.class_unfit.ensures ∙ c.if-class_unfit.true))
-
-pub overflow_add-i : goal.overflow_add-i
-overflow_add-i c =
-    let start = c in
-    omega (arith, classes-few (reg_info_of start.args.t.now) (counts_of (reg_info_of start.args.t.now) start.requires))
-
-pub loop-left-preserved : goal.loop-left-preserved
-loop-left-preserved c =
-    let turn = c.loop-left in
-    (turn.invariant.0 ∙ any-on (bad c.args.t.now) (indices_step turn.i turn.left c.loop-left-test.true) (sym c.class_unfit.ensures ∙ c.if-class_unfit.false), omega arith)
+pub any-requires-clause-callable : goal.any-requires-clause-callable
+any-requires-clause-callable c = grind (serving, classes-few (reg_info_of c.args.t.now) (counts_of (reg_info_of c.args.t.now) c.requires))
 
 pub returns : goal.returns
-unfolding any_in indices
-returns c =
-    let turn = c.loop-left in
-    let z : turn.left ≡ 0 = omega arith in
-    sym (turn.invariant.0 ∙ rw z)
+returns c = below-from_any (unfit_order (reg_info_of c.args.t.now)) _ c.any.ensures.ran _ (cc) (λ x b q k. search (rules, tests))

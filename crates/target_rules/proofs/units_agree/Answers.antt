@@ -1,28 +1,18 @@
-use Prim.Native.Nat.{◌-◌, ◌≤◌}
 use mathlib.Core.Path.{◌≡◌, ◌∙◌}
 use mathlib.Core.Bool.{true≢false, false≢true}
 use native.Mathlib.Omega.{arith}
-use borrow.Author.Rules.{rules}
 use borrow.Author.Tests.{not-true, not-false}
 use Rattle.entity.proofs.Laws.{has_get_d}
 use Rattle.reginfo.specs.RegInfo.{reg_units}
 use Rattle.reginfo.specs.Table.{reg_info_of}
 use Rattle.target_limits.proofs.Limits.{reg_known, width_few}
-use Rattle.target_rules.proofs.UnitKinds.{Noting, begin, finish, one_more, other-kind, unit-low}
+use Rattle.target_rules.proofs.UnitKinds.{finish, one_more, other-kind, unit-low}
 use Rattle.target_rules.proofs.units_agree.Goals as goal
-
-pub kind_of-kind-requires : goal.kind_of-kind-requires
-kind_of-kind-requires c = (c.requires.0, c.requires.1)
 
 pub num_reg_units-n-requires : goal.num_reg_units-n-requires
 num_reg_units-n-requires c =
     let start = c in
     reg_known (reg_info_of start.args.t.now) start.requires.0 start.args.r.0 start.requires.1
-
-pub loop-j-init : goal.loop-j-init
-loop-j-init c =
-    let start = c in
-    (omega arith, begin (reg_info_of start.args.t.now) start.args.r.0 start.args.kinds.now start.requires.2)
 
 pub reg_unit-u-requires : goal.reg_unit-u-requires
 reg_unit-u-requires c =

@@ -3,7 +3,6 @@ use mathlib.Core.Path.{sym, ◌∙◌}
 use mathlib.Core.Bool.{true≢false}
 use native.Mathlib.Omega.{arith}
 use lib.ListN.{get_or}
-use borrow.Author.Rules.{rules}
 use borrow.Author.Tests.{eqb-true, eqb-false}
 use Rattle.reginfo.specs.Table.{reg_info_of}
 use Rattle.target_limits.proofs.Limits.{reg_known}
@@ -48,7 +47,7 @@ returns-then-widths-at-eq0 c =
     let m = c in
     let s = m in
     let plain = sym m.is_memory_reg-memory.ensures ∙ m.if-memory.false in
-    let b = c.wide-at.ensures.0 ∙ c.bank_for_reg-b.ensures in
+    let b = c.from-at.ensures ∙ c.bank_for_reg-b.ensures in
     let n = m.num_reg_units-n.ensures in
     let first = widths-first (reg_info_of s.args.t.now) s.requires.0 s.args.widths.now s.args.r.0 s.requires.1 s.requires.2 plain (rw b at c.if-widths-at-eq0.true) in
     record { same = λ e. rw (b, n) first; other = λ e. absurd (true≢false e) }
@@ -63,9 +62,9 @@ returns c =
     let m = c in
     let s = m in
     let plain = sym m.is_memory_reg-memory.ensures ∙ m.if-memory.false in
-    let b = c.wide-at.ensures.0 ∙ c.bank_for_reg-b.ensures in
+    let b = c.from-at.ensures ∙ c.bank_for_reg-b.ensures in
     let n = m.num_reg_units-n.ensures in
-    let noted = get_or s.args.widths.now c.wide-at.result 0 in
+    let noted = get_or s.args.widths.now c.from-at.result 0 in
     let width = m.num_reg_units-n.result in
     let next = widths-next (reg_info_of s.args.t.now) s.requires.0 s.args.widths.now s.args.r.0 s.requires.1 s.requires.2 in
     let other = widths-other (reg_info_of s.args.t.now) s.requires.0 s.args.widths.now s.args.r.0 s.requires.1 s.requires.2 plain (rw b at c.if-widths-at-eq0.false) in
