@@ -117,9 +117,7 @@ pub fn take_free(t: &RegInfo, free: &[u32], available: &mut RegUnitSet) -> Added
     small_set::clear(available);
     let units = reginfo::num_units(t) as u32;
     let mut least: u32 = 0;
-    let mut at: usize = 0;
-    while at < free.len() {
-        let u = free[at];
+    for &u in free {
         if units <= u {
             return Added::Refused(2);
         }
@@ -128,7 +126,6 @@ pub fn take_free(t: &RegInfo, free: &[u32], available: &mut RegUnitSet) -> Added
         }
         small_set::insert(available, RegUnit(u as u16));
         least = u + 1;
-        at += 1;
     }
     Added::Yes
 }

@@ -4,7 +4,7 @@ use mathlib.Core.Path.{◌≡◌, refl, sym, ap, subst, ◌∙◌}
 use mathlib.Core.Bool.{Bool, true, false, false≢true}
 use mathlib.Core.List.{List, ◌∷◌}
 use mathlib.Core.Option.{some}
-use mathlib.Core.Logic.{◌⊎◌, ⊎_elim}
+use mathlib.Core.Logic.{⊎_elim}
 use native.Mathlib.Omega.{arith}
 use lib.Dec.{eqb}
 use borrow.Author.Tests.{eq-eqb, ne_eqb}
@@ -20,9 +20,8 @@ use Rattle.machine.proofs.Diversions.{was-live}
 use Rattle.machine.specs.Paid as machine
 use Rattle.machine.proofs.Bound.{live-some, undivert-paid, Left}
 use Rattle.carried.specs.Carried.{count_of, move_at, value_at, rows_of, carried_by}
-use Rattle.edit.specs.Buffer as edit
 use Rattle.scratch.specs.declared.ScratchAllocator.{ScratchAllocator}
-use Rattle.scratch.specs.State.{T, F, owed, PlaceFits}
+use Rattle.scratch.specs.State.{T, F, PlaceFits}
 use Rattle.scratch.specs.Promises.{Tables, state_of, FitsIn}
 use Rattle.scratch.specs.Diversions.{count_at, alloc_at, scratch_at, diversion_at, Undiverts}
 use Rattle.scratch.proofs.Bounds.{fewer}

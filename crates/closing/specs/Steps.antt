@@ -1,10 +1,10 @@
 -- What the steps of closing a move ensure: from every state of the rules that the tables stand for, they go where the rules go.
-use Rattle.std.specs.Prelude.{ℕ, suc, ◌+◌, ◌<◌, ◌≡◌, Bool, true, false, List, eqb, length}
+use Rattle.std.specs.Prelude.{ℕ, suc, ◌+◌, ◌<◌, ◌≡◌, true, false, List, eqb, length}
 use Rattle.std.proofs.Math.Option.{Option, some}
-use Rattle.entity.specs.Logic.{pick, any_in}
+use Rattle.entity.specs.Logic.{pick}
 use Rattle.reginfo.specs.RegInfo.{RegInfo}
 use Rattle.function.specs.Function.{Function}
-use Rattle.rules.specs.Order.{KeptMove, ParallelMoves, is_pending, value, source, writers, carried, emit, divert, lead, undivert_all, close}
+use Rattle.rules.specs.Order.{KeptMove, ParallelMoves, is_pending, value, carried, emit, divert, undivert_all}
 use Rattle.machine.specs.Paid.{Paid}
 use Rattle.carried.specs.Carried as rows
 use Rattle.scratch.specs.declared.ScratchAllocator.{ScratchAllocator}

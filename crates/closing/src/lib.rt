@@ -169,12 +169,9 @@ fn undivert_all(
     ensures { (e marks : List ℕ) (p : ParallelMoves) → MovesOk t.now f.now e → LetsGo t.now f.now cache.now e m 0 (count_of c.now) p k (work edits.old available.old slots.old sources.now d.old marks c.now) → Gone t.now f.now cache.now e (undivert_all (T t.now) (F f.now) (moves_of e) m (p.diverted.values m)) p result (work edits.new available.new slots.new sources.now d.new marks c.now) }
 {
     let mut q = k;
-    let mut i: usize = 0;
-    let mut left = carried::len(c);
-    while 0 < left {
+    let n = carried::len(c);
+    for i in 0..n {
         q = undivert_row(q, t, f, cache, available, sources, edits, slots, d, c, m, i);
-        i += 1;
-        left -= 1;
     }
     q
 }

@@ -15,7 +15,7 @@ use entity::{Allocation, AllocationKind, PhysReg, SpillSlot, Value};
 // Cell 0 counts the edits; they stand from cell 1 on, in the order made. 1,024 is 8 for each of 128 moves: no patch has more.
 pub type Edits = [u64; 1025];
 
-// 01: M, R, S and L. `Nothing` is what a word is that is no edit.
+// 01: M, R, S and L.
 #[derive(Drop)]
 pub enum Edit {
     Move {
@@ -35,7 +35,6 @@ pub enum Edit {
         to: PhysReg,
         from: SpillSlot,
     },
-    Nothing,
 }
 
 // 3 bits for the kind, so that there are words that are no edit; 14 for each place, since slots go up to 6,143 and a code is twice that; 12 for the value.
@@ -75,60 +74,51 @@ pub fn reload_word(r: PhysReg, s: SpillSlot) -> u64
 }
 
 // A save is into a slot and of a register.
-fn spill_read(to: Allocation, from: Allocation) -> Edit
+fn spill_read(to: Allocation, from: Allocation) -> Option<Edit>
     ensures { read_of result ≡ pick (and (is_slot to.0) (is_reg from.0)) (some (rule.EmergencySpill (to.0 / 2) (from.0 / 2))) none }
 {
-    let AllocationKind::SpillSlot(s) = to.kind() else {
-        return Edit::Nothing;
-    };
-    let AllocationKind::PhysReg(r) = from.kind() else {
-        return Edit::Nothing;
-    };
-    Edit::EmergencySpill { to: s, from: r }
+    match (to.kind(), from.kind()) {
+        (AllocationKind::SpillSlot(to), AllocationKind::PhysReg(from)) => {
+            Some(Edit::EmergencySpill { to, from })
+        }
+        _ => None,
+    }
 }
 
 // A reload is into a register and from a slot.
-fn reload_read(to: Allocation, from: Allocation) -> Edit
+fn reload_read(to: Allocation, from: Allocation) -> Option<Edit>
     ensures { read_of result ≡ pick (and (is_reg to.0) (is_slot from.0)) (some (rule.EmergencyReload (to.0 / 2) (from.0 / 2))) none }
 {
-    let AllocationKind::PhysReg(r) = to.kind() else {
-        return Edit::Nothing;
-    };
-    let AllocationKind::SpillSlot(s) = from.kind() else {
-        return Edit::Nothing;
-    };
-    Edit::EmergencyReload { to: r, from: s }
+    match (to.kind(), from.kind()) {
+        (AllocationKind::PhysReg(to), AllocationKind::SpillSlot(from)) => {
+            Some(Edit::EmergencyReload { to, from })
+        }
+        _ => None,
+    }
 }
 
-// What a word is.
-pub fn read(word: u64) -> Edit
+// The edit that a word is, if it is one.
+pub fn read(word: u64) -> Option<Edit>
     ensures { read_of result ≡ edit_of word }
 {
     let kind = word % 8;
     let to = Allocation((word / 8 % 16384) as u16);
     let from = Allocation((word / 131072 % 16384) as u16);
     let value = Value((word / 2147483648 % 4096) as u16);
+    // The word's kinds are the format's numbers, and each makes another edit: a match says it plainest.
     match kind {
-        1 => Edit::Move { to, from, value },
-        2 => Edit::Rematerialize { to, value },
+        1 => Some(Edit::Move { to, from, value }),
+        2 => Some(Edit::Rematerialize { to, value }),
         3 => spill_read(to, from),
         4 => reload_read(to, from),
-        _ => Edit::Nothing,
+        _ => None,
     }
-}
-
-// It does nothing: a call tells the length of the table that is passed.
-fn told(e: [u64; 1025]) -> bool
-    ensures { length e ≡ 1025 }
-{
-    true
 }
 
 // Forgets every edit.
 pub fn clear(e: &mut Edits)
     ensures { (words_of e.new ≡ []) × (edits_of e.new ≡ []) × (count_of e.new ≡ 0) × Written e.new }
 {
-    told(*e);
     e[0] = 0;
 }
 
@@ -143,7 +133,6 @@ pub fn push(e: &mut Edits, word: u64)
     requires { count_of e.old < 1024 }
     ensures { (words_of e.new ≡ word ∷ words_of e.old) × (count_of e.new ≡ count_of e.old + 1) }
 {
-    told(*e);
     let n = e[0] as usize;
     e[n + 1] = word;
     e[0] = n as u64 + 1;
@@ -183,12 +172,8 @@ pub fn hand_out(e: &Edits, list: &mut [u64]) -> usize
     ensures { (result ≡ count_of e.now) × (list.new ≡ words_of e.now ++ drop (count_of e.now) list.old) }
 {
     let n = e[0] as usize;
-    let mut at = 0;
-    let mut left = n;
-    while 0 < left {
-        list[at] = e[left];
-        at += 1;
-        left -= 1;
+    for i in 0..n {
+        list[i] = e[n - i];
     }
     n
 }

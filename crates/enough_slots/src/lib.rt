@@ -11,23 +11,15 @@ ghost use Rattle.small_set.specs.Set.{set_of, inserted};
 ghost use Rattle.machine.specs.Enough.{sizes_that, num_sizes, enough_slots};
 ghost use Rattle.enough_slots.specs.Sizes.{AllMarked};
 
-use entity::{Value, narrow};
+use entity::Value;
 use function::{Function, kept_evictions, num_values, value_bank};
 use reginfo::{RegInfo, spillslot_size};
-
-// It does nothing: a call tells the length of the table that is passed.
-fn told(sizes: [bool; 32]) -> bool
-    ensures { length sizes ≡ 32 }
-{
-    true
-}
 
 // Marks the size of the slots of a value's bank.
 fn mark_size(t: &RegInfo, f: &Function, v: Value, sizes: &mut [bool; 32])
     requires { Checked t.now f.now × (v.0 < num_values (function_of f.now)) }
     ensures { set_of sizes.new ≡ inserted (set_of sizes.old) (spillslot_size (reg_info_of t.now) (value_bank (function_of f.now) v.0)) }
 {
-    told(*sizes);
     let z = spillslot_size(t, value_bank(f, v));
     sizes[z] = true;
 }
@@ -37,12 +29,8 @@ fn mark_sizes(t: &RegInfo, f: &Function, sizes: &mut [bool; 32])
     requires { Checked t.now f.now }
     ensures { AllMarked (reg_info_of t.now) (function_of f.now) sizes.old sizes.new }
 {
-    let mut i = 0;
-    let mut left = num_values(f);
-    while 0 < left {
-        mark_size(t, f, Value(narrow(i)), sizes);
-        i += 1;
-        left -= 1;
+    for i in 0..num_values(f) {
+        mark_size(t, f, Value(i as u16), sizes);
     }
 }
 
@@ -50,14 +38,10 @@ fn num_marked(sizes: &[bool; 32]) -> usize
     ensures { result ≡ sizes_that (set_of sizes.now) }
 {
     let mut n: usize = 0;
-    let mut z: usize = 0;
-    let mut left: usize = 32;
-    while 0 < left {
-        if sizes[z] {
+    for marked in sizes {
+        if *marked {
             n += 1;
         }
-        z += 1;
-        left -= 1;
     }
     n
 }
@@ -79,5 +63,5 @@ pub fn enough_slots(t: &RegInfo, f: &Function) -> u16
 {
     let sizes = num_sizes(t, f);
     let each = 128 + kept_evictions(f);
-    narrow(each * sizes)
+    (each * sizes) as u16
 }

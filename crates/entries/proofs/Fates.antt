@@ -9,7 +9,7 @@ use lib.Dec.{ltb}
 use lib.ListN.{get_or}
 use borrow.Author.Tests.{ltb-true}
 use Rattle.entity.specs.Logic.{pick, and, or, no, has, twice}
-use Rattle.entity.specs.Place.{Place, reg, slot, names, place_at, read_place, code_of}
+use Rattle.entity.specs.Place.{Place, reg, slot, place_at, code_of}
 use Rattle.entity.proofs.Laws.{and-true, has-where, code-there}
 use Rattle.reginfo.specs.RegInfo.{RegInfo, num_regs, num_classes, is_memory, in_class}
 use Rattle.reginfo.specs.Known.{KnownMembers}
@@ -24,15 +24,6 @@ use Rattle.rules.specs.Patch.{names_place, needs_scratch, becomes_remat}
 use Rattle.function.specs.Known.{Checked}
 use Rattle.entries.specs.Known.{Writable}
 use Rattle.entries.proofs.Lists.{pick-none, pick_some, or_right}
-
--- what a code names
-pub some-named : (regs slots c : ℕ) (p : Place) → some p ≡ read_place regs slots c → true ≡ names regs slots (place_at c)
-unfolding read_place
-some-named regs slots c p e = sym (pick_some (names regs slots (place_at c)) p (place_at c) e).0
-
-pub none_named : (regs slots c : ℕ) → none ≡ read_place regs slots c → false ≡ names regs slots (place_at c)
-unfolding read_place
-none_named regs slots c e = sym (pick-none (names regs slots (place_at c)) (place_at c) e)
 
 module _ (t f : List ℕ) (ok : Checked t f) where
   abbrev T : RegInfo

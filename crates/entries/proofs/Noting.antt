@@ -6,7 +6,7 @@ use mathlib.Core.List.{List, [], ◌∷◌}
 use mathlib.Core.Option.{Option}
 use native.Mathlib.Omega.{arith}
 use lib.ListN.{get_or, length, drop, length-append, drop_of_length-le}
-use Rattle.entity.specs.Logic.{no, any_in, twice}
+use Rattle.entity.specs.Logic.{any_in, twice}
 use Rattle.sparse.specs.Map.{map_of, keys_of, known, Linked, Begins, Inserted, Same, Shortened}
 use Rattle.sparse.proofs.Laws.{length-keys, begins-all, begins-on}
 use Rattle.entries.specs.Known.{is_written, noted, Noted}

@@ -17,14 +17,14 @@ use Rattle.rules.specs.Order.{KeptMove, Remat, writer_from}
 use Rattle.rules.specs.Patch.{Sorted, nothing_sorted, destinations, overlaps_earlier}
 use Rattle.rules.specs.Sorted.{SortedOk}
 use Rattle.sparse.specs.Map.{map_of, known, updated, found_of, empty_map, Emptied, Same}
-use Rattle.sparse.specs.declared.Found.{Found}
+use Rattle.std.specs.Prelude as std
 use Rattle.entries.specs.Table.{with_move, with_remat}
 use Rattle.entries.specs.Known.{noted, Noted, or_remat, remat_writes, writer_of, places, Indexed, SameIndex, Tracked}
 use Rattle.entries.proofs.Lists.{or-none, or_right, or_assoc, any_append, any-end, any_step, twice-at, any-map, any_same, any_swap, meets_any}
 use Rattle.entries.proofs.Sources.{indexed-same}
 
 -- what holds of the answer that a look-up found
-pub by-found : {A : Type 0} (g : Option ℕ → A) {r v : Found} {o : Option ℕ} → found_of r ≡ o → r ≡ v → g (found_of v) ≡ g o
+pub by-found : {A : Type 0} (g : Option ℕ → A) {r v : std.Option ℕ} {o : Option ℕ} → found_of r ≡ o → r ≡ v → g (found_of v) ≡ g o
 by-found g h e = ap g (sym (ap found_of e) ∙ h)
 
 -- the map with each of the units at x

@@ -10,8 +10,8 @@ ghost use Rattle.entries.specs.Table.{sorted_of, stamp_of};
 ghost use Rattle.entries.specs.Known.{Writable, clashes_at, SourcedAt, Sourced};
 ghost use Rattle.entries.specs.Answers.{IndexedAs};
 
-use crate::{Entries, told};
-use entity::{Allocation, AllocationKind, PhysReg, RegUnit, narrow, wide};
+use crate::Entries;
+use entity::{Allocation, AllocationKind, PhysReg, RegUnit};
 use reginfo::RegInfo;
 
 // What tells the cells of this patch from those of the patches before it, most of them: so 512 cells need not be cleared for each patch. After 512
@@ -19,7 +19,7 @@ use reginfo::RegInfo;
 pub(crate) fn stamp(e: &Entries) -> usize
     ensures { result ≡ stamp_of e.now }
 {
-    wide(e[1540]) % 512
+    usize::from(e[1540]) % 512
 }
 
 // Whether the move that the cell of the unit tells is kept, has another source than r and has the unit in it. If none is, no kept move is.
@@ -27,13 +27,13 @@ fn told_clashes(t: &RegInfo, e: &Entries, r: PhysReg, u: RegUnit, m: usize) -> b
     requires { SourcedAt (reg_info_of t.now) e.now u.0 × (u.0 < 512) × (m ≡ get_or e.now (1028 + u.0) 0 % 128) }
     ensures { result ≡ clashes_at (reg_info_of t.now) (sorted_of e.now) (reg r.0) u.0 }
 {
-    if wide(e[1024]) <= m {
+    if usize::from(e[1024]) <= m {
         return false;
     }
     let p = Allocation(e[m * 4]);
     match p.kind() {
         AllocationKind::PhysReg(q) => {
-            if q.0 == r.0 {
+            if q == r {
                 return false;
             }
             reginfo::has_unit(t, q, u)
@@ -47,7 +47,7 @@ fn unit_clashes(t: &RegInfo, e: &Entries, r: PhysReg, u: RegUnit) -> bool
     requires { SourcedAt (reg_info_of t.now) e.now u.0 × (u.0 < 512) }
     ensures { result ≡ clashes_at (reg_info_of t.now) (sorted_of e.now) (reg r.0) u.0 }
 {
-    let c = wide(e[1028 + wide(u.0)]);
+    let c = usize::from(e[1028 + usize::from(u.0)]);
     if c / 128 != stamp(e) {
         return false;
     }
@@ -59,19 +59,16 @@ fn index_reg(t: &RegInfo, e: &mut Entries, r: PhysReg) -> bool
     requires { Sourced (reg_info_of t.now) e.old × KnownUnits (reg_info_of t.now) r.0 × (twice (reg_units (reg_info_of t.now) r.0) ≡ false) }
     ensures { IndexedAs (reg_info_of t.now) e.old e.new (reg r.0) result }
 {
-    told(*e);
     // The number of the move that is kept next. If 21 refuses this one, the cells that it wrote tell a move that is not there, or later another one,
     // whose units are looked up.
-    let x = narrow(stamp(e) * 128 + wide(e[1024]));
+    let x = (stamp(e) * 128 + usize::from(e[1024])) as u16;
     let n = reginfo::num_reg_units(t, r);
-    let mut j: usize = 0;
-    while j < n {
+    for j in 0..n {
         let u = reginfo::reg_unit(t, r, j);
         if unit_clashes(t, e, r, u) {
             return true;
         }
-        e[1028 + wide(u.0)] = x;
-        j += 1;
+        e[1028 + usize::from(u.0)] = x;
     }
     false
 }

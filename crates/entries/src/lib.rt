@@ -22,7 +22,7 @@ ghost use Rattle.function.specs.Known.{Checked};
 ghost use Rattle.entries.specs.Known.{Writable, Roomy, NamedRemat, NamedMove, PassedMove, EntriesOk};
 ghost use Rattle.entries.specs.Answers.{added_of, fate_of, AddedAs, RemattedAs};
 
-use entity::{Allocation, Named, RegClass, Value, narrow, wide};
+use entity::{Allocation, RegClass, Value};
 use function::{Function, Remat};
 use index::{index_source, stamp};
 pub use refusals::{last_overlaps, refusal};
@@ -40,26 +40,19 @@ pub enum Added {
 }
 
 // A move is kept, unless it is rebuilt, with scratch or without.
+// An enum of its own, since `Option<bool>` would name neither.
 #[derive(Drop)]
 enum Fate {
     Kept,
     Remat(bool),
 }
 
-// It does nothing: a call tells the length of the table that is passed.
-fn told(e: [u16; 1541]) -> bool
-    ensures { length e ≡ 1541 }
-{
-    true
-}
-
 // A patch with no entry, and with a stamp that the patch before it had not. What the tables held does not matter.
 pub fn new_parallel_move(e: &mut Entries, w: &mut SparseMap)
     ensures { (sorted_of e.new ≡ nothing_sorted) × ((t f : List ℕ) → EntriesOk t f e.new w.new) }
 {
-    told(*e);
     let next = stamp(e) + 1;
-    e[1540] = narrow(next);
+    e[1540] = next as u16;
     e[1024] = 0;
     e[1025] = 0;
     e[1026] = 0;
@@ -170,13 +163,9 @@ pub fn names_place(t: &RegInfo, f: &Function, code: u32) -> bool
     requires { Checked t.now f.now }
     ensures { result ≡ names_place (reg_info_of t.now) (function_of f.now) (place_at code) }
 {
-    let regs = narrow(reginfo::num_regs(t));
-    let slots = narrow(function::num_slots(f));
-    match Allocation::read(code, regs, slots) {
-        Named::PhysReg(_) => true,
-        Named::SpillSlot(_) => true,
-        Named::Nothing => false,
-    }
+    let regs = reginfo::num_regs(t) as u16;
+    let slots = function::num_slots(f) as u16;
+    Allocation::read(code, regs, slots).is_some()
 }
 
 // Whether a place and a value are the function's.
@@ -211,7 +200,7 @@ fn add_named_move(
         return Added::Refused(9);
     }
     // It would count among the writers of its own source. Tested even where the move would become a rebuild.
-    if source.0 == dest.0 {
+    if source == dest {
         return Added::Refused(10);
     }
     place_move(t, f, e, w, source, dest, v)
@@ -221,7 +210,7 @@ fn add_named_move(
 pub fn is_full(e: &Entries) -> bool
     ensures { result ≡ leb 128 (sorted_of e.now).count }
 {
-    128 <= wide(e[1027])
+    128 <= usize::from(e[1027])
 }
 
 // Adds a move, or answers the number by which it is refused and leaves what the tables stand for.

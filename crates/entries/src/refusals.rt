@@ -18,7 +18,7 @@ ghost use Rattle.entries.specs.Known.{free_in, is_free, last_clashes, EntriesOk}
 ghost use Rattle.entries.specs.Answers.{added_of};
 
 use crate::{Added, Entries};
-use entity::{Allocation, AllocationUnit, AllocationUnitKind, RegClass, Value, wide};
+use entity::{Allocation, AllocationUnit, AllocationUnitKind, RegClass, Value};
 use function::{Function, Remat};
 use reginfo::RegInfo;
 use small_set::RegUnitSet;
@@ -43,12 +43,10 @@ fn free_destination(w: &SparseMap, free: &RegUnitSet, given: bool) -> bool
         return false;
     }
     let n = sparse::len(w);
-    let mut j: usize = 0;
-    while j < n {
+    for j in 0..n {
         if is_free(free, sparse::key_at(w, j)) {
             return true;
         }
-        j += 1;
     }
     false
 }
@@ -82,15 +80,13 @@ pub fn last_overlaps(t: &RegInfo, f: &Function, e: &Entries) -> bool
     requires { Checked t.now f.now × SortedOk (reg_info_of t.now) (function_of f.now) (sorted_of e.now) × (length (sorted_of e.now).remats_with_scratch ≤ 128) }
     ensures { result ≡ last_overlaps (reg_info_of t.now) (function_of f.now) (sorted_of e.now) }
 {
-    let n = wide(e[1026]);
-    let mut i: usize = 0;
-    while i < n {
+    let n = usize::from(e[1026]);
+    for i in 0..n {
         let dest = Allocation(e[768 + i * 2]);
         let v = Value(e[769 + i * 2]);
         if remat_clashes(t, f, dest, v) {
             return true;
         }
-        i += 1;
     }
     false
 }
@@ -100,9 +96,9 @@ pub fn last_overlaps(t: &RegInfo, f: &Function, e: &Entries) -> bool
 fn edit_bound(e: &Entries) -> usize
     ensures { result ≡ bound (sorted_of e.now) }
 {
-    let kept = wide(e[1024]);
-    let remats = wide(e[1025]);
-    let scratch = wide(e[1026]);
+    let kept = usize::from(e[1024]);
+    let remats = usize::from(e[1025]);
+    let scratch = usize::from(e[1026]);
     8 * kept + (5 * scratch + remats)
 }
 

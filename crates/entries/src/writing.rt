@@ -8,18 +8,18 @@ ghost use Rattle.entries.specs.Table.{sorted_of, counted_one, stored_move, store
 ghost use Rattle.entries.specs.Known.{Writable, is_written, SameIndex};
 ghost use Rattle.entries.specs.Answers.{NotedNew};
 
-use crate::{Entries, told};
-use entity::{Allocation, AllocationUnit, Value, narrow, wide};
+use crate::Entries;
+use entity::{Allocation, AllocationUnit, Value};
 use reginfo::RegInfo;
-use sparse::{Found, SparseMap};
+use sparse::SparseMap;
 
 fn has_writer(w: &SparseMap, u: AllocationUnit) -> bool
     requires { Linked w.now × (u.0 < 4608) }
     ensures { result ≡ is_written w.now u.0 }
 {
     match sparse::get(w, u) {
-        Found::Value(_) => true,
-        Found::Nothing => false,
+        Some(_) => true,
+        None => false,
     }
 }
 
@@ -31,15 +31,13 @@ pub(crate) fn note_writes(t: &RegInfo, w: &mut SparseMap, p: Allocation, x: u16)
 {
     let before = sparse::len(w);
     let n = reginfo::num_place_units(t, p);
-    let mut j: usize = 0;
-    while j < n {
+    for j in 0..n {
         let u = reginfo::place_unit(t, p, j);
         if has_writer(w, u) {
             sparse::shorten(w, before);
             return false;
         }
         sparse::insert(w, u, x);
-        j += 1;
     }
     true
 }
@@ -48,7 +46,7 @@ pub(crate) fn note_writes(t: &RegInfo, w: &mut SparseMap, p: Allocation, x: u16)
 fn is_move(e: &Entries, m: u16, source: Allocation, dest: Allocation, v: Value) -> bool
     ensures { result ≡ is_move e.now m source.0 dest.0 v.0 }
 {
-    let i = wide(m);
+    let i = usize::from(m);
     if 128 <= i {
         return false;
     }
@@ -75,8 +73,8 @@ pub(crate) fn is_dropped(
     ensures { result ≡ is_move_of e.now (map_of w.now (get_or (place_units (reg_info_of t.now) (place_at dest.0)) 0 0)) source.0 dest.0 v.0 }
 {
     match sparse::get(w, reginfo::place_unit(t, dest, 0)) {
-        Found::Value(m) => is_move(e, m, source, dest, v),
-        Found::Nothing => false,
+        Some(m) => is_move(e, m, source, dest, v),
+        None => false,
     }
 }
 
@@ -85,9 +83,8 @@ pub(crate) fn count_entry(e: &mut Entries)
     requires { get_or e.old 1027 0 < 128 }
     ensures { (e.new ≡ counted_one e.old) × (length e.old ≡ 1541) }
 {
-    told(*e);
-    let n = wide(e[1027]);
-    e[1027] = narrow(n + 1);
+    let n = usize::from(e[1027]);
+    e[1027] = (n + 1) as u16;
 }
 
 // Puts a move behind the kept ones.
@@ -95,11 +92,11 @@ fn store_move(e: &mut Entries, source: Allocation, dest: Allocation, v: Value)
     requires { get_or e.old 1024 0 < 128 }
     ensures { e.new ≡ stored_move e.old (get_or e.old 1024 0) source.0 dest.0 v.0 }
 {
-    let m = wide(e[1024]);
+    let m = usize::from(e[1024]);
     e[m * 4] = source.0;
     e[1 + m * 4] = dest.0;
     e[2 + m * 4] = v.0;
-    e[1024] = narrow(m + 1);
+    e[1024] = (m + 1) as u16;
 }
 
 // Puts a rebuild behind those of the list that starts at base and is counted at counter.
@@ -107,10 +104,10 @@ fn store_remat(e: &mut Entries, base: usize, counter: usize, dest: Allocation, v
     requires { (base ≤ 768) × (counter < 1028) × (get_or e.old counter 0 < 128) }
     ensures { e.new ≡ stored_remat e.old base counter (get_or e.old counter 0) dest.0 v.0 }
 {
-    let i = wide(e[counter]);
+    let i = usize::from(e[counter]);
     e[base + i * 2] = dest.0;
     e[base + 1 + i * 2] = v.0;
-    e[counter] = narrow(i + 1);
+    e[counter] = (i + 1) as u16;
 }
 
 // Keeps a move whose writes are noted and that the index tells.

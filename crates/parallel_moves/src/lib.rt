@@ -19,7 +19,6 @@ ghost use Rattle.parallel_moves.specs.Steps.{Ran, CanHandOver, HandedOver};
 pub use asking::{Asked, Preview, TakeAnswer, ask_granted, ask_patch_granted, take};
 use carried::Carried;
 use edit::Edits;
-use entity::narrow;
 use entries::{Added, Entries};
 use function::Function;
 pub use numbered::{add_entries, add_entry, resolve_patch, resolve_patch_granted};
@@ -52,7 +51,7 @@ pub fn own_grant(f: &Function, cache: &EmergencySpillSlotCache) -> Grant
 {
     Grant {
         made: slots::made(cache),
-        limit: narrow(function::slot_limit(f)),
+        limit: function::slot_limit(f) as u16,
     }
 }
 

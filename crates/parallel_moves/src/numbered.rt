@@ -59,16 +59,13 @@ pub fn add_entries(
     requires { Checked t.now f.now × EntriesOk t.now f.now e.old w.old }
     ensures { AllAdded t.now f.now e.old e.new w.new (entries_of numbers.now) (added_of result) }
 {
-    let mut at: usize = 0;
-    let mut left = numbers.len();
-    while 4 <= left {
-        if let Added::Refused(n) = add_entry(t, f, e, w, numbers, at) {
-            return Added::Refused(n);
+    let n = numbers.len();
+    for i in 0..n / 4 {
+        if let Added::Refused(r) = add_entry(t, f, e, w, numbers, i * 4) {
+            return Added::Refused(r);
         }
-        at += 4;
-        left -= 4;
     }
-    if 0 < left {
+    if n % 4 != 0 {
         return entries::add_remat(t, f, e, w, 0, 4294967295);
     }
     Added::Yes

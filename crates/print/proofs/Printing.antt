@@ -2,15 +2,12 @@
 use Prim.Native.Nat.{ℕ, suc, ◌+◌, ◌<◌, ◌≤◌}
 use mathlib.Core.Path.{◌≡◌, refl, sym, ap, subst, ◌∙◌}
 use mathlib.Core.List.{List, [], ◌∷◌, ◌++◌, map, append_assoc, append-nil}
-use mathlib.Core.Option.{Option}
 use native.Mathlib.Omega.{arith}
 use native.Mathlib.Numerals.{add-one}
 use lib.ListN.{length, take, drop, get_or, length-append, length-map}
 use lib.Seq.{take_at, take-suc, split_at, take-take, get_or-take, length-take-le}
 use Rattle.rules.specs.Edit.{Edit}
 use Rattle.edit.specs.Word.{word_of, InRange, AllInRange}
-use Rattle.edit.specs.Read.{read_of}
-use Rattle.edit.specs.declared.Edit as code
 use Rattle.edit.proofs.Laws.{there}
 use Rattle.print.specs.Text.{decimal, digits_of, place_text, edit_line, edit_lines, patch_line, patch_text}
 use Rattle.print.specs.Words.{line_of, word_line, word_lines, words_text, Words}
@@ -23,10 +20,6 @@ unfolding decimal digits_of place_text edit_lines
 trials = record { swap-full = refl; rebuild = refl; save = refl; reload = refl; refusal = refl; largest = refl }
 
 -- ---- words
--- the line of what a word was read as
-pub line_read : {k v : code.Edit} {o : Option Edit} → read_of k ≡ o → k ≡ v → line_of (read_of v) ≡ line_of o
-line_read h e = ap line_of (sym (ap read_of e) ∙ h)
-
 -- the line of an edit's word is that edit's
 pub line-there : (e : Edit) → InRange e → word_line (word_of e) ≡ edit_line e
 line-there e r = ap line_of (there e r)

@@ -10,19 +10,17 @@ ghost use Rattle.print.specs.Words.{word_line, word_lines, words_text, Words};
 ghost use Rattle.print.specs.Put.{Room, Put};
 
 use edit::Edit;
-use entity::{Allocation, AllocationKind, PhysReg, SpillSlot, Value, wide};
+use entity::{Allocation, AllocationKind, PhysReg, SpillSlot, Value};
 
 // The bytes of a text as they are.
 pub fn put_text(out: &mut [u8], n: usize, text: &[u8]) -> usize
     requires { Room out.old n text.now }
     ensures { Put out.old out.new n text.now result }
 {
-    let mut i = 0;
-    while i < text.len() {
+    for i in 0..text.len() {
         out[n + i] = text[i];
-        i += 1;
     }
-    n + i
+    n + text.len()
 }
 
 // A number in base ten.
@@ -50,7 +48,7 @@ pub fn put_register(out: &mut [u8], n: usize, r: PhysReg) -> usize
     ensures { Put out.old out.new n (place_text (reg r.0)) result }
 {
     let at = put_text(out, n, b"r");
-    put_number(out, at, wide(r.0))
+    put_number(out, at, usize::from(r.0))
 }
 
 // s and the number.
@@ -59,7 +57,7 @@ pub fn put_slot(out: &mut [u8], n: usize, s: SpillSlot) -> usize
     ensures { Put out.old out.new n (place_text (slot s.0)) result }
 {
     let at = put_text(out, n, b"s");
-    put_number(out, at, wide(s.0))
+    put_number(out, at, usize::from(s.0))
 }
 
 pub fn put_place(out: &mut [u8], n: usize, place: Allocation) -> usize
@@ -78,7 +76,7 @@ fn put_value(out: &mut [u8], n: usize, v: Value) -> usize
     ensures { Put out.old out.new n (spaced (decimal v.0) newline) result }
 {
     let at = put_text(out, n, b" ");
-    put_last(out, at, wide(v.0))
+    put_last(out, at, usize::from(v.0))
 }
 
 // M, to, from, value.
@@ -133,11 +131,11 @@ pub fn put_edit(out: &mut [u8], n: usize, word: u64) -> usize
     ensures { Put out.old out.new n (word_line word) result }
 {
     match edit::read(word) {
-        Edit::Move { to, from, value } => put_move(out, n, to, from, value),
-        Edit::Rematerialize { to, value } => put_remat(out, n, to, value),
-        Edit::EmergencySpill { to, from } => put_spill(out, n, to, from),
-        Edit::EmergencyReload { to, from } => put_reload(out, n, to, from),
-        Edit::Nothing => n,
+        Some(Edit::Move { to, from, value }) => put_move(out, n, to, from, value),
+        Some(Edit::Rematerialize { to, value }) => put_remat(out, n, to, value),
+        Some(Edit::EmergencySpill { to, from }) => put_spill(out, n, to, from),
+        Some(Edit::EmergencyReload { to, from }) => put_reload(out, n, to, from),
+        None => n,
     }
 }
 
@@ -160,10 +158,8 @@ fn put_edits(out: &mut [u8], n: usize, list: &[u64], count: usize) -> usize
     ensures { Put out.old out.new n (word_lines (take count list.now)) result }
 {
     let mut at = n;
-    let mut i = 0;
-    while i < count {
+    for i in 0..count {
         at = put_edit(out, at, list[i]);
-        i += 1;
     }
     at
 }

@@ -69,10 +69,8 @@ pub fn remats(
 {
     let n = visits::num_remats(e);
     let mut q = k;
-    let mut i: usize = 0;
-    while i < n {
+    for i in 0..n {
         q = remat(q, t, e, available, edits, i);
-        i += 1;
     }
     q
 }
@@ -145,12 +143,10 @@ pub fn remats_with_scratch(
 {
     let n = visits::num_remats_with_scratch(e);
     let mut q = k;
-    let mut i: usize = 0;
-    while i < n {
+    for i in 0..n {
         let to = visits::remat_with_scratch_dest(e, i);
         let v = visits::remat_with_scratch_value(e, i);
         q = remat_with_scratch(q, t, f, cache, available, sources, edits, slots, to, v);
-        i += 1;
     }
     q
 }
@@ -171,14 +167,11 @@ pub fn hand_out(t: &RegInfo, e: &Entries, list: &mut [u64]) -> usize
     ensures { (result ≡ length (remats_of e.now)) × (list.new ≡ map word_of (last_first (remats_of e.now) (length (remats_of e.now))) ++ drop (length (remats_of e.now)) list.old) }
 {
     let n = visits::num_remats(e);
-    let mut at = 0;
-    let mut left = n;
-    while 0 < left {
-        left -= 1;
-        let to = visits::remat_dest(e, left);
-        let v = visits::remat_value(e, left);
+    for at in 0..n {
+        let i = n - 1 - at;
+        let to = visits::remat_dest(e, i);
+        let v = visits::remat_value(e, i);
         list[at] = edit::remat_word(to, v);
-        at += 1;
     }
     n
 }

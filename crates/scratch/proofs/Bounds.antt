@@ -11,7 +11,7 @@ use Rattle.entity.specs.Logic.{pick, or, has}
 use Rattle.entity.proofs.Laws.{has_get_d}
 use Rattle.rules.specs.Edit.{updated}
 use Rattle.edit.specs.Buffer.{count_of, Written}
-use Rattle.slots.specs.declared.Popped.{Popped}
+use Rattle.slots.specs.Steps.{Popped}
 use Rattle.slots.specs.Stacks.{stacks_of}
 use Rattle.slots.specs.Steps.{top_of, without_top, Taken, PutBack, Meets}
 use Rattle.slots.proofs.Laws.{fits_more}

@@ -14,24 +14,20 @@ use Rattle.entity.specs.declared.Allocation.{Allocation}
 use Rattle.entity.specs.Logic.{pick, and, has}
 use Rattle.entity.specs.Place.{Place, reg, slot, code_of, place_at, place_of}
 use Rattle.entity.proofs.Laws.{place-there, code-there}
-use Rattle.reginfo.specs.RegInfo.{num_regs, num_classes, class_members, allocation_order, includes_spillslots, spillslot_size, stack_to_stack_class, last_in_order, overlap, is_memory}
+use Rattle.reginfo.specs.RegInfo.{num_regs, num_classes, class_members, allocation_order, includes_spillslots, spillslot_size, stack_to_stack_class, last_in_order, is_memory}
 use Rattle.reginfo.proofs.Accepted.{regs-fit, known-units, ordered-fits, last-ordered}
 use Rattle.function.specs.Table.{function_of}
 use Rattle.small_set.specs.Set.{set_of}
-use Rattle.rules.specs.Edit.{Move, EmergencyReload, find, and_then}
+use Rattle.rules.specs.Edit.{Move, EmergencyReload, and_then}
 use Rattle.rules.specs.Scratch as rules
 use Rattle.rules.specs.Scratch.{meeting, searched_to, make_room, slot_scratch, evict_last, reuse, or_scratch, get_scratch_reg, move_edits, do_move, make_available, make_unavailable, release_place}
-use Rattle.search.specs.declared.Search.{Search}
-use Rattle.search.specs.declared.Search.TheVariants as search
-use Rattle.search.specs.declared.Search.TheVariants.{At}
-use Rattle.search.specs.Search.{search_of, position_in, Searched, barred_by, usable_in, with_units, without_units}
+use Rattle.search.specs.Search.{Search, search_of, position_in, Searched, barred_by, usable_in, with_units, without_units}
 use Rattle.edit.specs.Buffer.{count_of, edits_of, Written}
-use Rattle.slots.specs.declared.Popped.TheVariants as popped
+use Rattle.std.specs.Prelude.{Some, None}
 use Rattle.slots.specs.Stacks.{stacks_of, SlotsFit}
 use Rattle.slots.specs.Steps as slots
 use Rattle.scratch.specs.declared.Held.{Held}
 use Rattle.scratch.specs.declared.Evicted.{Evicted}
-use Rattle.scratch.specs.declared.Evicted.TheVariants.{Nothing}
 use Rattle.scratch.specs.declared.ScratchAllocator.{ScratchAllocator}
 use Rattle.scratch.specs.declared.finding.Scratch.{Scratch}
 use Rattle.scratch.specs.declared.finding.Taken.{Taken}
@@ -47,12 +43,12 @@ pub last-low : (t f : List ℕ) (b c : ℕ) → Evictable t f b c → (r : ℕ) 
 last-low t f b c ok r e = rw e (ordered-fits (T t) ok.checked.target c ok.class _ (last-ordered (T t) ok.checked.target c ok.class ok.slotless))
 
 -- what a search finds is a register
-pub found-low : (t f : List ℕ) (c : ℕ) (p : ℕ → Bool) (s : Search) (r : PhysReg) (i : ℕ) → Checked t f → c < num_classes (T t) → Searched p (allocation_order (T t) c) s → s ≡ At r i → r.0 < num_regs (T t)
+pub found-low : (t f : List ℕ) (c : ℕ) (p : ℕ → Bool) (s : Search) (r : PhysReg) (i : ℕ) → Checked t f → c < num_classes (T t) → Searched p (allocation_order (T t) c) s → s ≡ Some (r, i) → r.0 < num_regs (T t)
 found-low t f c p s r i ok h e q = ordered-fits (T t) ok.target c h r.0 (find-has p (allocation_order (T t) c) r.0 (sym e.is ∙ ap search_of q))
 
 module _ (t f cache : List ℕ) where
   -- a slot of the stack, and a new one
-  pub taken-top : (z : ℕ) (k : ScratchAllocator) (s s' : List ℕ) (x : SpillSlot) → Stocked k s cache → slots.Taken s cache s' z (popped.At x) → Acquired t f cache z k s (record { slot = x; allocator = k }) s'
+  pub taken-top : (z : ℕ) (k : ScratchAllocator) (s s' : List ℕ) (x : SpillSlot) → Stocked k s cache → slots.Taken s cache s' z (Some x) → Acquired t f cache z k s (record { slot = x; allocator = k }) s'
   taken-top z k s s' x h p =
       record {
         is = took (T t) (F f) z (cache_in k s cache) (stacks_of s cache z) x.0 (stacks_of s' cache) p.got p.stacks;
@@ -62,7 +58,7 @@ module _ (t f cache : List ℕ) where
         fits = λ a b n edits h. taken p (fewer (omega arith) (omega arith) (omega arith) h);
       }
 
-  pub taken-new : (z : ℕ) (k k' : ScratchAllocator) (s s' : List ℕ) (x : ℕ) → (function_of f).slots ≤ 4096 → Stocked k s cache → slots.Taken s cache s' z popped.Empty → x ≡ (function_of f).slots + made_of k → k'.packed ≡ k.packed + 1 → Acquired t f cache z k s (record { slot = record { 0 = x }; allocator = k' }) s'
+  pub taken-new : (z : ℕ) (k k' : ScratchAllocator) (s s' : List ℕ) (x : ℕ) → (function_of f).slots ≤ 4096 → Stocked k s cache → slots.Taken s cache s' z None → x ≡ (function_of f).slots + made_of k → k'.packed ≡ k.packed + 1 → Acquired t f cache z k s (record { slot = record { 0 = x }; allocator = k' }) s'
   taken-new z k k' s s' x l h p e q =
       let more = one_more k k' h.made q in
       record {
@@ -145,7 +141,7 @@ module _ (t f cache : List ℕ) where
     found-met r w' by by' e h = record { is = e ∙ ap by (sym met-state) ∙ h.is; place = h.place; fits = λ a b n g. h.fits a b n (met-one u g) }
 
     -- the first of an order
-    pub found_first : (b c : ℕ) (cycle : Bool) (sources : List Bool) (x : Search) (r : PhysReg) (p : Allocation) → Checked t f → c < num_classes (T t) → Searched (usable_in (T t) w.available sources cycle) (allocation_order (T t) c) x → x ≡ At r m → p.0 ≡ code_of (reg r.0)
+    pub found_first : (b c : ℕ) (cycle : Bool) (sources : List Bool) (x : Search) (r : PhysReg) (p : Allocation) → Checked t f → c < num_classes (T t) → Searched (usable_in (T t) w.available sources cycle) (allocation_order (T t) c) x → x ≡ Some (r, m) → p.0 ≡ code_of (reg r.0)
         → Found t f cache k w (record { place = p; position = m; allocator = k }) (tables w.edits w.available s) (get_scratch_reg (T t) (F f) b c (barred_by cycle sources))
     unfolding get_scratch_reg or_scratch
     found_first b c cycle sources x r p ok h e d q =
@@ -168,7 +164,7 @@ module _ (t f cache : List ℕ) where
       pub found-reused : i ≡ false → Found t f cache k (tables w.edits w.available s) r w' (reuse (T t) (F f) (evicted_of (T t) (evicted_in k)) m b c) → Found t f cache k w r w' (failing t f b c)
       found-reused q h = found-met r w' (reuse (T t) (F f) (evicted_of (T t) (evicted_in k)) m b c) (failing t f b c) (none_found false q) h
 
-  pub found-failing : (b c : ℕ) (k : ScratchAllocator) (w : Tables) (cycle : Bool) (sources : List Bool) (x : Search) (r : Scratch) (w' : Tables) → Searched (usable_in (T t) w.available sources cycle) (allocation_order (T t) c) x → x ≡ search.Nothing → Found t f cache k w r w' (failing t f b c)
+  pub found-failing : (b c : ℕ) (k : ScratchAllocator) (w : Tables) (cycle : Bool) (sources : List Bool) (x : Search) (r : Scratch) (w' : Tables) → Searched (usable_in (T t) w.available sources cycle) (allocation_order (T t) c) x → x ≡ None → Found t f cache k w r w' (failing t f b c)
       → Found t f cache k w r w' (get_scratch_reg (T t) (F f) b c (barred_by cycle sources))
   unfolding get_scratch_reg
   found-failing b c k w cycle sources x r w' e d h =

@@ -1,6 +1,6 @@
 -- 01: "one diversion per value". The diversion of value v in the lent table: its count at v, its first source at 4096 + v, its scratch at
 -- 8192 + v. The latter two mean something only while the count is above 0.
-use Rattle.std.specs.Prelude.{ℕ, pred, ◌+◌, ◌<◌, ◌≡◌, Bool, List, eqb, get_or}
+use Rattle.std.specs.Prelude.{ℕ, pred, ◌+◌, ◌≡◌, Bool, List, eqb, get_or}
 use Rattle.std.proofs.Math.Option.{Option, some}
 use Rattle.entity.specs.Logic.{pick}
 use Rattle.entity.specs.Place.{Place, place_at}

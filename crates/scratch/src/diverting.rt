@@ -10,7 +10,7 @@ ghost use Rattle.scratch.specs.Promises.{tables};
 
 use crate::ScratchAllocator;
 use edit::Edits;
-use entity::{Allocation, Value, narrow, wide};
+use entity::{Allocation, Value};
 use function::Function;
 use reginfo::RegInfo;
 use slots::{EmergencySpillSlotCache, Slots};
@@ -26,27 +26,20 @@ pub struct Divert {
     pub allocator: ScratchAllocator,
 }
 
-// It does nothing: a call tells the length of the table that is passed.
-fn told(d: [u16; 12288]) -> bool
-    ensures { length d ≡ 12288 }
-{
-    true
-}
-
 // The diversion of a value: how many moves need it, its scratch and its first source.
 pub fn ref_count(d: &Diversions, v: Value) -> usize
     requires { v.0 < 4096 }
     ensures { result ≡ count_at d.now v.0 }
 {
-    let i = wide(v.0);
-    wide(d[i])
+    let i = usize::from(v.0);
+    usize::from(d[i])
 }
 
 pub fn scratch_of(d: &Diversions, v: Value) -> Allocation
     requires { v.0 < 4096 }
     ensures { result.0 ≡ scratch_at d.now v.0 }
 {
-    let i = wide(v.0);
+    let i = usize::from(v.0);
     Allocation(d[8192 + i])
 }
 
@@ -54,7 +47,7 @@ pub fn first_of(d: &Diversions, v: Value) -> Allocation
     requires { v.0 < 4096 }
     ensures { result.0 ≡ alloc_at d.now v.0 }
 {
-    let i = wide(v.0);
+    let i = usize::from(v.0);
     Allocation(d[4096 + i])
 }
 
@@ -62,17 +55,15 @@ pub fn set_count(d: &mut Diversions, v: Value, n: usize)
     requires { (v.0 < 4096) × (n < 65536) }
     ensures { Noted v.0 n (alloc_at d.old v.0) (scratch_at d.old v.0) d.old d.new }
 {
-    told(*d);
-    let i = wide(v.0);
-    d[i] = narrow(n);
+    let i = usize::from(v.0);
+    d[i] = n as u16;
 }
 
 fn note(d: &mut Diversions, v: Value, n: u16, source: Allocation, scratch: Allocation)
     requires { v.0 < 4096 }
     ensures { Noted v.0 n source.0 scratch.0 d.old d.new }
 {
-    told(*d);
-    let i = wide(v.0);
+    let i = usize::from(v.0);
     d[i] = n;
     d[4096 + i] = source.0;
     d[8192 + i] = scratch.0;
@@ -132,7 +123,7 @@ impl ScratchAllocator {
         if n != 0 {
             let first = first_of(d, v);
             let p = scratch_of(d, v);
-            note(d, v, narrow(n + wide(added)), first, p);
+            note(d, v, (n + usize::from(added)) as u16, first, p);
             return Divert {
                 place: p,
                 allocator: self,

@@ -9,11 +9,10 @@ ghost use Rattle.scratch.specs.Promises.{tables, failing, Acquired, Found};
 
 use crate::{Evicted, Held, ScratchAllocator};
 use edit::Edits;
-use entity::{Allocation, RegBank, RegClass, SpillSlot, narrow, wide};
+use entity::{Allocation, RegBank, RegClass, SpillSlot};
 use function::Function;
 use reginfo::RegInfo;
-use search::Search;
-use slots::{EmergencySpillSlotCache, Popped, Slots};
+use slots::{EmergencySpillSlotCache, Slots};
 use small_set::RegUnitSet;
 
 // What a search found, the position that it reports, and the allocator after it.
@@ -43,16 +42,16 @@ impl ScratchAllocator {
         requires { Checked t.now f.now × (z < 32) × Stocked self slots.old cache.now }
         ensures { Acquired t.now f.now cache.now z self slots.old result slots.new }
     {
-        if let Popped::At(s) = slots::acquire(slots, cache, z) {
+        if let Some(s) = slots::acquire(slots, cache, z) {
             return Taken {
                 slot: s,
                 allocator: self,
             };
         }
-        let n = function::num_slots(f) + wide(self.made());
+        let n = function::num_slots(f) + usize::from(self.made());
         self.packed += 1;
         Taken {
-            slot: SpillSlot(narrow(n)),
+            slot: SpillSlot(n as u16),
             allocator: self,
         }
     }
@@ -224,7 +223,7 @@ impl ScratchAllocator {
         requires { Checked t.now f.now × (b.0 < num_banks (T t.now)) × (c.0 < num_classes (T t.now)) × Fits 0 1 2 t.now self edits.old slots.old cache.now }
         ensures { (available : List Bool) → Found t.now f.now cache.now self (tables edits.old available slots.old) result (tables edits.new available slots.new) (failing t.now f.now b.0 c.0) }
     {
-        let n = narrow(reginfo::order_len(t, c));
+        let n = reginfo::order_len(t, c) as u16;
         slots::meet(slots, n);
         if reginfo::class_includes_spillslots(t, c) {
             return self.slot_scratch(t, f, cache, slots, b, n);
@@ -251,7 +250,7 @@ impl ScratchAllocator {
         ensures { Found t.now f.now cache.now self (tables edits.old available.now slots.old) result (tables edits.new available.now slots.new) (get_scratch_reg (T t.now) (F f.now) b.0 c.0 (barred_by cycle sources.now)) }
     {
         let found = search::first_usable(t, available, sources, cycle, c);
-        if let Search::At(r, i) = found {
+        if let Some((r, i)) = found {
             slots::meet(slots, i);
             return Scratch {
                 place: Allocation::reg(r),

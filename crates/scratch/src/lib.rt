@@ -31,6 +31,7 @@ pub struct Held {
 }
 
 // 02 i: "the record holds an older and a newer", of which the newer stands first.
+// None, one or two: an `Option` of a pair would hold no second.
 #[derive(Drop)]
 pub enum Evicted {
     Nothing,

@@ -20,7 +20,7 @@ use scratch::{Diversions, ScratchAllocator};
 use slots::{EmergencySpillSlotCache, Slots};
 use small_set::RegUnitSet;
 use sparse::SparseMap;
-use visits::{States, Writer};
+use visits::States;
 
 // Visits a new move: its writers first, and then it closes. Edits are made backwards: emitted after those that overwrite its source, the move is
 // done before them. It is open meanwhile, by which a cycle is known.
@@ -77,11 +77,10 @@ fn walk(
 {
     let p = visits::kept_source(e, m);
     let mut q = k;
-    let mut left = reginfo::num_place_units(t, p);
-    while 0 < left {
-        left -= 1;
-        let u = reginfo::place_unit(t, p, left);
-        let Writer::Move(x) = visits::writer_of(w, u) else {
+    let n = reginfo::num_place_units(t, p);
+    for j in (0..n).rev() {
+        let u = reginfo::place_unit(t, p, j);
+        let Some(x) = visits::writer_of(w, u) else {
             continue;
         };
         if !visits::is_new(marks, x) {
@@ -143,15 +142,12 @@ fn first_pass(
 {
     let n = visits::num_kept(e);
     let mut q = k;
-    let mut m: usize = 0;
-    while m < n {
-        let i = m;
-        m += 1;
-        if !visits::is_new(marks, i) {
+    for m in 0..n {
+        if !visits::is_new(marks, m) {
             continue;
         }
         q = visit_unless_memory(
-            q, t, f, cache, e, w, available, sources, edits, slots, d, marks, c, i,
+            q, t, f, cache, e, w, available, sources, edits, slots, d, marks, c, m,
         );
     }
     q
@@ -177,15 +173,12 @@ fn second_pass(
 {
     let n = visits::num_kept(e);
     let mut q = k;
-    let mut m: usize = 0;
-    while m < n {
-        let i = m;
-        m += 1;
-        if !visits::is_new(marks, i) {
+    for m in 0..n {
+        if !visits::is_new(marks, m) {
             continue;
         }
         q = visit(
-            q, t, f, cache, e, w, available, sources, edits, slots, d, marks, c, i,
+            q, t, f, cache, e, w, available, sources, edits, slots, d, marks, c, m,
         );
     }
     q

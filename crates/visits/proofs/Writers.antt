@@ -24,12 +24,12 @@ use Rattle.function.specs.Known.{Checked}
 use Rattle.entries.specs.Known.{Writable, or_remat, writer_of, Tracked, EntriesOk}
 use Rattle.entries.proofs.Fates.{writable}
 use Rattle.entries.proofs.Lists.{any_same, any_step}
-use Rattle.visits.specs.declared.Writer.{Writer}
+use Rattle.std.specs.Prelude as std
 use Rattle.visits.specs.Marks.{moves_of, remats_of, remats_with_scratch_of}
 use Rattle.visits.specs.Writers.{writer_is, kept_only, kept_writer, is_open, Ready}
 
 -- what was found is what the map has
-pub writer-found : {r v : Writer} {o : Option ℕ} → writer_is r ≡ o → r ≡ v → writer_is v ≡ o
+pub writer-found : {r v : std.Option ℕ} {o : Option ℕ} → writer_is r ≡ o → r ≡ v → writer_is v ≡ o
 writer-found h e = sym (ap writer_is e) ∙ h
 
 pub kept_low : (o : Option ℕ) (m : ℕ) → some m ≡ kept_only o → m < 128

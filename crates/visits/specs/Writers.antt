@@ -1,5 +1,5 @@
 -- The kept move that writes a unit, read from the map of writers.
-use Rattle.std.specs.Prelude.{ℕ, ◌<◌, ◌≡◌, Bool, false, List, ltb, length, get_or}
+use Rattle.std.specs.Prelude.{ℕ, ◌<◌, ◌≡◌, Bool, false, List, ltb, length, get_or, Some, None}
 use Rattle.std.proofs.Math.Option.{Option, none, some}
 use Rattle.entity.specs.Logic.{pick}
 use Rattle.reginfo.specs.RegInfo.{RegInfo}
@@ -8,12 +8,11 @@ use Rattle.rules.specs.Order.{KeptMove, no_move, State, is_pending, writer_from}
 use Rattle.sparse.specs.Map.{map_of, Linked}
 use Rattle.entries.specs.Known.{Writable}
 use Rattle.visits.specs.Marks.{moves_of, Small}
-use Rattle.visits.specs.declared.Writer as W
-use Rattle.visits.specs.declared.Writer.{Writer}
+use Rattle.std.specs.Prelude as std
 
-abbrev pub writer_is : Writer → Option ℕ
-writer_is (W.TheVariants.Move m) = some m
-writer_is W.TheVariants.Nothing = none
+abbrev pub writer_is : std.Option ℕ → Option ℕ
+writer_is (Some m) = some m
+writer_is None = none
 
 -- a rebuild's 128 is no move
 unfoldable pub kept_only : Option ℕ → Option ℕ

@@ -17,42 +17,22 @@ ghost use Rattle.visits.specs.Writers.{writer_is, kept_writer, is_open, KeptOk, 
 ghost use Rattle.visits.specs.Carry.{carry_for, CarriedAs};
 
 use carried::Carried;
-use entity::{Allocation, AllocationUnit, Value, wide};
+use entity::{Allocation, AllocationUnit, Value};
 use entries::Entries;
 use reginfo::RegInfo;
 use small_set::RegUnitSet;
-use sparse::{Found, SparseMap};
+use sparse::SparseMap;
 
 pub type States = [u8; 129];
 
 // Of value v, the count of open moves that carry it at v, the first source at 4096 + v, the scratch at 8192 + v.
 pub type Diversions = [u16; 12288];
 
-// The kept move that writes a unit.
-#[derive(Drop)]
-pub enum Writer {
-    Move(usize),
-    Nothing,
-}
-
-// They do nothing: a call tells the length of the table that is passed.
-fn told_marks(m: [u8; 129]) -> bool
-    ensures { length m ≡ 129 }
-{
-    true
-}
-
-fn told_diverted(d: [u16; 12288]) -> bool
-    ensures { length d ≡ 12288 }
-{
-    true
-}
-
 // The kept moves.
 pub fn num_kept(e: &Entries) -> usize
     ensures { result ≡ length (moves_of e.now) }
 {
-    wide(e[1024])
+    usize::from(e[1024])
 }
 
 pub fn kept_source(e: &Entries, m: usize) -> Allocation
@@ -80,7 +60,7 @@ pub fn kept_value(e: &Entries, m: usize) -> Value
 pub fn num_remats(e: &Entries) -> usize
     ensures { result ≡ length (remats_of e.now) }
 {
-    wide(e[1025])
+    usize::from(e[1025])
 }
 
 pub fn remat_dest(e: &Entries, i: usize) -> Allocation
@@ -100,7 +80,7 @@ pub fn remat_value(e: &Entries, i: usize) -> Value
 pub fn num_remats_with_scratch(e: &Entries) -> usize
     ensures { result ≡ length (remats_with_scratch_of e.now) }
 {
-    wide(e[1026])
+    usize::from(e[1026])
 }
 
 pub fn remat_with_scratch_dest(e: &Entries, i: usize) -> Allocation
@@ -148,7 +128,6 @@ pub fn set_pending(marks: &mut States, m: usize)
     requires { m < 128 }
     ensures { (states_of marks.new ≡ updated m Pending (states_of marks.old)) × (is_noted marks.new ≡ is_noted marks.old) }
 {
-    told_marks(*marks);
     marks[m] = 1;
 }
 
@@ -156,7 +135,6 @@ pub fn set_done(marks: &mut States, m: usize)
     requires { m < 128 }
     ensures { (states_of marks.new ≡ updated m Done (states_of marks.old)) × (is_noted marks.new ≡ is_noted marks.old) }
 {
-    told_marks(*marks);
     marks[m] = 2;
 }
 
@@ -170,23 +148,22 @@ pub fn is_noted(marks: &States) -> bool
 pub fn set_noted(marks: &mut States)
     ensures { (states_of marks.new ≡ states_of marks.old) × (is_noted marks.new ≡ true) }
 {
-    told_marks(*marks);
     marks[128] = 1;
 }
 
 // The kept move that writes a unit; a rebuild is none.
-pub fn writer_of(w: &SparseMap, u: AllocationUnit) -> Writer
+pub fn writer_of(w: &SparseMap, u: AllocationUnit) -> Option<usize>
     requires { Linked w.now × (u.0 < 4608) }
     ensures { writer_is result ≡ kept_writer w.now u.0 }
 {
-    let Found::Value(x) = sparse::get(w, u) else {
-        return Writer::Nothing;
+    let Some(x) = sparse::get(w, u) else {
+        return None;
     };
-    let m = wide(x);
+    let m = usize::from(x);
     if m < 128 {
-        return Writer::Move(m);
+        return Some(m);
     }
-    Writer::Nothing
+    None
 }
 
 // Whether the writer of a unit is open.
@@ -195,8 +172,8 @@ fn is_open(w: &SparseMap, marks: &States, u: AllocationUnit) -> bool
     ensures { result ≡ is_open (states_of marks.now) (kept_writer w.now u.0) }
 {
     match writer_of(w, u) {
-        Writer::Move(x) => is_pending(marks, x),
-        Writer::Nothing => false,
+        Some(x) => is_pending(marks, x),
+        None => false,
     }
 }
 
@@ -207,12 +184,10 @@ pub fn has_open_writer(t: &RegInfo, e: &Entries, w: &SparseMap, marks: &States, 
 {
     let p = kept_source(e, m);
     let n = reginfo::num_place_units(t, p);
-    let mut j: usize = 0;
-    while j < n {
+    for j in 0..n {
         if is_open(w, marks, reginfo::place_unit(t, p, j)) {
             return true;
         }
-        j += 1;
     }
     false
 }
@@ -223,7 +198,7 @@ fn carry_one(w: &SparseMap, marks: &States, c: &mut Carried, u: AllocationUnit, 
     requires { Linked w.now × (u.0 < 4608) × (count_of c.old < 1024) }
     ensures { CarriedAs (states_of marks.now) v.0 c.old c.new result 1 (carry_for v.0 (states_of marks.now) (kept_writer w.now u.0)) }
 {
-    let Writer::Move(x) = writer_of(w, u) else {
+    let Some(x) = writer_of(w, u) else {
         return 0;
     };
     if !is_pending(marks, x) {
@@ -253,10 +228,8 @@ pub fn carry(
     let v = kept_value(e, m);
     let n = reginfo::num_place_units(t, p);
     let mut added: u16 = 0;
-    let mut j: usize = 0;
-    while j < n {
+    for j in 0..n {
         added = added + carry_one(w, marks, c, reginfo::place_unit(t, p, j), v);
-        j += 1;
     }
     added
 }
@@ -268,10 +241,8 @@ pub fn note_sources(t: &RegInfo, e: &Entries, sources: &mut RegUnitSet)
 {
     small_set::clear(sources);
     let n = num_kept(e);
-    let mut m: usize = 0;
-    while m < n {
+    for m in 0..n {
         search::insert_units(t, sources, kept_source(e, m));
-        m += 1;
     }
 }
 
@@ -280,14 +251,11 @@ pub fn start(e: &Entries, d: &mut Diversions, marks: &mut States)
     requires { Small (moves_of e.now) }
     ensures { (states_of marks.new ≡ all_new) × (is_noted marks.new ≡ false) × ((i : ℕ) → i < length (moves_of e.now) → get_or d.new (get_or (moves_of e.now) i no_move).value 0 ≡ 0) × (marks.new ≡ replicate 129 0) × (d.new ≡ uncounted (moves_of e.now) d.old) }
 {
-    told_diverted(*d);
     *marks = [0; 129];
     let n = num_kept(e);
-    let mut i: usize = 0;
-    while i < n {
+    for i in 0..n {
         let v = kept_value(e, i);
-        let at = wide(v.0);
+        let at = usize::from(v.0);
         d[at] = 0;
-        i += 1;
     }
 }

@@ -1,5 +1,4 @@
 -- `at_end` meets its contract: 8 where something is left.
-use borrow.Author.Rules.{rules}
 use Rattle.calls.proofs.Opening.{not_opened, left_over, all_read}
 use Rattle.calls.proofs.at_end.Goals as goal
 

@@ -1,5 +1,4 @@
 -- `cleared` meets its contract: only the cache of an opened function is cleared.
-use borrow.Author.Rules.{rules}
 use Rattle.calls.proofs.Opening.{cache-kept, cache-cleared}
 use Rattle.calls.proofs.cleared.Goals as goal
 

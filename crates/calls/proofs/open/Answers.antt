@@ -1,5 +1,4 @@
 -- `open` meets its contract.
-use borrow.Author.Rules.{rules}
 use Rattle.calls.specs.Opening.{opened}
 use Rattle.calls.proofs.open.Goals as goal
 

@@ -1,5 +1,4 @@
 -- `open_priced` meets its contract.
-use borrow.Author.Rules.{rules}
 use Rattle.job_rules.specs.Priced.{beginning_priced}
 use Rattle.calls.specs.Opening.{opened_priced}
 use Rattle.calls.proofs.open_priced.Goals as goal

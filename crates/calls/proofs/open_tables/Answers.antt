@@ -1,5 +1,4 @@
 -- `open_tables` meets its contract.
-use borrow.Author.Rules.{rules}
 use Rattle.job_rules.specs.Job.{beginning}
 use Rattle.calls.specs.Opening.{opened}
 use Rattle.calls.proofs.open_tables.Goals as goal

@@ -1,13 +1,5 @@
-use Prim.Native.Nat.{◌-◌}
-use native.Mathlib.Omega.{arith}
-use lib.ListN.{length}
-use borrow.Author.Rules.{rules}
-use Rattle.reginfo.proofs.Accepted.{units-fit}
-use Rattle.calls.proofs.Freeing.{Freeing, freeing-start, no-unit, not-rising, freeing_step, freeing-end}
+use Rattle.calls.proofs.Freeing.{Freeing}
 use Rattle.calls.proofs.take_free.Given as goal
 
-abbrev pub invariant-loop-at : goal.invariant-loop-at
-invariant-loop-at l = Freeing l.units l.free l.least l.at l.available
-
-abbrev pub decreases-loop-at : goal.decreases-loop-at
-decreases-loop-at l = length l.free - l.at
+abbrev pub invariant-loop-u : goal.invariant-loop-u
+invariant-loop-u l = Freeing l.units l.free l.least l.u-index l.available

@@ -1,6 +1,5 @@
 -- `take_given` meets its contract.
 use Rattle.calls.proofs.Freeing.{none-taken, some-taken}
-use borrow.Author.Rules.{rules}
 use Rattle.calls.proofs.take_given.Goals as goal
 
 pub returns-then-free-eq0 : goal.returns-then-free-eq0

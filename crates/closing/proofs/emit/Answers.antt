@@ -1,7 +1,6 @@
 use Rattle.function.proofs.Laws.{known-value}
 use Rattle.closing.proofs.Known.{value_there}
 use Rattle.closing.proofs.Emitted.{movable, emitted}
-use borrow.Author.Rules.{rules}
 use Rattle.closing.proofs.emit.Goals as goal
 
 pub value_bank-b-requires : goal.value_bank-b-requires

@@ -9,7 +9,6 @@ use Rattle.scratch.specs.Diversions.{Diverts}
 use Rattle.visits.specs.Marks.{moves_of}
 use Rattle.scratch.specs.State.{F}
 use Rattle.closing.proofs.Leading.{rows-room, divertible, emits, emit-room, lead-diverted}
-use borrow.Author.Rules.{rules}
 use Rattle.closing.proofs.emit_diverted.Goals as goal
 
 pub sources_noted-requires : goal.sources_noted-requires

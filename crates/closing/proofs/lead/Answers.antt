@@ -2,7 +2,6 @@ use mathlib.Core.Path.{◌≡◌, refl, sym, ◌∙◌}
 use mathlib.Core.Bool.{true, false}
 use Rattle.scratch.specs.State.{F}
 use Rattle.closing.proofs.Leading.{emits-source, lead-open, lead-closed}
-use borrow.Author.Rules.{rules}
 use Rattle.closing.proofs.lead.Goals as goal
 
 pub has_open_writer-requires : goal.has_open_writer-requires

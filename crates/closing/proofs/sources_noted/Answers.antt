@@ -1,6 +1,5 @@
-use mathlib.Core.Path.{◌≡◌, refl, sym, ◌∙◌}
+use mathlib.Core.Path.{refl, sym, ◌∙◌}
 use Rattle.scratch.specs.State.{F}
-use borrow.Author.Rules.{rules}
 use Rattle.closing.proofs.sources_noted.Goals as goal
 
 pub returns-then-is_noted : goal.returns-then-is_noted

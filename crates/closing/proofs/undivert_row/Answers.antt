@@ -2,7 +2,6 @@ use native.Mathlib.Omega.{arith}
 use mathlib.Core.Path.{◌≡◌, refl, sym, ◌∙◌}
 use Rattle.carried.specs.Carried.{move_at}
 use Rattle.closing.proofs.LettingGo.{row-skipped, undivertible, row-undiverted}
-use borrow.Author.Rules.{rules}
 use Rattle.closing.proofs.undivert_row.Goals as goal
 
 pub row_move-requires : goal.row_move-requires

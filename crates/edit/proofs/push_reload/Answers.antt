@@ -1,6 +1,5 @@
 -- `push_reload` meets its contract: the word that is pushed is the edit's.
 use native.Mathlib.Omega.{arith}
-use borrow.Author.Rules.{rules}
 use Rattle.rules.specs.Edit.{EmergencyReload}
 use Rattle.edit.proofs.Laws.{as-edit, written}
 use Rattle.edit.proofs.push_reload.Goals as goal

@@ -1,5 +1,4 @@
 -- `push_remat` meets its contract: the word that is pushed is the edit's.
-use borrow.Author.Rules.{rules}
 use Rattle.entity.specs.Place.{place_at}
 use Rattle.rules.specs.Edit.{Rematerialize}
 use Rattle.edit.proofs.Laws.{as-edit, written, remat-range}

@@ -1,6 +1,5 @@
 -- `push_spill` meets its contract: the word that is pushed is the edit's.
 use native.Mathlib.Omega.{arith}
-use borrow.Author.Rules.{rules}
 use Rattle.rules.specs.Edit.{EmergencySpill}
 use Rattle.edit.proofs.Laws.{as-edit, written}
 use Rattle.edit.proofs.push_spill.Goals as goal

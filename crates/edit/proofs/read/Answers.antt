@@ -1,7 +1,7 @@
 -- `read` meets its contract: the kind of a word decides.
-use borrow.Author.Tests.{ne_eqb}
 use borrow.Author.Rules.{rules}
-use Rattle.edit.specs.Word.{edit_of}
+use borrow.Author.Tests.{ne_eqb}
+use Rattle.edit.specs.Word.{kind_in, edit_of}
 use Rattle.edit.proofs.read.Goals as goal
 
 pub returns-in-1 : goal.returns-in-1
@@ -22,4 +22,4 @@ returns-in-4 c = rw c.in-4.is c.reload_read.ensures
 
 pub returns-in_default : goal.returns-in_default
 unfolding edit_of
-returns-in_default c = rw (ne_eqb _ 1 c.in_default.in_default-own.rest.0.0.0.1, ne_eqb _ 2 c.in_default.in_default-own.rest.0.0.1, ne_eqb _ 3 c.in_default.in_default-own.rest.0.1, ne_eqb _ 4 c.in_default.in_default-own.rest.1)
+returns-in_default c = rw (ne_eqb (kind_in c.args.word) 1 (search rules), ne_eqb (kind_in c.args.word) 2 (search rules), ne_eqb (kind_in c.args.word) 3 (search rules), ne_eqb (kind_in c.args.word) 4 (search rules))

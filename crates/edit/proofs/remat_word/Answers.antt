@@ -1,5 +1,4 @@
 -- `remat_word` meets its contract: a place is packed by its code.
-use borrow.Author.Rules.{rules}
 use Rattle.entity.proofs.Laws.{code-there}
 use Rattle.edit.proofs.remat_word.Goals as goal
 

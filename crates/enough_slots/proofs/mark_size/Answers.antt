@@ -1,5 +1,4 @@
 -- One size is marked, of the 32.
-use borrow.Author.Rules.{rules}
 use Rattle.reginfo.specs.Table.{reg_info_of}
 use Rattle.reginfo.proofs.Accepted.{known-bank}
 use Rattle.small_set.proofs.Laws.{store_true}
@@ -24,4 +23,4 @@ bounds-sizes-z c =
 pub returns : goal.returns
 returns c =
     let s = c in
-    rw (c.spillslot_size-z.ensures, c.value_bank.ensures) (store_true s.args.sizes.now _ (rw c.told.ensures (size_low s.args.t.now s.args.f.now s.requires.0 s.args.v.0 s.requires.1)))
+    rw (c.spillslot_size-z.ensures, c.value_bank.ensures) (store_true s.args.sizes.now _ (rw c.told-sizes (size_low s.args.t.now s.args.f.now s.requires.0 s.args.v.0 s.requires.1)))

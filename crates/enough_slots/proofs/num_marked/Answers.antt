@@ -1,9 +1,6 @@
-use Prim.Native.Nat.{◌+◌, ◌≤◌}
-use mathlib.Core.Path.{◌≡◌, refl, sym, ap, ◌∙◌}
-use mathlib.Core.Logic.{⊎_elim}
+use Prim.Native.Nat.{◌+◌, ◌-◌}
+use mathlib.Core.Path.{◌≡◌, sym, ap, ◌∙◌}
 use native.Mathlib.Omega.{arith}
-use borrow.Author.Rules.{rules}
-use lib.ListN.{length}
 use Rattle.entity.specs.Logic.{indices}
 use Rattle.small_set.specs.Set.{set_of}
 use Rattle.rules.specs.Edit.{filter}
@@ -11,26 +8,27 @@ use Rattle.rules.specs.Counts.{bit}
 use Rattle.machine.specs.Enough.{sizes_that}
 use Rattle.enough_slots.proofs.Laws.{count-step}
 use Rattle.enough_slots.proofs.num_marked.Goals as goal
-use Rattle.enough_slots.proofs.num_marked.Goals.{then-sizes-z, else-sizes-z}
+use Rattle.enough_slots.proofs.num_marked.Goals.{then-marked, else-marked}
 
-pub loop-left-init : goal.loop-left-init
+pub loop-marked-init : goal.loop-marked-init
 unfolding sizes_that
-loop-left-init c = (omega arith, refl, omega arith)
+loop-marked-init c = (omega arith, omega arith, omega arith)
 
-pub loop-left-preserved : goal.loop-left-preserved
+pub loop-marked-preserved : goal.loop-marked-preserved
 unfolding bit set_of
-loop-left-preserved c =
+loop-marked-preserved c =
     let sizes = c.args.sizes.now in
-    let turn = c.loop-left in
-    let step = count-step (set_of sizes) turn.z turn.left c.loop-left-test.true in
-    elim c.if-sizes-z.branch [
-      | then-sizes-z w ↦ (omega (arith, turn.invariant.0, step, ap bit w.if-sizes-z.true, w.n-is), omega arith, omega arith)
-      | else-sizes-z w ↦ (omega (arith, turn.invariant.0, step, ap bit w.if-sizes-z.false, w.n-is), omega arith, omega arith)
+    let turn = c.loop-marked in
+    let one_less : 32 - turn.marked-index - 1 ≡ 32 - (turn.marked-index + 1) = omega arith in
+    let step = rw one_less at (count-step (set_of sizes) turn.marked-index (32 - turn.marked-index) (omega arith)) in
+    elim c.if-marked.branch [
+      | then-marked w ↦ (omega (arith, turn.invariant.0, step, ap bit w.if-marked.true, w.n-is), omega arith, omega arith)
+      | else-marked w ↦ (omega (arith, turn.invariant.0, step, ap bit w.if-marked.false, w.n-is), omega arith, omega arith)
     ]
 
 pub returns : goal.returns
 unfolding filter indices
 returns c =
-    let turn = c.loop-left in
-    let e : turn.left ≡ 0 = omega arith in
+    let turn = c.loop-marked in
+    let e : 32 - turn.marked-index ≡ 0 = omega arith in
     sym (turn.invariant.0 ∙ rw e (omega arith))

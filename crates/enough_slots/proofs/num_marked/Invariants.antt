@@ -1,20 +1,12 @@
--- n of the sizes below z are marked.
-use Prim.Native.Nat.{◌+◌, ◌≤◌}
-use mathlib.Core.Path.{◌≡◌, refl, sym, ap, ◌∙◌}
-use mathlib.Core.Logic.{⊎_elim}
-use native.Mathlib.Omega.{arith}
-use borrow.Author.Rules.{rules}
+-- n of the first sizes are marked.
+use Prim.Native.Nat.{◌+◌, ◌-◌, ◌≤◌}
+use mathlib.Core.Path.{◌≡◌}
 use lib.ListN.{length}
 use Rattle.entity.specs.Logic.{indices}
 use Rattle.small_set.specs.Set.{set_of}
 use Rattle.rules.specs.Edit.{filter}
-use Rattle.rules.specs.Counts.{bit}
 use Rattle.machine.specs.Enough.{sizes_that}
-use Rattle.enough_slots.proofs.Laws.{count-step}
 use Rattle.enough_slots.proofs.num_marked.Given as goal
 
-abbrev pub invariant-loop-left : goal.invariant-loop-left
-invariant-loop-left l = (sizes_that (set_of l.sizes) ≡ l.n + length (filter (set_of l.sizes) (indices l.z l.left))) × (l.z + l.left ≡ 32) × (l.n ≤ l.z)
-
-abbrev pub decreases-loop-left : goal.decreases-loop-left
-decreases-loop-left l = l.left
+abbrev pub invariant-loop-marked : goal.invariant-loop-marked
+invariant-loop-marked l = (sizes_that (set_of l.sizes) ≡ l.n + length (filter (set_of l.sizes) (indices l.marked-index (32 - l.marked-index)))) × (l.marked-index ≤ 32) × (l.n ≤ l.marked-index)

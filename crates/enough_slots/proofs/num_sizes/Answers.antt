@@ -1,6 +1,5 @@
 -- From no size marked.
 use mathlib.Core.Path.{◌∙◌}
-use borrow.Author.Rules.{rules}
 use Rattle.reginfo.specs.Table.{reg_info_of}
 use Rattle.function.specs.Table.{function_of}
 use Rattle.enough_slots.proofs.Laws.{all-counted}

@@ -5,7 +5,6 @@ use borrow.Author.Tests.{leb-true, leb-false, not-true, not-false}
 use Rattle.entity.specs.Place.{place_at}
 use Rattle.entries.proofs.Fates.{both-named, code_fits, value-fits}
 use Rattle.entries.proofs.Adding.{refused-15, unnamed-source, unnamed-move}
-use borrow.Author.Rules.{rules}
 use Rattle.entries.proofs.add_move.Goals as goal
 
 pub returns-then-is_full : goal.returns-then-is_full

@@ -1,10 +1,9 @@
 -- `add_named_move` meets its contract: 9, then 10, then what `place_move` answers.
 use mathlib.Core.Path.{sym, ◌∙◌}
 use Rattle.entity.specs.Place.{place_at}
-use borrow.Author.Tests.{eq-eqb, ne_eqb, not-true, not-false}
+use borrow.Author.Tests.{not-true, not-false}
 use Rattle.entries.proofs.Fates.{writable, value-known}
 use Rattle.entries.proofs.Adding.{same_code, foreign-source, foreign-dest, self-move}
-use borrow.Author.Rules.{rules}
 use Rattle.entries.proofs.add_named_move.Goals as goal
 
 pub value_bank-bank-requires : goal.value_bank-bank-requires
@@ -26,10 +25,10 @@ returns-then-not-of_bank-2 c =
     let s = c in
     foreign-dest _ _ _ _ s.requires.0 s.requires.1 _ _ _ s.requires.2 (rw (← c.value_bank-bank.ensures) (sym c.of_bank.ensures ∙ not-false _ c.if-not-of_bank.false-raw)) (rw (← c.value_bank-bank.ensures) (sym c.of_bank-2.ensures ∙ not-true _ c.if-not-of_bank-2.true-raw))
 
-pub returns-then-source-dest : goal.returns-then-source-dest
-returns-then-source-dest c =
+pub returns-then-eq : goal.returns-then-eq
+returns-then-eq c =
     let s = c in
-    self-move _ _ _ _ s.requires.0 s.requires.1 _ _ _ s.requires.2 (rw (← c.value_bank-bank.ensures) (sym c.of_bank.ensures ∙ not-false _ c.if-not-of_bank.false-raw)) (rw (← c.value_bank-bank.ensures) (sym c.of_bank-2.ensures ∙ not-false _ c.if-not-of_bank-2.false-raw)) (same_code _ _ ∙ eq-eqb _ _ c.if-source-dest.true)
+    self-move _ _ _ _ s.requires.0 s.requires.1 _ _ _ s.requires.2 (rw (← c.value_bank-bank.ensures) (sym c.of_bank.ensures ∙ not-false _ c.if-not-of_bank.false-raw)) (rw (← c.value_bank-bank.ensures) (sym c.of_bank-2.ensures ∙ not-false _ c.if-not-of_bank-2.false-raw)) (same_code _ _ ∙ sym c.if-eq.ensures)
 
 pub place_move-requires : goal.place_move-requires
 place_move-requires c =
@@ -44,6 +43,6 @@ place_move-requires c =
         value-named = n.rest.value-named;
         source-bank = rw (← c.value_bank-bank.ensures) (sym c.of_bank.ensures ∙ not-false _ c.if-not-of_bank.false-raw);
         dest-bank = rw (← c.value_bank-bank.ensures) (sym c.of_bank-2.ensures ∙ not-false _ c.if-not-of_bank-2.false-raw);
-        differ = same_code _ _ ∙ ne_eqb _ _ c.if-source-dest.false;
+        differ = same_code _ _ ∙ sym c.if-eq.ensures;
       },
     )

@@ -8,7 +8,6 @@ use Rattle.function.proofs.Laws.{never-remat, remat-known}
 use Rattle.entries.proofs.Table.{entries-count}
 use Rattle.entries.proofs.Fates.{writable, value-known, class-known}
 use Rattle.entries.proofs.Adding.{roomy, foreign-remat, not-remat, added-remat}
-use borrow.Author.Rules.{rules}
 use Rattle.entries.proofs.add_named_remat.Goals as goal
 
 pub value_bank-bank-requires : goal.value_bank-bank-requires

@@ -7,7 +7,6 @@ use Rattle.function.specs.Table.{function_of}
 use Rattle.function.specs.Answers.{remat_of}
 use Rattle.function.proofs.Laws.{known-value, cost-there}
 use Rattle.entries.proofs.Fates.{class-known, fate-never, fate-direct, fate-cheap, fate-load}
-use borrow.Author.Rules.{rules}
 use Rattle.entries.proofs.move_fate.Goals as goal
 
 pub can_rematerialize-requires : goal.can_rematerialize-requires

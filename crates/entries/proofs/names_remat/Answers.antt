@@ -1,6 +1,5 @@
 -- `names_remat` meets its contract.
 use borrow.Author.Tests.{not-true, not-false}
-use borrow.Author.Rules.{rules}
 use Rattle.entries.proofs.names_remat.Goals as goal
 
 pub returns-then-not-names_place : goal.returns-then-not-names_place

@@ -1,6 +1,5 @@
 -- `rebuild` meets its contract: what is written already is refused.
 use Rattle.entries.proofs.Adding.{new-remat-refused, new-remat-taken}
-use borrow.Author.Rules.{rules}
 use Rattle.entries.proofs.new_remat.Goals as goal
 
 pub note_writes-requires : goal.note_writes-requires

@@ -1,5 +1,4 @@
 -- `rebuild_in` meets its contract: with scratch where the class has not the destination.
-use borrow.Author.Rules.{rules}
 use Rattle.entries.proofs.new_remat_in.Goals as goal
 
 pub returns : goal.returns

@@ -6,7 +6,6 @@ use Rattle.entries.proofs.Fates.{writable}
 use Rattle.entries.proofs.Sources.{sourced, kept-as}
 use Rattle.entries.proofs.Noting.{noted-count, noted-undone}
 use Rattle.entries.proofs.Adding.{roomy, roomy-low, noted-not, noted-new, refused-12, refused-21, added-dropped, added-kept}
-use borrow.Author.Rules.{rules}
 use Rattle.entries.proofs.place_kept.Goals as goal
 
 pub note_writes-requires : goal.note_writes-requires

@@ -5,7 +5,6 @@ use Rattle.entries.specs.Answers.{fate_of}
 use Rattle.entries.proofs.Table.{entries-count}
 use Rattle.entries.proofs.Fates.{writable, fate-kept, fate-remat}
 use Rattle.entries.proofs.Adding.{roomy, added-instead}
-use borrow.Author.Rules.{rules}
 use Rattle.entries.proofs.place_move.Goals as goal
 
 pub move_fate-requires : goal.move_fate-requires

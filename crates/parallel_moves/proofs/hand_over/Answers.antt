@@ -1,6 +1,5 @@
 use Rattle.parallel_moves.proofs.Resolving.{too_many, handed}
 use native.Mathlib.Omega.{arith}
-use borrow.Author.Rules.{rules}
 use Rattle.parallel_moves.proofs.hand_over.Goals as goal
 
 pub returns-then-limit-made : goal.returns-then-limit-made

@@ -1,5 +1,4 @@
 -- `run` meets its contract.
-use mathlib.Core.Path.{◌≡◌}
 use Rattle.remats.specs.Remats.{Rematted}
 use Rattle.remats.proofs.Known.{remats-fit, remats-ok}
 use native.Mathlib.Omega.{arith}

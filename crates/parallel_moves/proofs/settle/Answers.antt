@@ -1,6 +1,5 @@
 -- `settle` meets its contract.
 use Rattle.parallel_moves.proofs.Running.{settled-none, settled-given}
-use borrow.Author.Rules.{rules}
 use Rattle.parallel_moves.proofs.settle.Goals as goal
 
 pub returns-then-given : goal.returns-then-given

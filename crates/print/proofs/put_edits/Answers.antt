@@ -1,8 +1,4 @@
-use Prim.Native.Nat.{◌-◌}
-use native.Mathlib.Omega.{arith}
-use borrow.Author.Rules.{rules}
-use Rattle.print.proofs.Putting.{same_length as put-length}
-use Rattle.print.proofs.Printing.{Listing, none-listed, line-room, one-listed, all_listed}
+use Rattle.print.proofs.Printing.{none-listed, line-room, one-listed}
 use Rattle.print.proofs.put_edits.Goals as goal
 
 pub loop-i-init : goal.loop-i-init
@@ -17,9 +13,3 @@ loop-i-preserved c =
     let s = c in
     let e = c.put_edit-at in
     one-listed _ _ _ _ s.requires.0 s.requires.1 l.out l.at l.i l.invariant e.new.out e.result c.loop-i-test.true e.ensures
-
-pub shape_of-out : goal.shape_of-out
-shape_of-out c = put-length c.loop-i.invariant.put
-
-pub returns : goal.returns
-returns c = let l = c.loop-i in let s = c in all_listed _ _ _ _ s.requires.0 s.requires.1 l.out l.at l.i l.invariant (omega arith)

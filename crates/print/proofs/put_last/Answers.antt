@@ -1,5 +1,4 @@
 -- `put_last` meets its contract: the digits, then the newline.
-use borrow.Author.Rules.{rules}
 use Rattle.print.proofs.Putting.{front-room, next-room, then-put}
 use Rattle.print.proofs.put_last.Goals as goal
 

@@ -1,5 +1,4 @@
 -- `put_move` meets its contract: the words of the line one after the other.
-use borrow.Author.Rules.{rules}
 use Rattle.print.proofs.Putting.{front-room, next-room, then-put}
 use Rattle.print.proofs.put_move.Goals as goal
 

@@ -1,5 +1,4 @@
 -- `put_number` meets its contract: `io::decimal` spells the number so.
-use borrow.Author.Rules.{rules}
 use Rattle.print.proofs.Decimal.{spelled}
 use Rattle.print.proofs.put_number.Goals as goal
 

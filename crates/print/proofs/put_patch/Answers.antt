@@ -1,5 +1,4 @@
 -- `put_patch` meets its contract: the line, then the lines of the words.
-use borrow.Author.Rules.{rules}
 use Rattle.print.proofs.Printing.{patch-line-room, lines-room, patch-put}
 use Rattle.print.proofs.put_patch.Goals as goal
 

@@ -1,5 +1,4 @@
 -- `put_place` meets its contract: its kind decides.
-use borrow.Author.Rules.{rules}
 use Rattle.reginfo.proofs.Laws.{by_kind}
 use Rattle.print.specs.Text.{place_text}
 use Rattle.print.proofs.put_place.Goals as goal

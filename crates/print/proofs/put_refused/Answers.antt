@@ -1,5 +1,4 @@
 -- `put_refused` meets its contract: the word, then the number.
-use borrow.Author.Rules.{rules}
 use Rattle.print.proofs.Putting.{front-room, next-room, then-put}
 use Rattle.print.proofs.put_refused.Goals as goal
 

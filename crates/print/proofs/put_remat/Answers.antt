@@ -1,5 +1,4 @@
 -- `put_remat` meets its contract: the words of the line one after the other.
-use borrow.Author.Rules.{rules}
 use Rattle.print.proofs.Putting.{front-room, next-room, then-put}
 use Rattle.print.proofs.put_remat.Goals as goal
 

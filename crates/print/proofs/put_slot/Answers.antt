@@ -1,5 +1,4 @@
 -- `put_slot` meets its contract: s, then the number.
-use borrow.Author.Rules.{rules}
 use Rattle.print.proofs.Putting.{front-room, next-room, then-put}
 use Rattle.print.specs.Text.{place_text}
 use Rattle.print.proofs.put_slot.Goals as goal
@@ -10,11 +9,11 @@ put_text-at-requires c = front-room _ c.requires
 
 pub put_number-requires : goal.put_number-requires
 unfolding place_text
-put_number-requires c = let t = c in rw c.wide.ensures.0 (next-room t.put_text-at.ensures t.requires)
+put_number-requires c = let t = c in rw c.from.ensures (next-room t.put_text-at.ensures t.requires)
 
 pub returns : goal.returns
 unfolding place_text
 returns c =
     let m = c in
     let t = m in
-    rw (← m.wide.ensures.0) (then-put t.put_text-at.ensures m.put_number.ensures)
+    rw (← m.from.ensures) (then-put t.put_text-at.ensures m.put_number.ensures)

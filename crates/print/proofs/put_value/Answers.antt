@@ -1,5 +1,4 @@
 -- `put_value` meets its contract: the space, then the number and the newline.
-use borrow.Author.Rules.{rules}
 use Rattle.print.proofs.Putting.{front-room, next-room, then-put}
 use Rattle.print.proofs.put_value.Goals as goal
 
@@ -9,10 +8,10 @@ put_text-at-requires c = front-room _ c.requires
 pub put_last-requires : goal.put_last-requires
 put_last-requires c =
     let a = c in
-    rw c.wide.ensures.0 (next-room a.put_text-at.ensures a.requires)
+    rw c.from.ensures (next-room a.put_text-at.ensures a.requires)
 
 pub returns : goal.returns
 returns c =
     let b = c in
     let a = b in
-    rw (← b.wide.ensures.0) (then-put a.put_text-at.ensures b.put_last.ensures)
+    rw (← b.from.ensures) (then-put a.put_text-at.ensures b.put_last.ensures)

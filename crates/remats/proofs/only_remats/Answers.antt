@@ -1,7 +1,6 @@
 -- `only_remats` meets its contract.
 use mathlib.Core.Path.{sym, ◌∙◌}
 use borrow.Author.Tests.{eq-eqb, ne_eqb}
-use borrow.Author.Rules.{rules}
 use Rattle.remats.proofs.only_remats.Goals as goal
 
 pub returns-then-num_kept-eq0 : goal.returns-then-num_kept-eq0

@@ -1,6 +1,5 @@
 -- `remat` meets its contract.
 use native.Mathlib.Omega.{arith}
-use borrow.Author.Rules.{rules}
 use Rattle.remats.proofs.Known.{read_fits}
 use Rattle.remats.proofs.Direct.{one-remat}
 use Rattle.remats.proofs.remat.Goals as goal

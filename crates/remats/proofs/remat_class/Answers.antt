@@ -4,7 +4,6 @@ use mathlib.Core.Bool.{true≢false}
 use Rattle.function.specs.Table.{function_of}
 use Rattle.function.specs.Answers.{remat_of}
 use Rattle.function.proofs.Laws.{never-remat, remat-known}
-use borrow.Author.Rules.{rules}
 use Rattle.remats.proofs.remat_class.Goals as goal
 
 pub returns-in-Never : goal.returns-in-Never

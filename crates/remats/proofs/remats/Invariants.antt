@@ -1,14 +1,7 @@
 -- `remats` meets its contract: the first rebuilds are made, and the others left to do.
-use Prim.Native.Nat.{◌-◌}
-use native.Mathlib.Omega.{arith}
-use lib.ListN.{length}
-use borrow.Author.Rules.{rules}
 use Rattle.visits.specs.Marks.{remats_of}
-use Rattle.remats.proofs.Direct.{Rematting, rematting-none, rematting-step, rematting-end}
+use Rattle.remats.proofs.Direct.{Rematting}
 use Rattle.remats.proofs.remats.Given as goal
 
 abbrev pub invariant-loop-i : goal.invariant-loop-i
 invariant-loop-i l = Rematting l.t l.initial.q l.initial.edits l.initial.available (remats_of l.e) l.q l.edits l.available l.i
-
-abbrev pub decreases-loop-i : goal.decreases-loop-i
-decreases-loop-i l = length (remats_of l.e) - l.i

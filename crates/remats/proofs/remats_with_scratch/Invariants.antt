@@ -1,16 +1,8 @@
 -- `remats_with_scratch` meets its contract: the first rebuilds are made, and the others left to do.
-use Prim.Native.Nat.{◌-◌}
-use native.Mathlib.Omega.{arith}
-use lib.ListN.{length}
-use borrow.Author.Rules.{rules}
 use Rattle.scratch.specs.Promises.{tables}
 use Rattle.visits.specs.Marks.{remats_with_scratch_of}
-use Rattle.remats.proofs.Known.{read_ok}
-use Rattle.remats.proofs.RemattedWithScratch.{RemattingWithScratch, rematting-none, rematting-fits, rematting-step, rematting-end}
+use Rattle.remats.proofs.RemattedWithScratch.{RemattingWithScratch}
 use Rattle.remats.proofs.remats_with_scratch.Given as goal
 
 abbrev pub invariant-loop-i : goal.invariant-loop-i
 invariant-loop-i l = RemattingWithScratch l.t l.f l.cache (remats_with_scratch_of l.e) l.initial.q (tables l.initial.edits l.initial.available l.initial.slots) l.q (tables l.edits l.available l.slots) l.i
-
-abbrev pub decreases-loop-i : goal.decreases-loop-i
-decreases-loop-i l = length (remats_with_scratch_of l.e) - l.i

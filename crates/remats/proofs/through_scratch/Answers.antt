@@ -1,6 +1,5 @@
 -- `through_scratch` meets its contract.
 use native.Mathlib.Omega.{arith}
-use borrow.Author.Rules.{rules}
 use Rattle.slots.proofs.Laws.{fits_more}
 use Rattle.scratch.proofs.Bounds.{fewer}
 use Rattle.scratch.specs.Promises.{tables}

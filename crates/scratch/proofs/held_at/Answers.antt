@@ -1,6 +1,5 @@
 use mathlib.Core.Path.{refl}
 use Rattle.scratch.specs.State.{held_at}
-use borrow.Author.Rules.{rules}
 use Rattle.scratch.proofs.held_at.Goals as goal
 
 pub returns : goal.returns

@@ -1,7 +1,6 @@
 use mathlib.Core.Path.{refl}
 use Rattle.scratch.specs.State.{word_of}
 use native.Mathlib.Omega.{arith}
-use borrow.Author.Rules.{rules}
 use Rattle.scratch.proofs.held_word.Goals as goal
 
 pub returns : goal.returns

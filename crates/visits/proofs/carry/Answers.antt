@@ -1,6 +1,4 @@
-use Prim.Native.Nat.{◌-◌}
 use native.Mathlib.Omega.{arith}
-use lib.ListN.{length}
 use Rattle.entity.specs.Place.{place_at}
 use Rattle.reginfo.specs.RegInfo.{place_units}
 use Rattle.reginfo.specs.Table.{reg_info_of}
@@ -8,23 +6,11 @@ use Rattle.entity.proofs.Laws.{has_get_d}
 use Rattle.rules.specs.Order.{carry, writers}
 use Rattle.visits.specs.Marks.{moves_of, states_of}
 use Rattle.visits.proofs.Writers.{source-writable}
-use Rattle.visits.proofs.Carrying.{carry-writers, Carrying, carrying-none, carrying-step, carrying-end}
+use Rattle.visits.proofs.Carrying.{carry-writers, carrying-none, carrying-step, carrying-end}
 use Rattle.visits.proofs.carry.Goals as goal
-
-pub kept_source-p-requires : goal.kept_source-p-requires
-kept_source-p-requires c = (c.requires.1, c.requires.0.kept.small.few)
-
-pub kept_value-v-requires : goal.kept_value-v-requires
-kept_value-v-requires c = (c.requires.1, c.requires.0.kept.small.few)
-
-pub num_place_units-n-requires : goal.num_place_units-n-requires
-num_place_units-n-requires c = (source-writable _ _ _ _ c.requires.0 c.kept_source-p.ensures c.requires.1).known
 
 pub loop-j-init : goal.loop-j-init
 loop-j-init c = carrying-none _ _ _ _ _
-
-pub place_unit-requires : goal.place_unit-requires
-place_unit-requires c = ((source-writable _ _ _ _ c.requires.0 c.kept_source-p.ensures c.requires.1).known, omega arith)
 
 pub carry_one-added-requires : goal.carry_one-added-requires
 carry_one-added-requires c =
@@ -33,15 +19,6 @@ carry_one-added-requires c =
     let p = c.kept_source-p.result in
     let ok = source-writable _ _ _ _ c.requires.0 c.kept_source-p.ensures c.requires.1 in
     (c.requires.0.linked, rw c.place_unit.ensures (ok.low _ (has_get_d (place_units (reg_info_of a.t.now) (place_at p.0)) l.j (omega arith))), omega (arith, c.requires.2, l.invariant.did.count, l.invariant.did.few, ok.few))
-
-pub overflow_add-added : goal.overflow_add-added
-overflow_add-added c = omega (arith, c.loop-j.invariant.did.few, c.loop-j.invariant.within, c.carry_one-added.ensures.few, (source-writable _ _ _ _ c.requires.0 c.kept_source-p.ensures c.requires.1).few)
-
-pub overflow_add-j : goal.overflow_add-j
-overflow_add-j c = omega arith
-
-pub loop-j-smaller : goal.loop-j-smaller
-loop-j-smaller c = omega arith
 
 pub loop-j-preserved : goal.loop-j-preserved
 loop-j-preserved c =

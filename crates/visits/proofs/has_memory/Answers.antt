@@ -1,5 +1,4 @@
 -- `has_memory` meets its contract: the source, then the destination.
-use borrow.Author.Rules.{rules}
 use Rattle.visits.proofs.has_memory.Goals as goal
 
 pub is_memory-requires : goal.is_memory-requires

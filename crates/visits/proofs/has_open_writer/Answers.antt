@@ -1,27 +1,12 @@
-use Prim.Native.Nat.{◌≤◌, ◌-◌}
-use mathlib.Core.Path.{◌≡◌, refl, sym, ◌∙◌}
+use mathlib.Core.Path.{sym, ◌∙◌}
 use native.Mathlib.Omega.{arith}
-use lib.ListN.{length, drop}
-use Rattle.entity.specs.Logic.{any_in}
 use Rattle.entity.specs.Place.{place_at}
 use Rattle.reginfo.specs.RegInfo.{place_units}
 use Rattle.reginfo.specs.Table.{reg_info_of}
 use Rattle.entity.proofs.Laws.{has_get_d}
 use Rattle.visits.specs.Marks.{states_of}
-use Rattle.visits.proofs.Writers.{source-writable, open-writers, open_unit, open_step, open-end}
+use Rattle.visits.proofs.Writers.{source-writable, open-writers, open_step, open-end}
 use Rattle.visits.proofs.has_open_writer.Goals as goal
-
-pub kept_source-p-requires : goal.kept_source-p-requires
-kept_source-p-requires c = (c.requires.1, c.requires.0.kept.small.few)
-
-pub num_place_units-n-requires : goal.num_place_units-n-requires
-num_place_units-n-requires c = (source-writable _ _ _ _ c.requires.0 c.kept_source-p.ensures c.requires.1).known
-
-pub loop-j-init : goal.loop-j-init
-loop-j-init c = (refl, omega arith)
-
-pub place_unit-requires : goal.place_unit-requires
-place_unit-requires c = ((source-writable _ _ _ _ c.requires.0 c.kept_source-p.ensures c.requires.1).known, omega arith)
 
 pub is_open-requires : goal.is_open-requires
 is_open-requires c =
@@ -35,12 +20,6 @@ returns-then-is_open c =
     let l = c.loop-j in
     let u = c.place_unit in
     λ f. sym (l.invariant.0 ∙ open_step a.w.now (states_of a.marks.now) _ l.j u.result.0 c.is_open.result (omega arith) u.ensures c.is_open.ensures ∙ rw c.if-is_open.true) ∙ open-writers _ _ _ _ c.requires.0 c.kept_source-p.ensures (states_of a.marks.now) f
-
-pub overflow_add-j : goal.overflow_add-j
-overflow_add-j c = omega arith
-
-pub loop-j-smaller : goal.loop-j-smaller
-loop-j-smaller c = omega arith
 
 pub loop-j-preserved : goal.loop-j-preserved
 loop-j-preserved c =

@@ -1,5 +1,4 @@
 -- `is_new` meets its contract.
-use borrow.Author.Rules.{rules}
 use mathlib.Core.Path.{sym}
 use Rattle.visits.proofs.Marks.{new-state}
 use Rattle.visits.proofs.is_new.Goals as goal

@@ -1,5 +1,4 @@
 -- `is_noted` meets its contract.
-use borrow.Author.Rules.{rules}
 use mathlib.Core.Path.{refl}
 use Rattle.visits.specs.Marks.{is_noted}
 use Rattle.visits.proofs.is_noted.Goals as goal

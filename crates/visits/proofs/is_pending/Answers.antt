@@ -1,5 +1,4 @@
 -- `is_pending` meets its contract.
-use borrow.Author.Rules.{rules}
 use mathlib.Core.Path.{sym}
 use Rattle.visits.proofs.Marks.{pending-state}
 use Rattle.visits.proofs.is_pending.Goals as goal

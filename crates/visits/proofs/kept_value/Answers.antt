@@ -1,5 +1,4 @@
 -- `kept_value` meets its contract.
-use borrow.Author.Rules.{rules}
 use Rattle.entries.specs.Table.{move_at}
 use Rattle.entries.proofs.Table.{kept-is}
 use Rattle.visits.proofs.kept_value.Goals as goal

@@ -1,31 +1,15 @@
-use Prim.Native.Nat.{ℕ, ◌≤◌, ◌-◌}
-use mathlib.Core.Path.{◌≡◌, sym, ◌∙◌, fun_ext}
+use mathlib.Core.Path.{sym, ◌∙◌, fun_ext}
 use native.Mathlib.Omega.{arith}
-use lib.ListN.{length, drop}
-use Rattle.entity.specs.Logic.{or, any_in}
 use Rattle.reginfo.specs.Table.{reg_info_of}
 use Rattle.small_set.specs.Set.{set_of, empty_set}
 use Rattle.entries.proofs.Lists.{or-none}
 use Rattle.visits.specs.Marks.{moves_of}
-use Rattle.visits.proofs.Writers.{source_unit, source-step, sources-end, cycle-sources}
-use borrow.Author.Rules.{rules}
+use Rattle.visits.proofs.Writers.{source-step, sources-end, cycle-sources}
 use Rattle.visits.proofs.note_sources.Goals as goal
 
 pub loop-m-init : goal.loop-m-init
 unfolding empty_set
 loop-m-init c = (λ u. rw c.clear.ensures.0 (sym (or-none _)), omega arith)
-
-pub kept_source-requires : goal.kept_source-requires
-kept_source-requires c = (omega arith, c.requires.small.few)
-
-pub insert_units-requires : goal.insert_units-requires
-insert_units-requires c = rw c.kept_source.ensures (c.requires.sources c.loop-m.m (omega arith)).known
-
-pub overflow_add-m : goal.overflow_add-m
-overflow_add-m c = omega arith
-
-pub loop-m-smaller : goal.loop-m-smaller
-loop-m-smaller c = omega arith
 
 pub loop-m-preserved : goal.loop-m-preserved
 loop-m-preserved c =

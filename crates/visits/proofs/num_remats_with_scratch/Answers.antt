@@ -1,8 +1,7 @@
 -- `num_remats_with_scratch` meets its contract.
-use borrow.Author.Rules.{rules}
 use mathlib.Core.Path.{sym, ◌∙◌}
 use Rattle.entries.proofs.Table.{scratch-count}
 use Rattle.visits.proofs.num_remats_with_scratch.Goals as goal
 
 pub returns : goal.returns
-returns c = c.wide.ensures.0 ∙ sym (scratch-count c.args.e.now)
+returns c = c.from.ensures ∙ sym (scratch-count c.args.e.now)

@@ -1,5 +1,4 @@
 -- `remat_value` meets its contract.
-use borrow.Author.Rules.{rules}
 use Rattle.entries.specs.Table.{remat_at}
 use Rattle.visits.proofs.Marks.{remat-is}
 use Rattle.visits.proofs.remat_value.Goals as goal

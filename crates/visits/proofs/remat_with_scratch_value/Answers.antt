@@ -1,5 +1,4 @@
 -- `remat_with_scratch_value` meets its contract.
-use borrow.Author.Rules.{rules}
 use Rattle.entries.specs.Table.{remat_at}
 use Rattle.entries.proofs.Table.{scratch-is}
 use Rattle.rules.specs.Order.{no_remat}

@@ -1,9 +1,8 @@
 -- `set_done` meets its contract.
-use borrow.Author.Rules.{rules}
 use Rattle.visits.specs.Marks.{state_at}
 use Rattle.visits.proofs.Marks.{state-stored}
 use Rattle.visits.proofs.set_done.Goals as goal
 
 pub returns : goal.returns
 unfolding state_at
-returns c = state-stored c.args.marks.now c.args.m c.requires 2 c.told_marks.ensures
+returns c = state-stored c.args.marks.now c.args.m c.requires 2 c.told-marks

@@ -1,5 +1,4 @@
 -- `writer_of` meets its contract: what the look-up finds, unless it is a rebuild.
-use borrow.Author.Rules.{rules}
 use mathlib.Core.Path.{ap, ◌∙◌}
 use mathlib.Core.Option.{some}
 use native.Mathlib.Omega.{arith}
@@ -14,8 +13,8 @@ returns-in_default c = by-found kept_only c.get.ensures c.in_default.is
 
 pub returns-then-m-lt128 : goal.returns-then-m-lt128
 returns-then-m-lt128 c =
-    ap some c.wide-m.ensures.0 ∙ kept-some c.in-Value.x (omega arith) ∙ by-found kept_only c.get.ensures c.in-Value.is
+    ap some c.from-m.ensures ∙ kept-some c.in-Some.x (omega arith) ∙ by-found kept_only c.get.ensures c.in-Some.is
 
 pub returns : goal.returns
 returns c =
-    kept-none c.in-Value.x (omega arith) ∙ by-found kept_only c.get.ensures c.in-Value.is
+    kept-none c.in-Some.x (omega arith) ∙ by-found kept_only c.get.ensures c.in-Some.is

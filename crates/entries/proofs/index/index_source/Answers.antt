@@ -6,7 +6,6 @@ use Rattle.reginfo.specs.RegInfo.{place_units}
 use Rattle.reginfo.specs.Table.{reg_info_of}
 use Rattle.reginfo.proofs.Laws.{by_kind, known-kind}
 use Rattle.entries.proofs.Sources.{slot-indexed}
-use borrow.Author.Rules.{rules}
 use Rattle.entries.proofs.index.index_source.Goals as goal
 
 pub index_reg-requires : goal.index_reg-requires

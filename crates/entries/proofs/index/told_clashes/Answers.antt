@@ -3,44 +3,35 @@ use Prim.Native.Nat.{◌+◌, ◌*◌, ◌%◌}
 use mathlib.Core.Path.{◌≡◌, refl, sym, ap, ◌∙◌}
 use native.Mathlib.Omega.{arith}
 use lib.ListN.{get_or}
-use borrow.Author.Tests.{ne_eqb}
+use borrow.Author.Tests.{eqb-true}
 use Rattle.entity.specs.Place.{reg, slot, place_at}
-use Rattle.reginfo.specs.Known.{KnownUnits}
 use Rattle.reginfo.specs.Table.{reg_info_of}
-use Rattle.reginfo.proofs.Laws.{by_kind, known-kind}
+use Rattle.reginfo.proofs.Laws.{by_kind}
 use Rattle.entries.proofs.Sources.{none_kept, equal-there, other-there, slot-there}
-use borrow.Author.Rules.{rules}
 use Rattle.entries.proofs.index.told_clashes.Goals as goal
 
-pub returns-then-wide-m : goal.returns-then-wide-m
-returns-then-wide-m c =
+pub returns-then-from-m : goal.returns-then-from-m
+returns-then-from-m c =
     let s = c in
     let t = reg_info_of s.args.t.now in
     let e = s.args.e.now in
     sym (none_kept t e s.args.r.0 s.args.u.0 s.requires.1 s.requires.0 (omega arith))
 
-pub returns-then-q-r : goal.returns-then-q-r
-returns-then-q-r c =
+pub returns-then-eq : goal.returns-then-eq
+returns-then-eq c =
     let s = c in
     let t = reg_info_of s.args.t.now in
     let e = s.args.e.now in
     let there : place_at (get_or e (get_or e (1028 + s.args.u.0) 0 % 128 * 4) 0) ≡ reg c.in-PhysReg.q.0 = rw (← s.requires.2) (sym (by_kind (λ x. x) c.kind.ensures c.in-PhysReg.is)) in
-    sym (equal-there t e s.args.r.0 s.args.u.0 s.requires.1 s.requires.0 (reg c.in-PhysReg.q.0) there (omega arith) (ap reg (omega arith)))
+    sym (equal-there t e s.args.r.0 s.args.u.0 s.requires.1 s.requires.0 (reg c.in-PhysReg.q.0) there (omega arith) (ap reg (eqb-true _ _ (sym c.if-eq.ensures))))
 
-pub has_unit-requires : goal.has_unit-requires
-has_unit-requires c =
-    let s = c in
-    let t = reg_info_of s.args.t.now in
-    let k : KnownUnits t c.in-PhysReg.q.0 = known-kind t (s.requires.0.known s.args.m (omega arith)) c.kind.ensures c.in-PhysReg.is in
-    (k.known, k.few)
-
-pub returns-else-q-r : goal.returns-else-q-r
-returns-else-q-r c =
+pub returns-else-eq : goal.returns-else-eq
+returns-else-eq c =
     let s = c in
     let t = reg_info_of s.args.t.now in
     let e = s.args.e.now in
     let there : place_at (get_or e (get_or e (1028 + s.args.u.0) 0 % 128 * 4) 0) ≡ reg c.in-PhysReg.q.0 = rw (← s.requires.2) (sym (by_kind (λ x. x) c.kind.ensures c.in-PhysReg.is)) in
-    c.has_unit.ensures ∙ sym (other-there t e s.args.r.0 s.args.u.0 s.requires.1 s.requires.0 (reg c.in-PhysReg.q.0) there (omega arith) (ne_eqb c.in-PhysReg.q.0 s.args.r.0 (λ x. omega arith)))
+    c.has_unit.ensures ∙ sym (other-there t e s.args.r.0 s.args.u.0 s.requires.1 s.requires.0 (reg c.in-PhysReg.q.0) there (omega arith) (sym c.if-eq.ensures))
 
 pub returns-in-SpillSlot : goal.returns-in-SpillSlot
 returns-in-SpillSlot c =

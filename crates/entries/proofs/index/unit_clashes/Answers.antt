@@ -5,7 +5,6 @@ use native.Mathlib.Omega.{arith}
 use lib.ListN.{get_or}
 use Rattle.reginfo.specs.Table.{reg_info_of}
 use Rattle.entries.proofs.Sources.{older}
-use borrow.Author.Rules.{rules}
 use Rattle.entries.proofs.index.unit_clashes.Goals as goal
 
 pub returns-then-c-stamp : goal.returns-then-c-stamp
@@ -13,12 +12,5 @@ returns-then-c-stamp c =
     let s = c in
     let t = reg_info_of s.args.t.now in
     let e = s.args.e.now in
-    let z : c.wide-c.result ≡ get_or e (1028 + s.args.u.0) 0 = c.wide-c.ensures.0 ∙ rw c.wide.ensures.0 in
+    let z : c.from-c.result ≡ get_or e (1028 + s.args.u.0) 0 = c.from-c.ensures ∙ rw c.from.ensures in
     sym (older t e s.args.r.0 s.args.u.0 s.requires.1 s.requires.0 (λ h. c.if-c-stamp.true (omega arith)))
-
-pub told_clashes-requires : goal.told_clashes-requires
-told_clashes-requires c =
-    let s = c in
-    let e = s.args.e.now in
-    let z : c.wide-c.result ≡ get_or e (1028 + s.args.u.0) 0 = c.wide-c.ensures.0 ∙ rw c.wide.ensures.0 in
-    (s.requires.0, s.requires.1, omega arith)

@@ -1,27 +1,19 @@
-use Prim.Native.Nat.{◌≤◌, ◌-◌}
-use mathlib.Core.Path.{◌≡◌, refl, sym, ap, ◌∙◌}
+use mathlib.Core.Path.{◌≡◌, sym, ap, ◌∙◌}
 use mathlib.Core.Bool.{true, false}
 use native.Mathlib.Omega.{arith}
-use lib.ListN.{get_or, length, drop, drop_of_length-le}
+use lib.ListN.{get_or, drop_of_length-le}
 use borrow.Author.Tests.{not-true, not-false}
 use Rattle.entity.specs.Logic.{any_in}
 use Rattle.sparse.specs.Map.{keys_of}
 use Rattle.entries.specs.Known.{is_free}
 use Rattle.entries.proofs.Lists.{any_step}
 use Rattle.entries.proofs.Free.{none_free}
-use borrow.Author.Rules.{rules}
 use Rattle.entries.proofs.refusals.free_destination.Goals as goal
 
 pub returns-then-not-given : goal.returns-then-not-given
 returns-then-not-given c =
     let q : c.args.given ≡ false = not-true _ c.if-not-given.true-raw in
     rw q (sym (none_free (keys_of c.args.w.now)))
-
-pub loop-j-init : goal.loop-j-init
-loop-j-init c = (refl, omega arith, c.len-n.ensures)
-
-pub key_at-requires : goal.key_at-requires
-key_at-requires c = (c.requires, omega arith)
 
 pub returns-then-is_free : goal.returns-then-is_free
 returns-then-is_free c =

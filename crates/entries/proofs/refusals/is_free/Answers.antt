@@ -3,7 +3,6 @@ use mathlib.Core.Path.{sym, ap, ◌∙◌}
 use borrow.Author.Tests.{lt-ltb}
 use Rattle.entity.specs.Place.{unit_of}
 use Rattle.entries.proofs.Free.{reg-number, slot-number}
-use borrow.Author.Rules.{rules}
 use Rattle.entries.proofs.refusals.is_free.Goals as goal
 
 pub contains-requires : goal.contains-requires

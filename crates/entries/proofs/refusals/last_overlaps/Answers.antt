@@ -1,23 +1,20 @@
-use Prim.Native.Nat.{◌≤◌, ◌-◌}
 use mathlib.Core.Path.{◌≡◌, refl, sym, ap, ◌∙◌}
 use mathlib.Core.Bool.{true, false}
 use native.Mathlib.Omega.{arith}
-use lib.ListN.{length, drop, drop_of_length-le}
+use lib.ListN.{drop_of_length-le}
 use Rattle.entity.specs.Logic.{any_in}
 use Rattle.reginfo.specs.Table.{reg_info_of}
 use Rattle.function.specs.Function.{remat_class}
 use Rattle.function.specs.Table.{function_of}
 use Rattle.rules.specs.Order.{Remat, no_remat}
-use Rattle.rules.specs.Patch.{last_overlaps}
 use Rattle.entries.specs.Table.{remat_at, sorted_of}
 use Rattle.entries.specs.Known.{last_clashes}
 use Rattle.entries.proofs.Lists.{any_step}
 use Rattle.entries.proofs.Table.{scratch-count, scratch-is}
-use borrow.Author.Rules.{rules}
 use Rattle.entries.proofs.refusals.last_overlaps.Goals as goal
 
 pub loop-i-init : goal.loop-i-init
-loop-i-init c = let e = c.args.e.now in (refl, omega arith, c.wide-n.ensures.0 ∙ sym (scratch-count e), omega (arith, scratch-count e, c.requires.2))
+loop-i-init c = let e = c.args.e.now in (refl, omega arith, c.from-n.ensures ∙ sym (scratch-count e), omega (arith, scratch-count e, c.requires.2))
 
 pub remat_clashes-requires : goal.remat_clashes-requires
 unfolding remat_at

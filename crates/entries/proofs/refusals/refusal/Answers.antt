@@ -9,7 +9,6 @@ use Rattle.rules.specs.Patch.{free_destination, last_overlaps, patch_conditions}
 use Rattle.entries.specs.Table.{sorted_of}
 use Rattle.entries.specs.Known.{free_in}
 use Rattle.entries.proofs.Free.{free-is}
-use borrow.Author.Rules.{rules}
 use Rattle.entries.proofs.refusals.refusal.Goals as goal
 
 pub returns-then-free_destination : goal.returns-then-free_destination

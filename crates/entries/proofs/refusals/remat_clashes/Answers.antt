@@ -6,7 +6,6 @@ use Rattle.function.specs.Table.{function_of}
 use Rattle.function.specs.Answers.{remat_of}
 use Rattle.function.proofs.Laws.{never-remat, remat-known}
 use Rattle.entries.proofs.Fates.{writable, value-known, class_low}
-use borrow.Author.Rules.{rules}
 use Rattle.entries.proofs.refusals.remat_clashes.Goals as goal
 
 pub can_rematerialize-requires : goal.can_rematerialize-requires

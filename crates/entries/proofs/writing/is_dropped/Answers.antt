@@ -8,18 +8,17 @@ use Rattle.reginfo.specs.RegInfo.{place_units}
 use Rattle.reginfo.specs.Table.{reg_info_of}
 use Rattle.entries.specs.Table.{is_move_of}
 use Rattle.entries.proofs.Writers.{by-found}
-use borrow.Author.Rules.{rules}
 use Rattle.entries.proofs.writing.is_dropped.Goals as goal
 
 pub get-requires : goal.get-requires
 get-requires c = (c.requires.0, rw c.place_unit.ensures (c.requires.1.low _ (has_get_d (place_units (reg_info_of c.args.t.now) (place_at c.args.dest.0)) 0 c.requires.1.some)))
 
-pub returns-in-Value : goal.returns-in-Value
-returns-in-Value c =
+pub returns-in-Some : goal.returns-in-Some
+returns-in-Some c =
     let a = c.args in
-    c.is_move.ensures ∙ rw (← c.place_unit.ensures) (by-found (λ (o : Option ℕ). is_move_of a.e.now o a.source.0 a.dest.0 a.v.0) c.get.ensures c.in-Value.is)
+    c.is_move.ensures ∙ rw (← c.place_unit.ensures) (by-found (λ (o : Option ℕ). is_move_of a.e.now o a.source.0 a.dest.0 a.v.0) c.get.ensures c.in-Some.is)
 
-pub returns-in-Nothing : goal.returns-in-Nothing
-returns-in-Nothing c =
+pub returns-in-None : goal.returns-in-None
+returns-in-None c =
     let a = c.args in
-    rw (← c.place_unit.ensures) (by-found (λ (o : Option ℕ). is_move_of a.e.now o a.source.0 a.dest.0 a.v.0) c.get.ensures c.in-Nothing.is)
+    rw (← c.place_unit.ensures) (by-found (λ (o : Option ℕ). is_move_of a.e.now o a.source.0 a.dest.0 a.v.0) c.get.ensures c.in-None.is)

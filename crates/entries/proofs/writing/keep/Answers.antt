@@ -2,7 +2,6 @@
 use native.Mathlib.Omega.{arith}
 use lib.ListN.{length-set}
 use Rattle.entries.proofs.Table.{move-count}
-use borrow.Author.Rules.{rules}
 use Rattle.entries.proofs.writing.keep.Goals as goal
 
 pub count_entry-requires : goal.count_entry-requires

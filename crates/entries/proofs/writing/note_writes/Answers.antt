@@ -1,25 +1,13 @@
-use Prim.Native.Nat.{◌-◌}
 use mathlib.Core.Path.{sym, ◌∙◌}
 use native.Mathlib.Omega.{arith}
-use lib.ListN.{length}
 use Rattle.entity.specs.Place.{place_at}
 use Rattle.entity.proofs.Laws.{has_get_d}
 use Rattle.reginfo.specs.RegInfo.{place_units}
 use Rattle.reginfo.specs.Table.{reg_info_of}
 use Rattle.sparse.proofs.Laws.{length-keys}
 use Rattle.entries.proofs.Writers.{known-none}
-use Rattle.entries.proofs.Noting.{Noting, noting-start, noting-next, noting-hit, noting-end}
-use borrow.Author.Rules.{rules}
+use Rattle.entries.proofs.Noting.{noting-next, noting-hit, noting-end}
 use Rattle.entries.proofs.writing.note_writes.Goals as goal
-
-pub num_place_units-n-requires : goal.num_place_units-n-requires
-num_place_units-n-requires c = c.requires.1.known
-
-pub loop-j-init : goal.loop-j-init
-loop-j-init c = noting-start _ _ _ c.requires.0
-
-pub place_unit-u-requires : goal.place_unit-u-requires
-place_unit-u-requires c = (c.requires.1.known, omega arith)
 
 pub has_writer-requires : goal.has_writer-requires
 has_writer-requires c =
@@ -49,12 +37,6 @@ insert-requires c =
       omega (arith, s.requires.2, s.requires.1.few, l.invariant.few, l.invariant.within),
       known-none _ (sym c.has_writer.ensures ∙ c.if-has_writer.false),
     )
-
-pub overflow_add-j : goal.overflow_add-j
-overflow_add-j c = omega (arith, c.requires.1.few)
-
-pub loop-j-smaller : goal.loop-j-smaller
-loop-j-smaller c = omega arith
 
 pub loop-j-preserved : goal.loop-j-preserved
 loop-j-preserved c =

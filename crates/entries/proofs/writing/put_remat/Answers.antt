@@ -1,7 +1,6 @@
 -- `put_remat` meets its contract: the rebuild is stored in its list and counted.
 use native.Mathlib.Omega.{arith}
 use Rattle.entries.proofs.Table.{remat-count, remat-done-index, remat-done, scratch-done}
-use borrow.Author.Rules.{rules}
 use Rattle.entries.proofs.writing.put_remat.Goals as goal
 
 pub count_entry-requires : goal.count_entry-requires

@@ -1,7 +1,6 @@
 -- `show` meets its contract.
 use Rattle.parallel_moves.proofs.Resolving.{too-many-asked, shown}
 use native.Mathlib.Omega.{arith}
-use borrow.Author.Rules.{rules}
 use Rattle.parallel_moves.proofs.asking.show.Goals as goal
 
 pub returns-then-limit-count : goal.returns-then-limit-count

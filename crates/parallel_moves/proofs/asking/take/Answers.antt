@@ -2,7 +2,6 @@
 use Rattle.parallel_moves.proofs.Resolving.{took, not_taken}
 use native.Mathlib.Omega.{arith}
 use mathlib.Core.Path.{◌∙◌}
-use borrow.Author.Rules.{rules}
 use Rattle.parallel_moves.proofs.asking.take.Goals as goal
 
 pub returns-then-stamp-a : goal.returns-then-stamp-a

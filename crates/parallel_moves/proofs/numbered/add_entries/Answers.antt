@@ -1,31 +1,23 @@
-use borrow.Author.Rules.{rules}
+use Prim.Native.Nat.{◌+◌, ◌*◌, ◌-◌}
+use mathlib.Core.Path.{◌≡◌}
+use lib.ListN.{length}
 use native.Mathlib.Omega.{arith}
-use Rattle.parallel_moves.proofs.Adding.{Adding, adding-start, adding-step, adding-refused, adding-end, adding-short}
+use Rattle.parallel_moves.proofs.Adding.{adding-step, adding-refused, adding-end, adding-short}
 use Rattle.parallel_moves.proofs.numbered.add_entries.Goals as goal
 
-pub loop-left-init : goal.loop-left-init
-loop-left-init c = adding-start _ _ _ _ _ c.requires.1
-
-pub add_entry-requires : goal.add_entry-requires
-add_entry-requires c = let l = c.loop-left in (c.requires.0, l.invariant.ok, omega (arith, l.invariant.within, c.loop-left-test.true))
-
 pub returns-in-Refused : goal.returns-in-Refused
-returns-in-Refused c = let l = c.loop-left in adding-refused _ _ _ _ _ _ l.at l.left l.invariant _ _ _ c.loop-left-test.true (rw c.in-Refused.is at c.add_entry.ensures)
+returns-in-Refused c = let l = c.loop-i in adding-refused _ _ _ _ _ _ (l.i * 4) _ l.invariant _ _ _ (omega arith) (rw c.in-Refused.is at c.add_entry.ensures)
 
-pub overflow_add-at : goal.overflow_add-at
-overflow_add-at c = let l = c.loop-left in omega (arith, l.invariant.within, c.loop-left-test.true)
+pub loop-i-preserved : goal.loop-i-preserved
+loop-i-preserved c =
+    let l = c.loop-i in
+    let n = length c.args.numbers.now in
+    let on : (l.i + 1) * 4 ≡ l.i * 4 + 4 = omega arith in
+    let down : n - (l.i * 4 + 4) ≡ n - l.i * 4 - 4 = omega arith in
+    rw (on, down) (adding-step _ _ _ _ _ _ (l.i * 4) (n - l.i * 4) l.invariant _ _ (omega arith) (rw c.in_default.is at c.add_entry.ensures))
 
-pub loop-left-smaller : goal.loop-left-smaller
-loop-left-smaller c = omega (arith, c.loop-left-test.true)
-
-pub loop-left-preserved : goal.loop-left-preserved
-loop-left-preserved c = let l = c.loop-left in adding-step _ _ _ _ _ _ l.at l.left l.invariant _ _ c.loop-left-test.true (rw c.in_default.is at c.add_entry.ensures)
-
-pub add_remat-requires : goal.add_remat-requires
-add_remat-requires c = (c.requires.0, c.loop-left.invariant.ok)
-
-pub returns-then-left-gt0 : goal.returns-then-left-gt0
-returns-then-left-gt0 c = let l = c.loop-left in adding-short _ _ _ _ _ _ l.at l.left l.invariant _ _ _ c.loop-left-test.false c.if-left-gt0.true c.add_remat.ensures
+pub returns-then-n-ne0 : goal.returns-then-n-ne0
+returns-then-n-ne0 c = let l = c.loop-i in adding-short _ _ _ _ _ _ (l.i * 4) _ l.invariant _ _ _ (omega arith) (omega arith) c.add_remat.ensures
 
 pub returns : goal.returns
-returns c = let l = c.loop-left in adding-end _ _ _ _ _ _ l.at l.left l.invariant c.if-left-gt0.false
+returns c = let l = c.loop-i in adding-end _ _ _ _ _ _ (l.i * 4) _ l.invariant (omega arith)

@@ -1,5 +1,4 @@
 use Rattle.parallel_moves.proofs.Adding.{as-move, as-remat, as-nothing}
-use borrow.Author.Rules.{rules}
 use Rattle.parallel_moves.proofs.numbered.add_entry.Goals as goal
 
 pub returns-in-0 : goal.returns-in-0

@@ -3,7 +3,6 @@ use Rattle.reginfo.proofs.Accepted.{known-bank, size_fits, regs-fit}
 use Rattle.slots.proofs.Laws.{fits_more}
 use Rattle.scratch.proofs.Bringing.{back-made}
 use Prim.Native.Nat.{◌<◌}
-use borrow.Author.Rules.{rules}
 use Rattle.scratch.proofs.ScratchAllocator.bring_back.Goals as goal
 
 pub push_spill-requires : goal.push_spill-requires

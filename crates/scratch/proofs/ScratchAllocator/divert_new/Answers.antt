@@ -2,10 +2,8 @@
 use native.Mathlib.Omega.{arith}
 use Rattle.function.proofs.Laws.{known-value, few-values, bank-there}
 use Rattle.reginfo.proofs.Accepted.{known-bank, top-fits}
-use Rattle.scratch.proofs.Bounds.{fewer}
 use Rattle.scratch.proofs.Diversions.{diverts-new}
 use Rattle.scratch.specs.Promises.{tables}
-use borrow.Author.Rules.{rules}
 use Rattle.scratch.proofs.ScratchAllocator.divert_new.Goals as goal
 
 pub value_bank-b-requires : goal.value_bank-b-requires

@@ -5,7 +5,6 @@ use Rattle.entity.specs.Place.{place_at}
 use Rattle.scratch.specs.Promises.{tables}
 use Rattle.scratch.proofs.Bounds.{fewer}
 use Rattle.scratch.proofs.Outcomes.{moved-at-once, moved-marked}
-use borrow.Author.Rules.{rules}
 use Rattle.scratch.proofs.ScratchAllocator.do_move.Goals as goal
 
 pub unevict_for_ends-then-requires : goal.unevict_for_ends-then-requires

@@ -1,7 +1,6 @@
 -- `scratch::ScratchAllocator::end_diversion` meets its contract.
 use native.Mathlib.Omega.{arith}
 use Rattle.function.proofs.Laws.{known-value, few-values, bank-there}
-use Rattle.scratch.proofs.Bounds.{fewer}
 use Rattle.scratch.proofs.Diversions.{ended}
 use Rattle.scratch.specs.Promises.{tables}
 use Rattle.slots.proofs.Laws.{fits_more}

@@ -1,11 +1,10 @@
 use mathlib.Core.Path.{refl, ap}
 use native.Mathlib.Omega.{arith}
 use Rattle.reginfo.proofs.Accepted.{known-bank, known-class, size_fits, order-some, order-fits, regs-fit, banks-fit}
-use Rattle.scratch.specs.State.{AllSmall, owed}
+use Rattle.scratch.specs.State.{owed}
 use Rattle.scratch.proofs.Packed.{held_small}
 use Rattle.scratch.proofs.Bounds.{stocked}
 use Rattle.scratch.proofs.Outcomes.{last-low, found-last}
-use borrow.Author.Rules.{rules}
 use Rattle.scratch.proofs.ScratchAllocator.evict_last.Goals as goal
 
 pub spillslot_size-z-requires : goal.spillslot_size-z-requires

@@ -1,7 +1,5 @@
-use mathlib.Core.Path.{refl}
 use native.Mathlib.Omega.{arith}
 use Rattle.scratch.proofs.Packed.{none_in, one_in, two_in}
-use borrow.Author.Rules.{rules}
 use Rattle.scratch.proofs.ScratchAllocator.evicted.Goals as goal
 
 pub returns-then-newer-eq0 : goal.returns-then-newer-eq0

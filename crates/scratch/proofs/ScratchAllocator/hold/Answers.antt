@@ -1,8 +1,7 @@
 use mathlib.Core.Path.{sym, ap, ◌∙◌}
 use native.Mathlib.Omega.{arith}
-use Rattle.scratch.specs.State.{AllSmall, owed}
+use Rattle.scratch.specs.State.{owed}
 use Rattle.scratch.proofs.Bringing.{held_first, held-second}
-use borrow.Author.Rules.{rules}
 use Rattle.scratch.proofs.ScratchAllocator.hold.Goals as goal
 
 pub one-requires : goal.one-requires

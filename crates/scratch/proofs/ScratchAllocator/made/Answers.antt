@@ -1,6 +1,5 @@
 use mathlib.Core.Path.{refl}
 use Rattle.scratch.specs.State.{made_of}
-use borrow.Author.Rules.{rules}
 use Rattle.scratch.proofs.ScratchAllocator.made.Goals as goal
 
 pub returns : goal.returns

@@ -1,6 +1,5 @@
 -- `scratch::ScratchAllocator::make_available` meets its contract.
 use mathlib.Core.Path.{refl}
-use borrow.Author.Rules.{rules}
 use Rattle.entity.specs.Place.{place_at}
 use Rattle.scratch.proofs.Outcomes.{units-available}
 use Rattle.scratch.proofs.ScratchAllocator.make_available.Goals as goal

@@ -5,7 +5,6 @@ use Rattle.reginfo.proofs.Accepted.{known-class, order-some, order-fits, regs-fi
 use Rattle.scratch.specs.State.{owed}
 use Rattle.scratch.proofs.Outcomes.{last-low, reg-fits}
 use Rattle.scratch.proofs.Bringing.{none-room, made-room, room-owed}
-use borrow.Author.Rules.{rules}
 use Rattle.scratch.proofs.ScratchAllocator.make_room.Goals as goal
 
 pub order_last-last-requires : goal.order_last-last-requires

@@ -1,6 +1,5 @@
 -- `scratch::ScratchAllocator::mark_ends` meets its contract.
 use mathlib.Core.Path.{ap, ◌∙◌}
-use borrow.Author.Rules.{rules}
 use Rattle.entity.specs.Place.{place_at}
 use Rattle.rules.specs.Scratch.{make_unavailable}
 use Rattle.scratch.specs.State.{T, F}

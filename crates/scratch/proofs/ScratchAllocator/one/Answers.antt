@@ -1,7 +1,4 @@
-use mathlib.Core.Path.{refl}
-use native.Mathlib.Omega.{arith}
 use Rattle.scratch.proofs.Packed.{one_kept}
-use borrow.Author.Rules.{rules}
 use Rattle.scratch.proofs.ScratchAllocator.one.Goals as goal
 
 pub returns : goal.returns

@@ -1,7 +1,6 @@
 -- `scratch::ScratchAllocator::release_place` meets its contract.
 use Prim.Native.Nat.{◌<◌}
 use native.Mathlib.Omega.{arith}
-use borrow.Author.Rules.{rules}
 use Rattle.reginfo.proofs.Accepted.{known-bank, size_fits}
 use Rattle.slots.proofs.Laws.{fits_more}
 use Rattle.scratch.proofs.Outcomes.{released-reg, released-slot}

@@ -1,7 +1,6 @@
 use mathlib.Core.Path.{sym, ◌∙◌}
 use Rattle.scratch.proofs.Bounds.{all_fit}
 use Rattle.scratch.proofs.Outcomes.{found-held}
-use borrow.Author.Rules.{rules}
 use Rattle.scratch.proofs.ScratchAllocator.reuse.Goals as goal
 
 pub evict-requires : goal.evict-requires

@@ -1,7 +1,6 @@
 use native.Mathlib.Omega.{arith}
 use Rattle.reginfo.proofs.Accepted.{known-members, regs-fit}
 use Rattle.scratch.proofs.Outcomes.{found-member, found-stranger}
-use borrow.Author.Rules.{rules}
 use Rattle.scratch.proofs.ScratchAllocator.reuse_of_two.Goals as goal
 
 pub class_has_reg-requires : goal.class_has_reg-requires

@@ -1,7 +1,4 @@
-use mathlib.Core.Path.{refl}
-use native.Mathlib.Omega.{arith}
 use Rattle.scratch.proofs.Packed.{two-kept}
-use borrow.Author.Rules.{rules}
 use Rattle.scratch.proofs.ScratchAllocator.two.Goals as goal
 
 pub held_word-n-requires : goal.held_word-n-requires

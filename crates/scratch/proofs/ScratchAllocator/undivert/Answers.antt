@@ -4,7 +4,6 @@ use Prim.Native.Nat.{◌-◌}
 use mathlib.Core.Path.{ap}
 use Rattle.function.proofs.Laws.{few-values}
 use Rattle.scratch.proofs.Diversions.{undiverts-more, undiverts-end}
-use borrow.Author.Rules.{rules}
 use Rattle.scratch.proofs.ScratchAllocator.undivert.Goals as goal
 
 pub ref_count-left-requires : goal.ref_count-left-requires

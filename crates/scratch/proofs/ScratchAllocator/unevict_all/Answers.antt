@@ -5,7 +5,6 @@ use Rattle.scratch.specs.declared.Evicted.TheVariants.{Nothing}
 use Rattle.scratch.specs.State.{owed}
 use Rattle.scratch.proofs.Bounds.{let_go, all_fit}
 use Rattle.scratch.proofs.Bringing.{none-all, one-all, two-all}
-use borrow.Author.Rules.{rules}
 use Rattle.scratch.proofs.ScratchAllocator.unevict_all.Goals as goal
 
 pub bring_back-requires : goal.bring_back-requires

@@ -3,7 +3,6 @@ use mathlib.Core.List.{[]}
 use Rattle.reginfo.proofs.Accepted.{known-units}
 use Rattle.scratch.proofs.Bounds.{all_fit}
 use Rattle.scratch.proofs.Bringing.{none-ends, ends-apart-one, ends-met-one, for-ends}
-use borrow.Author.Rules.{rules}
 use Rattle.scratch.proofs.ScratchAllocator.unevict_for_ends.Goals as goal
 
 pub overlaps_end-requires : goal.overlaps_end-requires

@@ -2,7 +2,6 @@ use mathlib.Core.Path.{sym, ◌∙◌}
 use Rattle.reginfo.proofs.Accepted.{known-units}
 use Rattle.scratch.proofs.Bounds.{all_fit}
 use Rattle.scratch.proofs.Bringing.{none-for, one_apart, one-met}
-use borrow.Author.Rules.{rules}
 use Rattle.scratch.proofs.ScratchAllocator.unevict_for_reg.Goals as goal
 
 pub overlaps_reg-requires : goal.overlaps_reg-requires

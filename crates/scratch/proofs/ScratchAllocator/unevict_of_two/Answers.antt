@@ -6,7 +6,6 @@ use Rattle.scratch.specs.State.{owed}
 use Rattle.scratch.proofs.Packed.{small}
 use Rattle.scratch.proofs.Bounds.{let_go, all_fit}
 use Rattle.scratch.proofs.Bringing.{two-met, older-met, newer-met, neither-met}
-use borrow.Author.Rules.{rules}
 use Rattle.scratch.proofs.ScratchAllocator.unevict_of_two.Goals as goal
 
 pub overlaps_reg-met-requires : goal.overlaps_reg-met-requires

@@ -5,7 +5,6 @@ use Rattle.scratch.specs.State.{owed}
 use Rattle.scratch.proofs.Packed.{small}
 use Rattle.scratch.proofs.Bounds.{let_go, all_fit}
 use Rattle.scratch.proofs.Bringing.{two-older}
-use borrow.Author.Rules.{rules}
 use Rattle.scratch.proofs.ScratchAllocator.unevict_older.Goals as goal
 
 pub one-k-requires : goal.one-k-requires

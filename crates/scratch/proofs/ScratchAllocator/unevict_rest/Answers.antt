@@ -1,6 +1,5 @@
 use mathlib.Core.Path.{sym, ◌∙◌}
 use Rattle.scratch.proofs.Bringing.{none-but, one-but, rest_all, rest-one}
-use borrow.Author.Rules.{rules}
 use Rattle.scratch.proofs.ScratchAllocator.unevict_rest.Goals as goal
 
 pub unevict_all-requires : goal.unevict_all-requires

@@ -1,5 +1,4 @@
 use mathlib.Core.Path.{sym, ◌∙◌}
-use borrow.Author.Rules.{rules}
 use Rattle.scratch.proofs.bringing_back.overlaps_end.Goals as goal
 
 pub overlaps_reg-requires : goal.overlaps_reg-requires

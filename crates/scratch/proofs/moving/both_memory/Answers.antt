@@ -1,6 +1,5 @@
 -- `scratch::both_memory` meets its contract.
 use mathlib.Core.Path.{sym, ◌∙◌}
-use borrow.Author.Rules.{rules}
 use Rattle.scratch.proofs.moving.both_memory.Goals as goal
 
 pub returns-then-is_memory : goal.returns-then-is_memory
