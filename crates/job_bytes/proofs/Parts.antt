@@ -1,14 +1,14 @@
 -- The bytes of a target and a function, part by part, from the tables' cells.
 use Prim.Native.Nat.{ℕ, ◌+◌, ◌-◌, ◌*◌, ◌<◌, ◌≤◌}
-use mathlib.Core.Path.{◌≡◌, refl, sym, ap, ◌∙◌}
-use mathlib.Core.List.{List, [], ◌∷◌, ◌++◌, map, append_assoc}
+use mathlib.Core.Path.{◌≡◌, ap, ◌∙◌}
+use mathlib.Core.List.{List, [], ◌∷◌, ◌++◌, map}
 use native.Mathlib.Omega.{arith}
 use lib.Dec.{eqb}
 use lib.ListN.{length, get_or, drop, drop_of_length-le}
 use borrow.Author.Tests.{eq-eqb, ne_eqb}
 use Rattle.entity.specs.Logic.{pick, cells, indices}
 use Rattle.entity.proofs.Laws.{cells-step, indices_step, length-cells, length-built, drop-step}
-use Rattle.reginfo.specs.RegInfo.{RegInfo, num_banks, num_regs, num_classes}
+use Rattle.reginfo.specs.RegInfo.{num_regs, num_classes}
 use Rattle.reginfo.specs.Refused.{Accepted}
 use Rattle.reginfo.specs.Table.{bank_at, reg_at, class_at, reg_info_of}
 use Rattle.reginfo.proofs.Table.{banks-count, regs_count, classes-count, units-length, members-length, order-length}
@@ -36,20 +36,25 @@ pub numbers-none : (l : List ℕ) (i : ℕ) → length l ≤ i → bytes_of (dro
 numbers-none l i h = let z : drop i l ≡ [] = drop_of_length-le l {i = i} h in rw z bytes-none
 
 -- ---- rows, one after the other
+pub each-more : (row : ℕ → List ℕ) (i left : ℕ) → 0 < left → each_of row (indices i left) ≡ row i ++ each_of row (indices (i + 1) (left - 1))
+unfolding each_of
+each-more row i left h = rw (indices_step i left h)
+
+pub each-none : (row : ℕ → List ℕ) (i left : ℕ) → left ≤ 0 → each_of row (indices i left) ≡ []
+unfolding each_of indices
+each-none row i left h = let z : left ≡ 0 = omega arith in rw z
+
 module _ {A : Type 0} (g : A → List ℕ) (row : ℕ → A) where
-  abbrev pub rows : ℕ → ℕ → List ℕ
-  rows i n = bytes_of (each_of g (map row (indices i n)))
+  abbrev pub rows : ℕ → List ℕ
+  rows n = each_of (λ i. bytes_of (g (row i))) (indices 0 n)
 
-  pub rows_more : (i left : ℕ) → 0 < left → rows i left ≡ bytes_of (g (row i)) ++ rows (i + 1) (left - 1)
+  each-bytes : (l : List ℕ) → bytes_of (each_of g (map row l)) ≡ each_of (λ i. bytes_of (g (row i))) l
   unfolding each_of
-  rows_more i left h = rw (indices_step i left h) (bytes-append (g (row i)) (each_of g (map row (indices (i + 1) (left - 1)))))
+  each-bytes [] = bytes-none
+  each-bytes (i ∷ l) = rw (bytes-append (g (row i)) (each_of g (map row l)), each-bytes l)
 
-  pub rows_none : (i left : ℕ) → left ≤ 0 → rows i left ≡ []
-  unfolding each_of indices
-  rows_none i left h = let z : left ≡ 0 = omega arith in rw z bytes-none
-
-  counted-rows : (n : ℕ) → bytes_of (length (map row (indices 0 n)) ∷ each_of g (map row (indices 0 n))) ≡ encoded n ++ rows 0 n
-  counted-rows n = bytes-more (length (map row (indices 0 n))) (each_of g (map row (indices 0 n))) ∙ rw (length-built row 0 n)
+  counted-rows : (n : ℕ) → bytes_of (length (map row (indices 0 n)) ∷ each_of g (map row (indices 0 n))) ≡ encoded n ++ rows n
+  counted-rows n = bytes-more (length (map row (indices 0 n))) (each_of g (map row (indices 0 n))) ∙ rw (length-built row 0 n, each-bytes (indices 0 n))
 
 -- ---- single parts
 pub two_bytes : (a b : ℕ) → bytes_of (a ∷ b ∷ []) ≡ encoded a ++ encoded b
@@ -106,15 +111,15 @@ module _ (f : List ℕ) (v : ℕ) where
 
 -- ---- the whole target
 module _ (t : List ℕ) where
-  pub banks-bytes : bytes_of (length (reg_info_of t).banks ∷ each_of bank_numbers (reg_info_of t).banks) ≡ encoded (get_or t 8737 0) ++ rows bank_numbers (bank_at t) 0 (get_or t 8737 0)
+  pub banks-bytes : bytes_of (length (reg_info_of t).banks ∷ each_of bank_numbers (reg_info_of t).banks) ≡ encoded (get_or t 8737 0) ++ rows bank_numbers (bank_at t) (get_or t 8737 0)
   unfolding reg_info_of
   banks-bytes = counted-rows bank_numbers (bank_at t) (get_or t 8737 0)
 
-  pub regs-bytes : bytes_of (length (reg_info_of t).regs ∷ each_of reg_numbers (reg_info_of t).regs) ≡ encoded (get_or t 8738 0) ++ rows reg_numbers (reg_at t) 0 (get_or t 8738 0)
+  pub regs-bytes : bytes_of (length (reg_info_of t).regs ∷ each_of reg_numbers (reg_info_of t).regs) ≡ encoded (get_or t 8738 0) ++ rows reg_numbers (reg_at t) (get_or t 8738 0)
   unfolding reg_info_of
   regs-bytes = counted-rows reg_numbers (reg_at t) (get_or t 8738 0)
 
-  pub classes-bytes : bytes_of (length (reg_info_of t).classes ∷ each_of class_numbers (reg_info_of t).classes) ≡ encoded (get_or t 8739 0) ++ rows class_numbers (class_at t) 0 (get_or t 8739 0)
+  pub classes-bytes : bytes_of (length (reg_info_of t).classes ∷ each_of class_numbers (reg_info_of t).classes) ≡ encoded (get_or t 8739 0) ++ rows class_numbers (class_at t) (get_or t 8739 0)
   unfolding reg_info_of
   classes-bytes = counted-rows class_numbers (class_at t) (get_or t 8739 0)
 
@@ -158,14 +163,14 @@ module _ (t : List ℕ) where
 -- ---- the function
 pub function-bytes : (f : List ℕ)
     → bytes_of (function_numbers (function_of f))
-    ≡ bytes_of (get_or f 16384 0 ∷ get_or f 16385 0 ∷ []) ++ (encoded (get_or f 16386 0) ++ rows value_numbers (value_at f) 0 (get_or f 16384 0))
+    ≡ bytes_of (get_or f 16384 0 ∷ get_or f 16385 0 ∷ []) ++ (encoded (get_or f 16386 0) ++ rows value_numbers (value_at f) (get_or f 16384 0))
 unfolding function_numbers function_of
 function-bytes f =
     let n : ℕ = get_or f 16384 0 in
     let vs : List ℕ = each_of value_numbers (map (value_at f) (indices 0 n)) in
     ap (λ (k : ℕ). bytes_of (k ∷ get_or f 16385 0 ∷ get_or f 16386 0 ∷ vs)) (length-built (value_at f) 0 n)
     ∙ bytes-append (n ∷ get_or f 16385 0 ∷ []) (get_or f 16386 0 ∷ vs)
-    ∙ ap (λ (l : List ℕ). bytes_of (n ∷ get_or f 16385 0 ∷ []) ++ l) (bytes-more (get_or f 16386 0) vs)
+    ∙ ap (λ (l : List ℕ). bytes_of (n ∷ get_or f 16385 0 ∷ []) ++ l) (bytes-more (get_or f 16386 0) vs ∙ rw (each-bytes value_numbers (value_at f) (indices 0 n)))
 
 pub few-values : (f : List ℕ) → num_values (function_of f) ≤ 4096 → get_or f 16384 0 ≤ 4096
 few-values f h = rw (← values-count f) h

@@ -9,14 +9,13 @@ use lib.Seq.{take-suc-set, take_all}
 use borrow.Author.Tests.{lt-ltb, le-ltb}
 use Rattle.number.specs.Number.{groups_of, encoded}
 use Rattle.job_numbers.specs.Numbers.{each_of, bytes_of}
-use Rattle.job_bytes.specs.declared.Put.{Put}
-use Rattle.job_bytes.specs.declared.Put.TheVariants.{At, Over}
+use Rattle.std.specs.Prelude.{Option, Some, None}
 use Rattle.job_bytes.specs.Puts.{Puts}
 
-apart : {A : Type 0} {n : ℕ} → Over ≡ At n → A
+apart : {A : Type 0} {n : ℕ} → None ≡ Some n → A
 apart e = absurd (let z : ◌≡◌ {A = ℕ} 0 1 = cc in omega arith)
 
-pub puts-at : {work work' bytes : List ℕ} {at next : ℕ} → take next work' ≡ take at work ++ bytes → (at ≤ 65536 → next ≤ 65536) → Puts work at bytes work' (At next)
+pub puts-at : {work work' bytes : List ℕ} {at next : ℕ} → take next work' ≡ take at work ++ bytes → (at ≤ 65536 → next ≤ 65536) → Puts work at bytes work' (Some next)
 puts-at {work} {work'} {bytes} {at} {next} s w =
     record {
       stand = λ n e. let q : n ≡ next = cc in rw q s;
@@ -24,25 +23,25 @@ puts-at {work} {work'} {bytes} {at} {next} s w =
       over = λ e. apart (sym e);
     }
 
-pub puts-over : {work work' bytes : List ℕ} {at : ℕ} → 65536 < length (take at work ++ bytes) → Puts work at bytes work' Over
+pub puts-over : {work work' bytes : List ℕ} {at : ℕ} → 65536 < length (take at work ++ bytes) → Puts work at bytes work' None
 puts-over h = record { stand = λ n e. apart e; within = λ n e. apart e; over = λ e. h }
 
-pub puts-as : {work work' a whole : List ℕ} {at : ℕ} {r x : Put} → whole ≡ a → Puts work at a work' r → r ≡ x → Puts work at whole work' x
+pub puts-as : {work work' a whole : List ℕ} {at : ℕ} {r x : Option ℕ} → whole ≡ a → Puts work at a work' r → r ≡ x → Puts work at whole work' x
 puts-as e p o = rw (e, ← o) p
 
 -- ---- one byte
-pub byte_put : (work : List ℕ) (at b : ℕ) → length work ≡ 65536 → at < 65536 → Puts work at (b ∷ []) (set work at b) (At (at + 1))
+pub byte_put : (work : List ℕ) (at b : ℕ) → length work ≡ 65536 → at < 65536 → Puts work at (b ∷ []) (set work at b) (Some (at + 1))
 byte_put work at b l h = puts-at (rw (add-one at, take-suc-set work at b (omega arith))) (λ g. omega arith)
 
-pub byte-over : (work : List ℕ) (at b : ℕ) → length work ≡ 65536 → 65536 ≤ at → Puts work at (b ∷ []) work Over
+pub byte-over : (work : List ℕ) (at b : ℕ) → length work ≡ 65536 → 65536 ≤ at → Puts work at (b ∷ []) work None
 byte-over work at b l h = puts-over (rw (take_all at work (omega arith), length-append work (b ∷ [])) (omega arith))
 
 -- ---- two parts
-module _ {work mid a whole : List ℕ} {at : ℕ} {r : Put} (b : List ℕ) (e : whole ≡ a ++ b) (p : Puts work at a mid r) where
-  pub first-over : r ≡ Over → Puts work at whole mid Over
+module _ {work mid a whole : List ℕ} {at : ℕ} {r : Option ℕ} (b : List ℕ) (e : whole ≡ a ++ b) (p : Puts work at a mid r) where
+  pub first-over : r ≡ None → Puts work at whole mid None
   first-over o = puts-over (rw (e, ← append_assoc (take at work) a b, length-append (take at work ++ a) b) (omega (arith, p.over o)))
 
-  pub then-puts : {work' : List ℕ} {next : ℕ} {x : Put} → r ≡ At next → Puts mid next b work' x → Puts work at whole work' x
+  pub then-puts : {work' : List ℕ} {next : ℕ} {x : Option ℕ} → r ≡ Some next → Puts mid next b work' x → Puts work at whole work' x
   then-puts {work'} {next} {x} o q =
       let joined : take next mid ++ b ≡ take at work ++ whole = rw (p.stand next o, e) (append_assoc (take at work) a b) in
       record {
@@ -60,10 +59,10 @@ pub all_left : {work : List ℕ} {at : ℕ} {whole : List ℕ} (rest : List ℕ)
 all_left {work} {at} rest e = record { is = ap (λ (l : List ℕ). take at work ++ l) (sym e); within = λ h. h }
 
 module _ {work whole mid rest : List ℕ} {at q : ℕ} (l : Left work at whole mid q rest) where
-  pub none_left : rest ≡ [] → Puts work at whole mid (At q)
+  pub none_left : rest ≡ [] → Puts work at whole mid (Some q)
   none_left e = puts-at (sym (append-nil (take q mid)) ∙ rw e at l.is) l.within
 
-  pub last-puts : {work' : List ℕ} {x : Put} → Puts mid q rest work' x → Puts work at whole work' x
+  pub last-puts : {work' : List ℕ} {x : Option ℕ} → Puts mid q rest work' x → Puts work at whole work' x
   last-puts p =
       record {
         stand = λ n k. p.stand n k ∙ l.is;
@@ -71,11 +70,11 @@ module _ {work whole mid rest : List ℕ} {at q : ℕ} (l : Left work at whole m
         over = λ k. rw (← l.is) (p.over k);
       }
 
-  module _ {a mid' : List ℕ} {r : Put} (b : List ℕ) (e : rest ≡ a ++ b) (p : Puts mid q a mid' r) where
-    pub one-over : r ≡ Over → Puts work at whole mid' Over
+  module _ {a mid' : List ℕ} {r : Option ℕ} (b : List ℕ) (e : rest ≡ a ++ b) (p : Puts mid q a mid' r) where
+    pub one-over : r ≡ None → Puts work at whole mid' None
     one-over o = last-puts (first-over b e p o)
 
-    pub one-put : {next : ℕ} → r ≡ At next → Left work at whole mid' next b
+    pub one-put : {next : ℕ} → r ≡ Some next → Left work at whole mid' next b
     one-put {next} o =
         record {
           is = rw (p.stand next o, append_assoc (take q mid) a b, ← e) l.is;

@@ -1,13 +1,11 @@
 -- What putting numbers into the working bytes ensures.
-use Rattle.std.specs.Prelude.{ℕ, ◌+◌, ◌*◌, ◌<◌, ◌≤◌, ◌≡◌, List, ◌++◌, length, get_or, take}
-use Rattle.job_bytes.specs.declared.Put.{Put}
-use Rattle.job_bytes.specs.declared.Put.TheVariants.{At, Over}
+use Rattle.std.specs.Prelude.{ℕ, ◌+◌, ◌*◌, ◌<◌, ◌≤◌, ◌≡◌, Option, Some, None, List, ◌++◌, length, get_or, take}
 
 -- the bytes stand behind those before `at`, up to the next offset, which is within; or with those they are more than a job has
-pub record Puts (work : List ℕ) (at : ℕ) (bytes work' : List ℕ) (r : Put) : Type 0 where
-  pub stand : (next : ℕ) → r ≡ At next → take next work' ≡ take at work ++ bytes
-  pub within : (next : ℕ) → r ≡ At next → at ≤ 65536 → next ≤ 65536
-  pub over : r ≡ Over → 65536 < length (take at work ++ bytes)
+pub record Puts (work : List ℕ) (at : ℕ) (bytes work' : List ℕ) (r : Option ℕ) : Type 0 where
+  pub stand : (next : ℕ) → r ≡ Some next → take next work' ≡ take at work ++ bytes
+  pub within : (next : ℕ) → r ≡ Some next → at ≤ 65536 → next ≤ 65536
+  pub over : r ≡ None → 65536 < length (take at work ++ bytes)
 
 -- the lists of the first n registers and classes are within their strides
 abbrev pub FewUnits : List ℕ → ℕ → Type 0

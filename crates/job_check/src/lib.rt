@@ -34,13 +34,11 @@ pub fn check_patches(
     ensures anything { Anything free.new × Anything e.new × Anything w.new }
 {
     let mut at = from;
-    let mut left = count;
-    while 0 < left {
+    for _done in 0..count {
         match job_patch::read_accepted(t, f, s, at, free, e, w) {
             Next::Refused(k) => return Added::Refused(k),
             Next::At(next) => at = next,
         }
-        left -= 1;
     }
     if at < s.len() {
         return Added::Refused(8);

@@ -36,13 +36,11 @@ fn read_numbered(
     ensures { PatchAt t.now f.now s.now (patch_at (reg_info_of t.now) (function_of f.now) n (drop at s.now)) result free.new e.new w.new }
 {
     let mut q = at;
-    let mut left = n;
-    while 0 < left {
+    for _done in 0..n {
         match job_patch::read_accepted(t, f, s, q, free, e, w) {
             Next::Refused(k) => return Next::Refused(k),
             Next::At(next) => q = next,
         }
-        left -= 1;
     }
     job_patch::read_patch(t, f, s, q, free, e, w)
 }

@@ -10,7 +10,7 @@ ghost use Rattle.reading.specs.Answer.{NextAt};
 ghost use Rattle.job_function.specs.Reads.{remat_value, value, valued};
 ghost use Rattle.job_function.specs.Answer.{FunctionReadWithin, FunctionRead, RowRead, first_values};
 
-use entity::{RegBank, RegClass, wide};
+use entity::{RegBank, RegClass};
 use function::Function;
 use number::Number;
 use reading::{Next, below, between};
@@ -23,13 +23,6 @@ enum Row {
     Refused(u8),
 }
 
-// Does nothing: a call tells the length of the table that is passed.
-fn told(f: [u16; 16388]) -> bool
-    ensures { length f ≡ 16388 }
-{
-    true
-}
-
 // The class of a value that can be rebuilt.
 fn read_remat_class(t: &RegInfo, s: &[u8], at: usize, bank: RegBank, cost: u16) -> Row
     requires { Accepted (reg_info_of t.now) }
@@ -40,7 +33,7 @@ fn read_remat_class(t: &RegInfo, s: &[u8], at: usize, bank: RegBank, cost: u16) 
         Number::Is(c, next) => {
             let class = RegClass(c as u16);
             let own = bank_for_class(t, class);
-            if own.0 == bank.0 {
+            if own == bank {
                 return Row::Is(bank, cost, class, next);
             }
             Row::Refused(9)
@@ -72,10 +65,8 @@ fn read_values(t: &RegInfo, s: &[u8], from: usize, f: &mut Function, n: usize) -
     requires { Accepted (reg_info_of t.now) × (n ≤ 4096) }
     ensures { NextAt (times n (value (reg_info_of t.now))) s.now from (first_values f.new n) Unit result }
 {
-    told(*f);
     let mut at = from;
-    let mut v: usize = 0;
-    while v < n {
+    for v in 0..n {
         match read_value(t, s, at) {
             Row::Refused(k) => return Next::Refused(k),
             Row::Is(bank, cost, class, next) => {
@@ -85,7 +76,6 @@ fn read_values(t: &RegInfo, s: &[u8], from: usize, f: &mut Function, n: usize) -
                 at = next;
             }
         }
-        v += 1;
     }
     Next::At(at)
 }
@@ -104,10 +94,9 @@ fn read_valued(
     requires { Accepted (reg_info_of t.now) × (n ≤ 4096) }
     ensures { NextAt (valued (reg_info_of t.now) kept n slots limit) s.now at (function_of f.new) Unit result }
 {
-    match read_values(t, s, at, f, wide(n)) {
+    match read_values(t, s, at, f, usize::from(n)) {
         Next::Refused(k) => Next::Refused(k),
         Next::At(next) => {
-            told(*f);
             f[16384] = n;
             f[16385] = slots;
             f[16386] = limit;

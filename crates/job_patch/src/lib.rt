@@ -198,8 +198,7 @@ fn read_entries(
 {
     entries::new_parallel_move(e, w);
     let mut q = at;
-    let mut left = n;
-    while 0 < left {
+    for _done in 0..n {
         if entries::is_full(e) {
             return Next::Refused(15);
         }
@@ -207,7 +206,6 @@ fn read_entries(
             Next::Refused(k) => return Next::Refused(k),
             Next::At(next) => q = next,
         }
-        left -= 1;
     }
     Next::At(q)
 }
@@ -221,8 +219,7 @@ fn read_free(t: &RegInfo, s: &[u8], at: usize, free: &mut RegUnitSet, n: u32) ->
     let units = reginfo::num_units(t) as u32;
     let mut q = at;
     let mut least: u32 = 0;
-    let mut left = n;
-    while 0 < left {
+    for _done in 0..n {
         match reading::below(s, q, units) {
             Number::Refused(k) => return Next::Refused(k),
             Number::Is(u, next) => {
@@ -234,7 +231,6 @@ fn read_free(t: &RegInfo, s: &[u8], at: usize, free: &mut RegUnitSet, n: u32) ->
                 q = next;
             }
         }
-        left -= 1;
     }
     Next::At(q)
 }

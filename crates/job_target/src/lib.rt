@@ -19,33 +19,12 @@ use reginfo::RegInfo;
 // The numbers of a list that were read, one flag for each.
 type Seen = [bool; 512];
 
-// These do nothing: a call tells the length of the table that is passed.
-fn told(t: RegInfo) -> bool
-    ensures { length t ≡ 107520 }
-{
-    true
-}
-
-fn told_seen(t: Seen) -> bool
-    ensures { length t ≡ 512 }
-{
-    true
-}
-
 // One cell is written.
 fn put(t: &mut RegInfo, at: usize, x: u32)
     requires { (at < 107520) × (x < 65536) }
     ensures { Put t.old t.new at x }
 {
-    told(*t);
     t[at] = x as u16;
-}
-
-// A cell as a number of a job.
-fn wide(x: u16) -> u32
-    ensures { result ≡ x }
-{
-    x as u32
 }
 
 // A class number as a cell holds it.
@@ -94,16 +73,10 @@ fn read_bank_rows(s: &[u8], from: usize, t: &mut RegInfo, n: u32) -> Next
     ensures { NextAt (times n bank_held) s.now from (map (bank_at t.new) (indices 0 n)) (Keeps t.old t.new 8704 32) result }
 {
     let mut at = from;
-    let mut b: usize = 0;
-    let mut left = n;
-    while 0 < left {
+    for b in 0..n as usize {
         match read_bank(s, at, t, b) {
             Next::Refused(k) => return Next::Refused(k),
-            Next::At(next) => {
-                at = next;
-                b += 1;
-                left -= 1;
-            }
+            Next::At(next) => at = next,
         }
     }
     Next::At(at)
@@ -114,7 +87,6 @@ fn read_new(s: &[u8], at: usize, limit: u32, seen: &mut Seen) -> Number
     requires { limit ≤ 512 }
     ensures { ReadAt (fresh limit (seen_in seen.old)) s.now at result × NewIn limit (seen_in seen.old) (seen_in seen.new) result }
 {
-    told_seen(*seen);
     match below(s, at, limit) {
         Number::Refused(k) => Number::Refused(k),
         Number::Is(x, next) => {
@@ -134,16 +106,12 @@ fn read_list(s: &[u8], from: usize, t: &mut RegInfo, start: usize, n: u32, limit
 {
     let mut seen = [false; 512];
     let mut at = from;
-    let mut i: usize = 0;
-    let mut left = n;
-    while 0 < left {
+    for i in 0..n as usize {
         match read_new(s, at, limit, &mut seen) {
             Number::Refused(k) => return Next::Refused(k),
             Number::Is(x, next) => {
                 put(t, start + i, x);
                 at = next;
-                i += 1;
-                left -= 1;
             }
         }
     }
@@ -186,16 +154,10 @@ fn read_reg_rows(s: &[u8], from: usize, t: &mut RegInfo, n: u32, units: u32, ban
     ensures { NextAt (times n (reg units banks)) s.now from (map (reg_at t.new) (indices 0 n)) (RegsKept t.old t.new n) result }
 {
     let mut at = from;
-    let mut r: usize = 0;
-    let mut left = n;
-    while 0 < left {
+    for r in 0..n as usize {
         match read_reg(s, at, t, r, units, banks) {
             Next::Refused(k) => return Next::Refused(k),
-            Next::At(next) => {
-                at = next;
-                r += 1;
-                left -= 1;
-            }
+            Next::At(next) => at = next,
         }
     }
     Next::At(at)
@@ -266,7 +228,7 @@ fn order_count(t: &RegInfo, c: usize) -> u32
     requires { c < 64 }
     ensures { result ≡ get_or t.now (8195 + c * 8) 0 }
 {
-    wide(t[8195 + c * 8])
+    u32::from(t[8195 + c * 8])
 }
 
 // n classes.
@@ -275,17 +237,13 @@ fn read_class_rows(s: &[u8], from: usize, t: &mut RegInfo, n: u32, banks: u32, r
     ensures { NextAt (classes n banks regs 0) s.now from (map (class_at t.new) (indices 0 n)) (Earlier t.old t.new 0) result }
 {
     let mut at = from;
-    let mut c: usize = 0;
-    let mut left = n;
     let mut total: u32 = 0;
-    while 0 < left {
+    for c in 0..n as usize {
         match read_class(s, at, t, c, banks, regs, total) {
             Next::Refused(k) => return Next::Refused(k),
             Next::At(next) => {
                 at = next;
                 total += order_count(t, c);
-                c += 1;
-                left -= 1;
             }
         }
     }
@@ -297,10 +255,10 @@ fn bank_unknown(t: &RegInfo, b: usize, n: u32) -> bool
     requires { b < 8 }
     ensures { result ≡ unknown_class n (bank_at t.now b) }
 {
-    if n <= wide(t[8705 + b * 4]) {
+    if n <= u32::from(t[8705 + b * 4]) {
         return true;
     }
-    n <= wide(t[8706 + b * 4])
+    n <= u32::from(t[8706 + b * 4])
 }
 
 // Whether one of the banks does.
@@ -308,14 +266,10 @@ fn unknown_class(t: &RegInfo, banks: u32, n: u32) -> bool
     requires { banks ≤ 8 }
     ensures { result ≡ any_in (unknown_class n) (map (bank_at t.now) (indices 0 banks)) }
 {
-    let mut b: usize = 0;
-    let mut left = banks;
-    while 0 < left {
+    for b in 0..banks as usize {
         if bank_unknown(t, b, n) {
             return true;
         }
-        b += 1;
-        left -= 1;
     }
     false
 }

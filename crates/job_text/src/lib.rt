@@ -12,7 +12,6 @@ ghost use Rattle.job_text.specs.Standing.{starting, written_out, to_go, most_byt
 
 use carried::Carried;
 use edit::Edits;
-use entity::wide;
 use entries::Entries;
 use function::Function;
 use job::Step;
@@ -38,25 +37,6 @@ pub struct Progress {
     pub ended: bool,
 }
 
-// It does nothing: a call tells the length of the list that is passed.
-fn told(list: [u64; 1024]) -> bool
-    ensures { length list ≡ 1024 }
-{
-    true
-}
-
-fn byte(x: u8) -> usize
-    ensures { (result ≡ x) × (result < 256) }
-{
-    x as usize
-}
-
-fn long(x: u32) -> usize
-    ensures { (result ≡ x) × (result < 4294967296) }
-{
-    x as usize
-}
-
 // The lines of patch k, which has at most 1,024 edits.
 fn put_patch(
     out: &mut [u8],
@@ -69,7 +49,6 @@ fn put_patch(
     requires { (n + 20480 ≤ length out.old) × (k < 4294967296) × (count ≤ 1024) × (made < 65536) }
     ensures { Put out.old out.new n (words_text k (take count list.now) made) result × (result ≤ n + 20480) }
 {
-    told(*list);
     print::put_patch(out, n, k, list, count, made)
 }
 
@@ -104,7 +83,7 @@ fn refuse(mut p: Progress, out: &mut [u8], number: u8) -> Progress
         return end(p);
     }
     let n = p.held;
-    p.held = print::put_refused(out, n, byte(number));
+    p.held = print::put_refused(out, n, usize::from(number));
     end(p)
 }
 
@@ -148,13 +127,12 @@ pub fn next(
     if left == 0 {
         return finish(p, out, s, at);
     }
-    told(*list);
     match job::answer_patch(
         t, f, s, at, cache, list, free, e, w, available, sources, edits, slots, d, marks, c,
     ) {
         Step::Refused(number) => refuse(p, out, number),
         Step::Edits(count, _, next) => {
-            let made = wide(slots::made(cache));
+            let made = usize::from(slots::made(cache));
             let n = p.held;
             let k = p.k;
             let held = put_patch(out, n, k, list, count, made);
@@ -187,7 +165,7 @@ pub fn start(
         Number::Refused(number) => refuse(begun(0, 0), out, number),
         Number::Is(count, at) => {
             slots::clear(cache);
-            begun(at, long(count))
+            begun(at, count as usize)
         }
     }
 }

@@ -11,8 +11,7 @@ use Rattle.print.specs.Put.{Room}
 use Rattle.print.specs.Put as print
 use Rattle.number.specs.Read.{refused}
 use Rattle.job_rules.specs.Job.{opening}
-use Rattle.job_bytes.specs.declared.Put.{Put}
-use Rattle.job_bytes.specs.declared.Put.TheVariants.{At, Over}
+use Rattle.std.specs.Prelude.{Option, Some, None}
 use Rattle.job_bytes.specs.Puts.{Puts}
 use Rattle.job_numbers.specs.Numbers.{bytes_of, read_job, number_of, written}
 use Rattle.job_writer.specs.declared.Written.{Written}
@@ -46,18 +45,18 @@ unfolding read_job opening is_setting
 too_long l h = rw (lt-ltb 65536 (length l) h)
 
 module _ (ns work₀ work out : List ℕ) where
-  pub over-is-2 : (p : Put) → Puts work₀ 0 (bytes_of ns) work p → p ≡ Over → WrittenAs (written ns (length out)) out out (Refused 2)
+  pub over-is-2 : (p : Option ℕ) → Puts work₀ 0 (bytes_of ns) work p → p ≡ None → WrittenAs (written ns (length out)) out out (Refused 2)
   unfolding written
   over-is-2 p h e = rw (too_long (bytes_of ns) (h.over e)) (refl, refl)
 
-  pub all_settled : (p : Put) (n : ℕ) (out' : List ℕ) (r : Written) → Puts work₀ 0 (bytes_of ns) work p → p ≡ At n
+  pub all_settled : (p : Option ℕ) (n : ℕ) (out' : List ℕ) (r : Written) → Puts work₀ 0 (bytes_of ns) work p → p ≡ Some n
       → WrittenAs (settled (take n work) (length out)) out out' r → WrittenAs (written ns (length out)) out out' r
   unfolding written
   all_settled p n out' r h e w = rw (h.stand n e) at w
 
-pub put-within : (room : ℕ) (ns work₀ work : List ℕ) (p : Put) → room ≡ 65536 → Puts work₀ 0 (bytes_of ns) work p → Within room p
-put-within room ns work₀ work (At n) e h = rw e (h.within n refl (omega arith))
-put-within room ns work₀ work Over e h = tt
+pub put-within : (room : ℕ) (ns work₀ work : List ℕ) (p : Option ℕ) → room ≡ 65536 → Puts work₀ 0 (bytes_of ns) work p → Within room p
+put-within room ns work₀ work (Some n) e h = rw e (h.within n refl (omega arith))
+put-within room ns work₀ work None e h = tt
 
-pub within-at : (room : ℕ) (p : Put) (n : ℕ) → Within room p → p ≡ At n → n ≤ room
+pub within-at : (room : ℕ) (p : Option ℕ) (n : ℕ) → Within room p → p ≡ Some n → n ≤ room
 within-at room p n h e = subst (Within room) e h

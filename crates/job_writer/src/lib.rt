@@ -13,7 +13,7 @@ ghost use Rattle.job_writer.specs.Steps.{handed, settled, Within, WrittenAs};
 
 use entries::{Added, Entries};
 use function::Function;
-use job_bytes::{Put, Work};
+use job_bytes::Work;
 use reginfo::RegInfo;
 use small_set::RegUnitSet;
 use sparse::SparseMap;
@@ -56,7 +56,7 @@ fn settle(
 
 // The job whose bytes were put: 2, if they are too many.
 fn finish(
-    put: Put,
+    put: Option<usize>,
     work: &[u8],
     out: &mut [u8],
     t: &mut RegInfo,
@@ -70,8 +70,8 @@ fn finish(
     ensures anything { Anything t.new × Anything f.new × Anything free.new × Anything e.new × Anything w.new }
 {
     match put {
-        Put::Over => Written::Refused(2),
-        Put::At(n) => settle(&work[..n], out, t, f, free, e, w),
+        None => Written::Refused(2),
+        Some(n) => settle(&work[..n], out, t, f, free, e, w),
     }
 }
 
@@ -90,22 +90,17 @@ pub fn write_numbers(
     ensures anything { Anything work.new × Anything t.new × Anything f.new × Anything free.new × Anything e.new × Anything w.new }
 {
     let put = job_bytes::put_numbers(work, 0, numbers);
-    job_bytes::told(*work);
     finish(put, work, out, t, f, free, e, w)
 }
 
 // Target, function and numbers, one behind the other.
-fn put_job(work: &mut Work, t: &RegInfo, f: &Function, numbers: &[u32]) -> Put
+fn put_job(work: &mut Work, t: &RegInfo, f: &Function, numbers: &[u32]) -> Option<usize>
     requires { Checked t.now f.now }
     ensures { Puts work.old 0 (bytes_of (target_numbers (reg_info_of t.now) ++ (function_numbers (function_of f.now) ++ numbers.now))) work.new result }
 {
-    match job_bytes::put_target(work, 0, t) {
-        Put::Over => Put::Over,
-        Put::At(a) => match job_bytes::put_function(work, a, f) {
-            Put::Over => Put::Over,
-            Put::At(next) => job_bytes::put_numbers(work, next, numbers),
-        },
-    }
+    let a = job_bytes::put_target(work, 0, t)?;
+    let next = job_bytes::put_function(work, a, f)?;
+    job_bytes::put_numbers(work, next, numbers)
 }
 
 // Checked tables, and the job's numbers from its patch count on. It is read back into `target` and `function`, which are worked in.
@@ -126,6 +121,5 @@ pub fn write_job(
     ensures anything { Anything work.new × Anything target.new × Anything function.new × Anything free.new × Anything e.new × Anything w.new }
 {
     let put = put_job(work, t, f, numbers);
-    job_bytes::told(*work);
     finish(put, work, out, target, function, free, e, w)
 }

@@ -15,7 +15,7 @@ ghost use Rattle.job_writer_c.specs.Told.{ToldAs};
 
 use entries::Entries;
 use function::Function;
-use job_bytes::{Put, Work};
+use job_bytes::Work;
 use job_writer::Written;
 use reginfo::RegInfo;
 use small_set::RegUnitSet;
@@ -102,10 +102,7 @@ pub extern "C" fn parallel_moves_shipped_5(work: &mut Work, target: &mut RegInfo
 {
     shipped::fill(target);
     match job_bytes::put_target(work, 0, target) {
-        Put::At(n) => {
-            job_bytes::told(*work);
-            n
-        }
-        Put::Over => 0,
+        Some(n) => n,
+        None => 0,
     }
 }

@@ -14,7 +14,6 @@ use Rattle.number.specs.declared.Number.TheVariants as N
 use Rattle.reading.specs.Answer.{next_of}
 use Rattle.reading.specs.declared.Next.TheVariants as X
 use Rattle.patch_numbers.specs.declared.Four.{Four}
-use Rattle.patch_numbers.specs.declared.Four.TheVariants.{Is, Refused}
 use Rattle.patch_numbers.specs.Numbers.{passed, last, four, fours, counted, numbers_in}
 use Rattle.patch_numbers.specs.Kept.{four_of, stored, KeptAt}
 

@@ -20,25 +20,16 @@ pub enum Four {
     Refused(u8),
 }
 
-// This does nothing: a call tells the length of the table.
-pub fn told(t: [u32; 512]) -> bool
-    ensures { length t ≡ 512 }
-{
-    true
-}
-
 // So many numbers passed over.
 fn skip(s: &[u8], at: usize, n: u32) -> Next
     ensures { next_of s.now 0 result ≡ passed n (drop at s.now) }
 {
     let mut q = at;
-    let mut left = n;
-    while 0 < left {
+    for _done in 0..n {
         match reader::read(s, q) {
             Number::Refused(k) => return Next::Refused(k),
             Number::Is(_, next) => q = next,
         }
-        left -= 1;
     }
     Next::At(q)
 }
@@ -77,7 +68,6 @@ fn put(numbers: &mut Numbers, k: usize, kind: u32, x: u32, y: u32, z: u32)
     requires { k + 4 ≤ 512 }
     ensures { (numbers.new ≡ stored numbers.old k kind x y z) × (length numbers.old ≡ 512) }
 {
-    told(*numbers);
     numbers[k] = kind;
     numbers[k + 1] = x;
     numbers[k + 2] = y;
@@ -90,8 +80,7 @@ fn read_fours(s: &[u8], at: usize, n: usize, numbers: &mut Numbers) -> Next
     ensures { next_of s.now (take (n * 4) numbers.new) result ≡ fours n (drop at s.now) }
 {
     let mut q = at;
-    let mut i: usize = 0;
-    while i < n {
+    for i in 0..n {
         match read_four(s, q) {
             Four::Refused(k) => return Next::Refused(k),
             Four::Is(kind, x, y, z, next) => {
@@ -99,7 +88,6 @@ fn read_fours(s: &[u8], at: usize, n: usize, numbers: &mut Numbers) -> Next
                 q = next;
             }
         }
-        i += 1;
     }
     Next::At(q)
 }

@@ -1,10 +1,7 @@
 -- `put_groups` meets its contract: what is left of the number has a group less with each turn.
-use Prim.Native.Nat.{ℕ, ◌-◌, ◌/◌, ◌^◌, ◌<◌}
-use mathlib.Core.Path.{◌≡◌, refl, sym}
-use native.Mathlib.Omega.{arith}
-use borrow.Author.Rules.{rules}
+use Prim.Native.Nat.{ℕ, ◌^◌, ◌<◌}
 use Rattle.number.specs.Number.{groups_of, encoded}
-use Rattle.job_bytes.proofs.Putting.{Left, all_left, last-puts, one-over, one-put, some-groups, one-group, fewer}
+use Rattle.job_bytes.proofs.Putting.{Left}
 use Rattle.job_bytes.proofs.put_groups.Given as goal
 
 abbrev pub invariant-loop-rest : goal.invariant-loop-rest

@@ -3,18 +3,17 @@ use Rattle.entity.specs.Logic.{cells}
 use Rattle.job_numbers.specs.Numbers.{bytes_of}
 use Rattle.job_bytes.proofs.Putting.{first-over, then-puts}
 use Rattle.job_bytes.proofs.Parts.{list-bytes}
-use borrow.Author.Rules.{rules}
 use Rattle.job_bytes.proofs.put_list.Goals as goal
 
-pub returns-in-Over : goal.returns-in-Over
-returns-in-Over c =
+pub returns-in_err-next : goal.returns-in_err-next
+returns-in_err-next c =
     let args = c.args in
     let put-cell = c.put_cell in
-    first-over (bytes_of (cells args.t.now args.start args.n)) (list-bytes args.t.now args.start args.n) put-cell.ensures c.in-Over.is
+    rw c.from_residual.ensures (first-over (bytes_of (cells args.t.now args.start args.n)) (list-bytes args.t.now args.start args.n) put-cell.ensures c.in_err-next.was)
 
-pub returns-in-At : goal.returns-in-At
-returns-in-At c =
+pub returns : goal.returns
+returns c =
     let args = c.args in
     let put-cell = c.put_cell in
     let put-cells = c.put_cells in
-    then-puts (bytes_of (cells args.t.now args.start args.n)) (list-bytes args.t.now args.start args.n) put-cell.ensures c.in-At.is put-cells.ensures
+    then-puts (bytes_of (cells args.t.now args.start args.n)) (list-bytes args.t.now args.start args.n) put-cell.ensures c.in_ok-next.was put-cells.ensures

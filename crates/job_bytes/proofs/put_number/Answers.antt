@@ -1,7 +1,6 @@
 -- `put_number` meets its contract: a number below 128 is its one group.
 use native.Mathlib.Omega.{arith}
 use Rattle.job_bytes.proofs.Putting.{one-group}
-use borrow.Author.Rules.{rules}
 use Rattle.job_bytes.proofs.put_number.Goals as goal
 
 pub returns-then-n-lt128 : goal.returns-then-n-lt128

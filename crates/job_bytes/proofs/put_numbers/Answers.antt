@@ -1,35 +1,16 @@
-use Prim.Native.Nat.{◌+◌, ◌-◌, ◌≤◌}
-use mathlib.Core.Path.{refl}
+use Prim.Native.Nat.{◌+◌}
 use native.Mathlib.Omega.{arith}
-use lib.ListN.{length, drop}
+use lib.ListN.{drop}
 use Rattle.job_numbers.specs.Numbers.{bytes_of}
-use Rattle.job_bytes.proofs.Putting.{Left, all_left, none_left, one-over, one-put}
+use Rattle.job_bytes.proofs.Putting.{none_left, one-over, one-put}
 use Rattle.job_bytes.proofs.Parts.{numbers_more, numbers-none}
-use borrow.Author.Rules.{rules}
 use Rattle.job_bytes.proofs.put_numbers.Goals as goal
 
-pub loop-i-init : goal.loop-i-init
-loop-i-init c = (omega arith, all_left _ refl)
-
-pub returns-in-Over : goal.returns-in-Over
-returns-in-Over c =
-    let args = c.args in
-    let loop = c.loop-i in
-    let loop-test = c.loop-i-test in
-    let put-number = c.put_number in
-    one-over loop.invariant.1 (bytes_of (drop (loop.i + 1) args.numbers.now)) (numbers_more args.numbers.now loop.i loop-test.true) put-number.ensures c.in-Over.is
+pub returns-in_err-q : goal.returns-in_err-q
+returns-in_err-q c = let l = c.loop-i in rw c.from_residual.ensures (one-over l.invariant (bytes_of (drop (l.i + 1) c.args.numbers.now)) (numbers_more c.args.numbers.now l.i (omega arith)) c.put_number.ensures c.in_err-q.was)
 
 pub loop-i-preserved : goal.loop-i-preserved
-loop-i-preserved c =
-    let args = c.args in
-    let loop = c.loop-i in
-    let loop-test = c.loop-i-test in
-    let put-number = c.put_number in
-    (omega (arith, loop-test.true), one-put loop.invariant.1 (bytes_of (drop (loop.i + 1) args.numbers.now)) (numbers_more args.numbers.now loop.i loop-test.true) put-number.ensures c.in-At.is)
+loop-i-preserved c = let l = c.loop-i in one-put l.invariant (bytes_of (drop (l.i + 1) c.args.numbers.now)) (numbers_more c.args.numbers.now l.i (omega arith)) c.put_number.ensures c.in_ok-q.was
 
 pub returns : goal.returns
-returns c =
-    let args = c.args in
-    let loop = c.loop-i in
-    let loop-test = c.loop-i-test in
-    none_left loop.invariant.1 (numbers-none args.numbers.now loop.i loop-test.false)
+returns c = let l = c.loop-i in none_left l.invariant (numbers-none c.args.numbers.now l.i (omega arith))

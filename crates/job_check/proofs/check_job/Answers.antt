@@ -1,6 +1,5 @@
 -- `check_job` meets its contract: the opening, then the patches.
 use Rattle.job_check.proofs.Passing.{unopened, opened, all-checked}
-use borrow.Author.Rules.{rules}
 use Rattle.job_check.proofs.check_job.Goals as goal
 
 pub check_patches-requires : goal.check_patches-requires

@@ -1,7 +1,6 @@
 -- `examine_job` meets its contract: the opening, then the patch.
 use mathlib.Core.Path.{sym, ap, ◌∙◌}
 use native.Mathlib.Omega.{arith}
-use borrow.Author.Rules.{rules}
 use Rattle.function.proofs.Laws.{low-limit}
 use Rattle.job_rules.specs.Job.{opening}
 use Rattle.job_examine.specs.Job.{examine_opened, examine_job}

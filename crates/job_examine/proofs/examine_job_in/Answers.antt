@@ -1,6 +1,5 @@
 -- `examine_job_in` meets its contract: the limit, the opening, then the patch.
 use mathlib.Core.Path.{refl, sym, ap, ◌∙◌}
-use borrow.Author.Rules.{rules}
 use borrow.Author.Tests.{lt-ltb, le-ltb}
 use Rattle.job_rules.specs.Job.{opening}
 use Rattle.job_examine.specs.Job.{examine_opened, examine_job_in}

@@ -1,7 +1,6 @@
 -- `examine_numbered` meets its contract: read, then examined.
 use mathlib.Core.Path.{◌∙◌}
 use lib.ListN.{drop}
-use borrow.Author.Rules.{rules}
 use Rattle.reginfo.specs.Table.{reg_info_of}
 use Rattle.function.specs.Table.{function_of}
 use Rattle.job_examine.specs.Job.{patch_at}

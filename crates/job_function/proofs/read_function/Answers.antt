@@ -1,5 +1,4 @@
 use native.Mathlib.Omega.{arith}
-use borrow.Author.Rules.{rules}
 use Rattle.job_function.proofs.Counts.{any-slots}
 use Rattle.job_function.proofs.read_function.Goals as goal
 

@@ -1,5 +1,4 @@
 -- Number by number, then the values.
-use borrow.Author.Rules.{rules}
 use native.Mathlib.Omega.{arith}
 use Rattle.job_function.proofs.Values.{at_most}
 use Rattle.job_function.proofs.Counts.{no-count, no-slots, no-limit, then-values}

@@ -1,5 +1,4 @@
 -- A value: its bank, its rebuild code, and its class unless the code is 0.
-use borrow.Author.Rules.{rules}
 use native.Mathlib.Omega.{arith}
 use Rattle.reginfo.proofs.Accepted.{banks-fit}
 use Rattle.job_function.proofs.Values.{below-limit, no-bank, no-cost, never-remat, can-remat}

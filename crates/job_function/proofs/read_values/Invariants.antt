@@ -1,13 +1,7 @@
 -- The values read so far stand in the table's first rows.
-use Prim.Native.Nat.{◌-◌}
-use borrow.Author.Rules.{rules}
-use native.Mathlib.Omega.{arith}
 use Rattle.reginfo.specs.Table.{reg_info_of}
-use Rattle.job_function.proofs.Values.{Filling, filling-start, filling_step, filling-refused, filling-end}
+use Rattle.job_function.proofs.Values.{Filling}
 use Rattle.job_function.proofs.read_values.Given as goal
 
 abbrev pub invariant-loop-v : goal.invariant-loop-v
 invariant-loop-v l = Filling (reg_info_of l.t) l.s l.from l.n l.f l.at l.v
-
-abbrev pub decreases-loop-v : goal.decreases-loop-v
-decreases-loop-v l = l.n - l.v

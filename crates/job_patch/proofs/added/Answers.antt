@@ -1,4 +1,3 @@
-use borrow.Author.Rules.{rules}
 use Rattle.job_patch.proofs.added.Goals as goal
 
 pub returns-in-Yes : goal.returns-in-Yes

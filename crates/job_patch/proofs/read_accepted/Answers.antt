@@ -1,6 +1,5 @@
 -- `read_accepted` meets its contract: a patch that is read has the tests of a call before it is resolved.
 use Rattle.job_patch.proofs.Accepted.{unread, held, turned-away, passed}
-use borrow.Author.Rules.{rules}
 use Rattle.job_patch.proofs.read_accepted.Goals as goal
 
 pub refusal-requires : goal.refusal-requires

@@ -1,5 +1,4 @@
 use Rattle.job_patch.proofs.Adding.{entry-move, entry-remat, entry-refused}
-use borrow.Author.Rules.{rules}
 use Rattle.job_patch.proofs.read_entry.Goals as goal
 
 pub returns-in-Refused : goal.returns-in-Refused

@@ -1,5 +1,4 @@
 use Rattle.job_patch.proofs.Freeing.{free-refused, free-counted}
-use borrow.Author.Rules.{rules}
 use Rattle.job_patch.proofs.read_free_units.Goals as goal
 
 pub read_free-requires : goal.read_free-requires

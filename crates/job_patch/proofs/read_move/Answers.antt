@@ -6,7 +6,6 @@ use Rattle.number.specs.Read.{got, then}
 use Rattle.reading.specs.Reading.{below}
 use Rattle.job_patch.specs.Patches.{place}
 use Rattle.job_patch.proofs.Adding.{part-refused, part-read}
-use borrow.Author.Rules.{rules}
 use Rattle.job_patch.proofs.read_move.Goals as goal
 
 pub returns-in-Refused : goal.returns-in-Refused

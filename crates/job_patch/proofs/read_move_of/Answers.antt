@@ -6,7 +6,6 @@ use Rattle.number.specs.Read.{got}
 use Rattle.reading.specs.Reading.{below}
 use Rattle.function.proofs.Laws.{few-values}
 use Rattle.job_patch.proofs.Adding.{part-refused, entry-added}
-use borrow.Author.Rules.{rules}
 use Rattle.job_patch.proofs.read_move_of.Goals as goal
 
 pub read_value-requires : goal.read_value-requires

@@ -1,5 +1,4 @@
 use Rattle.job_patch.proofs.Patched.{patch-refused, patch-read}
-use borrow.Author.Rules.{rules}
 use Rattle.job_patch.proofs.read_patch.Goals as goal
 
 pub read_free_units-requires : goal.read_free_units-requires

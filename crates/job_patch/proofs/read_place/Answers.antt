@@ -1,6 +1,5 @@
 use mathlib.Core.Path.{sym, ◌∙◌}
 use Rattle.job_patch.proofs.Adding.{place-named, place-missing, place-refused}
-use borrow.Author.Rules.{rules}
 use Rattle.job_patch.proofs.read_place.Goals as goal
 
 pub returns-then-names_place : goal.returns-then-names_place

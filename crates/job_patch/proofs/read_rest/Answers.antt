@@ -1,5 +1,4 @@
 use Rattle.job_patch.proofs.Entering.{counted-refused, counted}
-use borrow.Author.Rules.{rules}
 use Rattle.job_patch.proofs.read_rest.Goals as goal
 
 pub read_entries-requires : goal.read_entries-requires

@@ -1,4 +1,3 @@
-use borrow.Author.Rules.{rules}
 use Rattle.job_patch.proofs.read_value.Goals as goal
 
 pub returns : goal.returns

@@ -1,6 +1,5 @@
 -- Three cells of a bank.
 use Rattle.job_target.proofs.Table.{bank-put}
-use borrow.Author.Rules.{rules}
 use Rattle.job_target.proofs.put_bank.Goals as goal
 
 pub returns : goal.returns

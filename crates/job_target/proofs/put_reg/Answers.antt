@@ -1,6 +1,5 @@
 -- Three cells of a register.
 use Rattle.job_target.proofs.Table.{reg-put}
-use borrow.Author.Rules.{rules}
 use Rattle.job_target.proofs.put_reg.Goals as goal
 
 pub returns : goal.returns

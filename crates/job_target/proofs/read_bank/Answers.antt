@@ -2,7 +2,6 @@
 use native.Mathlib.Omega.{arith}
 use Rattle.reading.proofs.Laws.{in-range}
 use Rattle.job_target.proofs.Banks.{no_size, no_top, no_stack, bank-read}
-use borrow.Author.Rules.{rules}
 use Rattle.job_target.proofs.read_bank.Goals as goal
 
 pub put_bank-requires : goal.put_bank-requires

@@ -2,7 +2,6 @@
 use native.Mathlib.Omega.{arith}
 use Rattle.reading.proofs.Laws.{in-range}
 use Rattle.job_target.proofs.Whole.{no-bank-count, no-banks, banks-read, banks-count, banks-units}
-use borrow.Author.Rules.{rules}
 use Rattle.job_target.proofs.read_banks.Goals as goal
 
 pub put-requires : goal.put-requires

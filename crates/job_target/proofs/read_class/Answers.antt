@@ -2,7 +2,6 @@
 use native.Mathlib.Omega.{arith}
 use Rattle.reading.proofs.Laws.{under}
 use Rattle.job_target.proofs.Classes.{no-class-bank, no-slots, class-read}
-use borrow.Author.Rules.{rules}
 use Rattle.job_target.proofs.read_class.Goals as goal
 
 pub put-requires : goal.put-requires

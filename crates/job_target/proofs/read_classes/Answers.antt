@@ -2,7 +2,6 @@
 use native.Mathlib.Omega.{arith}
 use Rattle.reading.proofs.Laws.{in-range}
 use Rattle.job_target.proofs.Whole.{no-classes, unknown-classes, classes-read}
-use borrow.Author.Rules.{rules}
 use Rattle.job_target.proofs.read_classes.Goals as goal
 
 pub unknown_class-requires : goal.unknown_class-requires

@@ -1,7 +1,6 @@
 -- The member count, the members, the cell of the count, and then the order.
 use native.Mathlib.Omega.{arith}
 use Rattle.job_target.proofs.Classes.{no-member-count, no-members, members-read}
-use borrow.Author.Rules.{rules}
 use Rattle.job_target.proofs.read_members.Goals as goal
 
 pub read_list-requires : goal.read_list-requires

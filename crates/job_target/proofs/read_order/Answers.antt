@@ -2,7 +2,6 @@
 use native.Mathlib.Omega.{arith}
 use Rattle.reading.proofs.Laws.{in-range}
 use Rattle.job_target.proofs.Classes.{no-order-count, no-order, order-read}
-use borrow.Author.Rules.{rules}
 use Rattle.job_target.proofs.read_order.Goals as goal
 
 pub overflow_sub-total : goal.overflow_sub-total

@@ -2,7 +2,6 @@
 use native.Mathlib.Omega.{arith}
 use Rattle.reading.proofs.Laws.{under, in-range}
 use Rattle.job_target.proofs.Regs.{no-memory, no-bank, no-count, reg_read}
-use borrow.Author.Rules.{rules}
 use Rattle.job_target.proofs.read_reg.Goals as goal
 
 pub put_reg-requires : goal.put_reg-requires

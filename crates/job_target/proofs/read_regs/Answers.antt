@@ -2,7 +2,6 @@
 use native.Mathlib.Omega.{arith}
 use Rattle.reading.proofs.Laws.{in-range}
 use Rattle.job_target.proofs.Whole.{no-reg-count, no_regs, regs_read, regs-banks, regs_count}
-use borrow.Author.Rules.{rules}
 use Rattle.job_target.proofs.read_regs.Goals as goal
 
 pub put-requires : goal.put-requires

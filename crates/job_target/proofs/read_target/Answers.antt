@@ -2,7 +2,6 @@
 use native.Mathlib.Omega.{arith}
 use Rattle.reading.proofs.Laws.{in-range}
 use Rattle.job_target.proofs.Whole.{no-units, target-read}
-use borrow.Author.Rules.{rules}
 use Rattle.job_target.proofs.read_target.Goals as goal
 
 pub put-requires : goal.put-requires

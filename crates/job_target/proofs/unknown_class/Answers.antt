@@ -1,27 +1,17 @@
 use native.Mathlib.Omega.{arith}
-use Rattle.job_target.proofs.Banks.{Searched, search-start, search-found, search-on, search-end}
+use Prim.Native.Nat.{◌+◌, ◌-◌}
+use mathlib.Core.Path.{◌≡◌}
+use Rattle.job_target.proofs.Banks.{search-found, search-on, search-end}
 use Rattle.job_target.proofs.unknown_class.Goals as goal
 
-pub loop-left-init : goal.loop-left-init
-loop-left-init c = search-start _ _ _
-
-pub bank_unknown-requires : goal.bank_unknown-requires
-bank_unknown-requires c = let l = c.loop-left in omega (arith, l.invariant.sum, c.loop-left-test.true, c.requires)
-
 pub returns-then-bank_unknown : goal.returns-then-bank_unknown
-returns-then-bank_unknown c = let l = c.loop-left in search-found _ _ _ l.b l.left l.invariant _ c.loop-left-test.true c.bank_unknown.ensures c.if-bank_unknown.true
+returns-then-bank_unknown c = let l = c.loop-b in search-found _ _ _ l.b (c.args.banks - l.b) l.invariant _ (omega arith) c.bank_unknown.ensures c.if-bank_unknown.true
 
-pub overflow_add-b : goal.overflow_add-b
-overflow_add-b c = let l = c.loop-left in omega (arith, l.invariant.sum, c.loop-left-test.true, c.requires)
-
-pub overflow_sub-left : goal.overflow_sub-left
-overflow_sub-left c = omega (arith, c.loop-left-test.true)
-
-pub loop-left-smaller : goal.loop-left-smaller
-loop-left-smaller c = omega (arith, c.loop-left-test.true)
-
-pub loop-left-preserved : goal.loop-left-preserved
-loop-left-preserved c = let l = c.loop-left in search-on _ _ _ l.b l.left l.invariant _ c.loop-left-test.true c.bank_unknown.ensures c.if-bank_unknown.false
+pub loop-b-preserved : goal.loop-b-preserved
+loop-b-preserved c =
+    let l = c.loop-b in
+    let e : c.args.banks - (l.b + 1) ≡ c.args.banks - l.b - 1 = omega arith in
+    rw e (search-on _ _ _ l.b (c.args.banks - l.b) l.invariant _ (omega arith) c.bank_unknown.ensures c.if-bank_unknown.false)
 
 pub returns : goal.returns
-returns c = let l = c.loop-left in search-end _ _ _ l.b l.left l.invariant c.loop-left-test.false
+returns c = let l = c.loop-b in search-end _ _ _ l.b (c.args.banks - l.b) l.invariant (omega arith)

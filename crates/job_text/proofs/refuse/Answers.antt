@@ -7,7 +7,6 @@ use mathlib.Core.Path.{◌≡◌, subst}
 use Prim.Native.Nat.{ℕ}
 use Rattle.print.proofs.Lengths.{refused-short}
 use native.Mathlib.Omega.{arith}
-use borrow.Author.Rules.{rules}
 use Rattle.job_text.proofs.refuse.Goals as goal
 
 pub returns-then-number-eq0 : goal.returns-then-number-eq0
@@ -16,13 +15,13 @@ returns-then-number-eq0 c =
     (c.end.ensures.0, none-refused s.args.number (omega (arith, c.if-number-eq0.true)) c.end.ensures.1 (omega (arith, s.requires)))
 
 pub put_refused-requires : goal.put_refused-requires
-put_refused-requires c = record { fits = omega (arith, refused-short c.byte.result (omega (arith, c.byte.ensures.1)), c.requires) }
+put_refused-requires c = record { fits = omega (arith, refused-short c.from.result (omega (arith, c.from.ensures)), c.requires) }
 
 pub returns : goal.returns
 returns c =
     let s = c in
     let put = c.put_refused in
     let x = c.end-2.ensures.0 in
-    let n : c.byte.result ≡ s.args.number = c.byte.ensures.0 in
-    let e : refused_line c.byte.result ≡ refusal_text s.args.number = rw n (one-refused s.args.number (λ z. omega (arith, c.if-number-eq0.false))) in
-    (record { over = x.over; kept = x.kept; short = omega (arith, c.end-2.ensures.1, put.ensures.next, refused-short c.byte.result (omega (arith, c.byte.ensures.1))) }, rw c.end-2.ensures.1 (subst (λ (l : List ℕ). Put s.args.out.now put.new.out s.args.p.held l put.result) e put.ensures))
+    let n : c.from.result ≡ s.args.number = c.from.ensures in
+    let e : refused_line c.from.result ≡ refusal_text s.args.number = rw n (one-refused s.args.number (λ z. omega (arith, c.if-number-eq0.false))) in
+    (record { over = x.over; kept = x.kept; short = omega (arith, c.end-2.ensures.1, put.ensures.next, refused-short c.from.result (omega (arith, c.from.ensures))) }, rw c.end-2.ensures.1 (subst (λ (l : List ℕ). Put s.args.out.now put.new.out s.args.p.held l put.result) e put.ensures))

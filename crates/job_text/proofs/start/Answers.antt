@@ -2,7 +2,6 @@ use Rattle.job_text.specs.declared.Progress.{Progress}
 use mathlib.Core.Path.{ap, ◌∙◌}
 use Rattle.job_text.proofs.Opening.{turned-away, begun-stands}
 use native.Mathlib.Omega.{arith}
-use borrow.Author.Rules.{rules}
 use Rattle.job_text.proofs.start.Goals as goal
 
 pub refuse-requires : goal.refuse-requires
@@ -19,6 +18,5 @@ pub returns-in-Is : goal.returns-in-Is
 returns-in-Is c =
     let s = c in
     let read = c.read_opening in
-    let long = c.long in
     let clear = c.clear in
-    (rw (c.begun-in-Is.ensures, long.ensures.0) (begun-stands _ s.args.s.now read.new.t read.new.f clear.new.cache s.args.out.now _ _ (rw c.in-Is.is at read.ensures) clear.ensures (omega (arith, long.ensures))), ap (λ (p : Progress). p.written) c.begun-in-Is.ensures)
+    (rw c.begun-in-Is.ensures (begun-stands _ s.args.s.now read.new.t read.new.f clear.new.cache s.args.out.now _ _ (rw c.in-Is.is at read.ensures) clear.ensures (omega arith)), ap (λ (p : Progress). p.written) c.begun-in-Is.ensures)

@@ -1,6 +1,5 @@
 -- `hand_out` meets its contract: nothing is written before 18.
 use Rattle.job_writer.proofs.Finishing.{no_room, front-room, handed_out}
-use borrow.Author.Rules.{rules}
 use Rattle.job_writer.proofs.hand_out.Goals as goal
 
 pub returns-then-out-bytes : goal.returns-then-out-bytes

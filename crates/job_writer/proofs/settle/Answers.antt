@@ -1,6 +1,5 @@
 -- `settle` meets its contract: the reader's number comes before 18.
 use Rattle.job_writer.proofs.Finishing.{reader-refuses, reader-accepts}
-use borrow.Author.Rules.{rules}
 use Rattle.job_writer.proofs.settle.Goals as goal
 
 pub returns-in-Refused : goal.returns-in-Refused

@@ -8,16 +8,16 @@ use Rattle.job_writer_c.proofs.parallel_moves_shipped_5.Goals as goal
 pub put_target-requires : goal.put_target-requires
 put_target-requires c = rw c.fill.ensures.0 shipped-accepted
 
-pub returns-in-At : goal.returns-in-At
-returns-in-At c =
+pub returns-in-Some : goal.returns-in-Some
+returns-in-Some c =
     let s = c in
     let put-target = s.put_target in
     let fill = s.fill in
-    let r = in-front _ _ _ fill.ensures.0 _ (rw s.in-At.is at put-target.ensures) c.told.ensures in
+    let r = in-front _ _ _ fill.ensures.0 _ (rw s.in-Some.is at put-target.ensures) put-target.array_long in
     (r.0, r.1, tt)
 
-pub returns-in-Over : goal.returns-in-Over
-returns-in-Over c =
+pub returns-in-None : goal.returns-in-None
+returns-in-None c =
     let put-target = c.put_target in
     let fill = c.fill in
-    absurd (not-over _ _ _ fill.ensures.0 (rw c.in-Over.is at put-target.ensures))
+    absurd (not-over _ _ _ fill.ensures.0 (rw c.in-None.is at put-target.ensures))

@@ -1,5 +1,4 @@
 use Rattle.patch_numbers.proofs.Steps.{count-refused, too_many, fours-refused, fours-kept}
-use borrow.Author.Rules.{rules}
 use Rattle.patch_numbers.proofs.read_counted.Goals as goal
 
 pub returns-then-n-gt128 : goal.returns-then-n-gt128

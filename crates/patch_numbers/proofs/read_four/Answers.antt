@@ -1,5 +1,4 @@
 use Rattle.patch_numbers.proofs.Steps.{no_kind, no-first, no_second, four-read}
-use borrow.Author.Rules.{rules}
 use Rattle.patch_numbers.proofs.read_four.Goals as goal
 
 pub returns-in-Refused : goal.returns-in-Refused

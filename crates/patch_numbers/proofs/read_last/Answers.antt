@@ -1,5 +1,4 @@
 use Rattle.patch_numbers.proofs.Steps.{last_none, last-refused, last-read}
-use borrow.Author.Rules.{rules}
 use Rattle.patch_numbers.proofs.read_last.Goals as goal
 
 pub returns-then-kind-gt0 : goal.returns-then-kind-gt0

@@ -1,5 +1,4 @@
 use Rattle.patch_numbers.proofs.Steps.{free-refused, skipped-refused, skipped}
-use borrow.Author.Rules.{rules}
 use Rattle.patch_numbers.proofs.read_numbers.Goals as goal
 
 pub returns-in-Refused : goal.returns-in-Refused
