@@ -15,7 +15,6 @@ ghost use Rattle.answer.specs.Whole.{behind_head, Next, Wholly};
 
 use carried::Carried;
 use edit::Edits;
-use entity::wide;
 use entries::Entries;
 use function::Function;
 use job::Step;
@@ -39,12 +38,6 @@ pub enum Whole {
 pub enum Onward {
     At(usize, usize),
     Refused(u8),
-}
-
-fn long(x: u32) -> usize
-    ensures { result ≡ x }
-{
-    x as usize
 }
 
 // The word before a patch's edits: how many they are, how many slots the function has made, and the greatest position that the patch met. Its kind is 0,
@@ -116,7 +109,7 @@ fn answer_next(
             if from == n {
                 return Onward::Refused(16);
             }
-            words[n] = head(count, wide(slots::made(cache)), wide(met));
+            words[n] = head(count, usize::from(slots::made(cache)), usize::from(met));
             Onward::At(next, from + count)
         }
     }
@@ -148,8 +141,7 @@ fn answer_patches(
 {
     let mut at = from;
     let mut n = 0;
-    let mut left = long(count);
-    while 0 < left {
+    for _done in 0..count {
         match answer_next(
             t, f, s, at, cache, free, e, w, available, sources, edits, slots, d, marks, c, words, n,
         ) {
@@ -161,7 +153,6 @@ fn answer_patches(
                 n = m;
             }
         }
-        left -= 1;
     }
     if at < s.len() {
         return Whole::Refused(8, n);

@@ -22,7 +22,6 @@ ghost use Rattle.answer_groups.specs.Job.{job_by_groups_in};
 use answer::{Onward, Whole};
 use carried::Carried;
 use edit::Edits;
-use entity::wide;
 use entries::Entries;
 use function::Function;
 use groups::{Labels, Owners};
@@ -37,12 +36,6 @@ use slots::{EmergencySpillSlotCache, Slots};
 use small_set::RegUnitSet;
 use sparse::SparseMap;
 use visits::States;
-
-fn long(x: u32) -> usize
-    ensures { result ≡ x }
-{
-    x as usize
-}
 
 // Resolves by groups the patch whose free units are the set `free` and whose n entries' numbers stand at the front of the table; the next patch
 // stands at `after`.
@@ -76,7 +69,7 @@ fn resolve_kept(
     ensures anything { Anything e.new × Anything w.new × Anything available.new × Anything sources.new × Anything edits.new × Anything slots.new × Anything d.new × Anything marks.new × Anything c.new }
     ensures anything_2 { Anything owners.new × Anything labels.new × Anything next.new × Anything common.new × Anything work.new × Anything joined.new }
 {
-    let m = long(n) * 4;
+    let m = n as usize * 4;
     match grouping::resolve_groups(
         t,
         f,
@@ -142,7 +135,6 @@ fn resolve_read(
     match patch_numbers::read_numbers(s, at, numbers) {
         Number::Refused(k) => Step::Refused(k),
         Number::Is(n, _) => {
-            patch_numbers::told(*numbers);
             resolve_kept(
                 t, f, free, numbers, n, after, cache, list, e, w, available, sources, edits, slots,
                 d, marks, c, owners, labels, next, common, work, joined,
@@ -254,7 +246,7 @@ fn answer_next(
             if from == n {
                 return Onward::Refused(16);
             }
-            words[n] = answer::head(count, wide(slots::made(cache)), wide(met));
+            words[n] = answer::head(count, usize::from(slots::made(cache)), usize::from(met));
             Onward::At(after, from + count)
         }
     }
@@ -294,8 +286,7 @@ fn answer_patches(
 {
     let mut at = from;
     let mut n = 0;
-    let mut left = long(count);
-    while 0 < left {
+    for _done in 0..count {
         match answer_next(
             t, f, s, at, cache, free, e, w, available, sources, edits, slots, d, marks, c, owners,
             labels, next, common, work, joined, numbers, words, n,
@@ -308,7 +299,6 @@ fn answer_patches(
                 n = m;
             }
         }
-        left -= 1;
     }
     if at < s.len() {
         return Whole::Refused(8, n);

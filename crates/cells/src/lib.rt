@@ -14,7 +14,7 @@ ghost use Rattle.machine.specs.Machine as machine;
 ghost use Rattle.examine_rules.specs.Examine.{unknown, blank};
 ghost use Rattle.cells.specs.Cells.{memory_of, Short, words_in, count_in, Celled, Takes, Put};
 
-use entity::{Allocation, AllocationKind, PhysReg, narrow, wide};
+use entity::{Allocation, AllocationKind, PhysReg};
 use reginfo::RegInfo;
 
 pub type Cells = [u16; 67072];
@@ -22,28 +22,12 @@ pub type Cells = [u16; 67072];
 // Cell 0 counts the words; they stand from cell 1 on.
 pub type Words = [u16; 10];
 
-// They do nothing: a call tells the length of the table that is passed.
-pub fn told(c: [u16; 67072]) -> bool
-    ensures { length c ≡ 67072 }
-{
-    true
-}
-
-pub fn told_words(b: [u16; 10]) -> bool
-    ensures { length b ≡ 10 }
-{
-    true
-}
-
 // Nothing is written anywhere.
 fn clear_marks(c: &mut Cells)
     ensures { (length c.new ≡ 67072) × ((x : ℕ) → x < 6656 → get_or c.new x 0 ≡ 0) }
 {
-    told(*c);
-    let mut i = 0;
-    while i < 6656 {
+    for i in 0..6656 {
         c[i] = 0;
-        i += 1;
     }
 }
 
@@ -51,11 +35,8 @@ fn clear_marks(c: &mut Cells)
 fn number_units(c: &mut Cells)
     ensures { ((x : ℕ) → x < 6656 → get_or c.new x 0 ≡ get_or c.old x 0) × ((u : ℕ) → u < 512 → get_or c.new (6656 + u) 0 ≡ u) }
 {
-    told(*c);
-    let mut u = 0;
-    while u < 512 {
-        c[6656 + u] = narrow(u);
-        u += 1;
+    for u in 0..512 {
+        c[6656 + u] = u as u16;
     }
 }
 
@@ -75,7 +56,7 @@ fn unknown_list(at: usize, b: &mut Words)
 {
     *b = [0; 10];
     b[0] = 9;
-    b[1] = narrow(34304 + at);
+    b[1] = (34304 + at) as u16;
 }
 
 // n words from `from` on.
@@ -83,13 +64,10 @@ fn load(c: &Cells, from: usize, n: usize, b: &mut Words)
     requires { (n ≤ 9) × (from + 9 ≤ 67072) }
     ensures { (words_in b.new ≡ cells c.now from n) × (count_in b.new ≡ n) }
 {
-    told_words(*b);
-    let mut j: usize = 0;
-    while j < n {
+    for j in 0..n {
         b[1 + j] = c[from + j];
-        j += 1;
     }
-    b[0] = narrow(n);
+    b[0] = n as u16;
 }
 
 // The words, from `to` on.
@@ -97,12 +75,9 @@ fn store(c: &mut Cells, to: usize, b: &Words)
     requires { (count_in b.now ≤ 9) × (to + 9 ≤ 67072) }
     ensures { Put c.old c.new to (count_in b.now) (words_in b.now) }
 {
-    told(*c);
-    let n = wide(b[0]);
-    let mut j: usize = 0;
-    while j < n {
+    let n = usize::from(b[0]);
+    for j in 0..n {
         c[to + j] = b[1 + j];
-        j += 1;
     }
 }
 
@@ -111,7 +86,7 @@ pub fn get_list(c: &Cells, at: usize, b: &mut Words)
     requires { Short c.now × (at < 6656) }
     ensures { (words_in b.new ≡ (memory_of c.now).lists at) × (count_in b.new ≤ 9) }
 {
-    let mark = wide(c[at]);
+    let mark = usize::from(c[at]);
     if mark == 0 {
         unknown_list(at, b);
         return;
@@ -124,8 +99,7 @@ fn set_list(c: &mut Cells, at: usize, b: &Words)
     ensures { (memory_of c.new ≡ record { word = (memory_of c.old).word; lists = updated at (words_in b.now) (memory_of c.old).lists }) × Short c.new }
 {
     store(c, 7168 + at * 9, b);
-    told(*c);
-    c[at] = narrow(wide(b[0]) + 1);
+    c[at] = (usize::from(b[0]) + 1) as u16;
 }
 
 // The word of a register unit.
@@ -141,27 +115,21 @@ fn get_units(t: &RegInfo, c: &Cells, r: PhysReg, b: &mut Words)
     requires { KnownUnits (reg_info_of t.now) r.0 }
     ensures { (words_in b.new ≡ map (memory_of c.now).word (reg_units (reg_info_of t.now) r.0)) × (count_in b.new ≤ 9) }
 {
-    told_words(*b);
     let n = reginfo::num_reg_units(t, r);
-    let mut j: usize = 0;
-    while j < n {
+    for j in 0..n {
         let u = reginfo::reg_unit(t, r, j);
-        b[1 + j] = word_at(c, wide(u.0));
-        j += 1;
+        b[1 + j] = word_at(c, usize::from(u.0));
     }
-    b[0] = narrow(n);
+    b[0] = n as u16;
 }
 
 fn set_units(t: &RegInfo, c: &mut Cells, r: PhysReg, b: &Words)
     requires { Short c.old × KnownUnits (reg_info_of t.now) r.0 × (count_in b.now ≡ length (reg_units (reg_info_of t.now) r.0)) }
     ensures { (memory_of c.new ≡ record { word = put (reg_units (reg_info_of t.now) r.0) (words_in b.now) (memory_of c.old).word; lists = (memory_of c.old).lists }) × Short c.new }
 {
-    told(*c);
-    let mut left = wide(b[0]);
-    while 0 < left {
-        left -= 1;
-        let u = reginfo::reg_unit(t, r, left);
-        c[6656 + wide(u.0)] = b[1 + left];
+    for j in (0..usize::from(b[0])).rev() {
+        let u = reginfo::reg_unit(t, r, j);
+        c[6656 + usize::from(u.0)] = b[1 + j];
     }
 }
 
@@ -171,7 +139,7 @@ fn reg_cell(t: &RegInfo, r: PhysReg) -> usize
     ensures { result ≡ get_or (reg_units (reg_info_of t.now) r.0) 0 0 }
 {
     let u = reginfo::reg_unit(t, r, 0);
-    wide(u.0)
+    usize::from(u.0)
 }
 
 // What a place holds.
@@ -188,7 +156,7 @@ pub fn read(t: &RegInfo, c: &Cells, p: Allocation, b: &mut Words)
             get_units(t, c, r, b);
         }
         AllocationKind::SpillSlot(s) => {
-            get_list(c, 512 + wide(s.0), b);
+            get_list(c, 512 + usize::from(s.0), b);
         }
     }
 }
@@ -207,7 +175,7 @@ pub fn write(t: &RegInfo, c: &mut Cells, p: Allocation, b: &Words)
             set_units(t, c, r, b);
         }
         AllocationKind::SpillSlot(s) => {
-            set_list(c, 512 + wide(s.0), b);
+            set_list(c, 512 + usize::from(s.0), b);
         }
     }
 }

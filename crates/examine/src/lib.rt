@@ -24,12 +24,12 @@ ghost use Rattle.examine.specs.Ends.{wrongly, kept_wrong, remats_wrong, some_wro
 ghost use Rattle.examine.specs.Answer.{verdict_of};
 
 use cells::{Cells, Words};
-use entity::{Allocation, AllocationUnit, RegUnit, Value, narrow, wide};
+use entity::{Allocation, AllocationUnit, RegUnit, Value};
 use entries::{Added, Entries};
 use function::Function;
 use reginfo::RegInfo;
 use small_set::RegUnitSet;
-use sparse::{Found, SparseMap};
+use sparse::SparseMap;
 use ties::Ties;
 
 // Yes or no, or the number by which the patch or the list is refused.
@@ -48,14 +48,11 @@ fn same_words(b: &Words, d: &Words) -> bool
     if b[0] != d[0] {
         return false;
     }
-    let mut at: usize = 1;
-    let mut left = wide(b[0]);
-    while 0 < left {
+    let n = usize::from(b[0]);
+    for at in 1..1 + n {
         if b[at] != d[at] {
             return false;
         }
-        at += 1;
-        left -= 1;
     }
     true
 }
@@ -94,14 +91,12 @@ fn kept_wrong(
     ensures { (result ≡ kept_wrong (reg_info_of t.now) (function_of f.now) (generic_content (reg_info_of t.now) (function_of f.now) (sorted_of e.now).moves) (memory_of c.now) (sorted_of e.now).moves) × Anything b.new × Anything d.new }
 {
     let n = ties::kept(e);
-    let mut m: usize = 0;
-    while m < n {
+    for m in 0..n {
         let p = Allocation(e[1 + m * 4]);
         let v = Value(e[2 + m * 4]);
         if is_wrong(t, f, e, x, c, p, v, b, d) {
             return true;
         }
-        m += 1;
     }
     false
 }
@@ -121,15 +116,13 @@ fn remats_wrong(
     requires { Checked t.now f.now × Tied e.now x.now × Short c.now × (base ≤ 768) × (counter < 1028) × (get_or e.now counter 0 ≤ 128) × ((i : ℕ) → i < get_or e.now counter 0 → Ending (reg_info_of t.now) (function_of f.now) (place_at (get_or e.now (base + i * 2) 0)) (get_or e.now (base + 1 + i * 2) 0)) }
     ensures { (result ≡ remats_wrong (reg_info_of t.now) (function_of f.now) (generic_content (reg_info_of t.now) (function_of f.now) (sorted_of e.now).moves) (memory_of c.now) (remats_at e.now base counter)) × Anything b.new × Anything d.new }
 {
-    let n = wide(e[counter]);
-    let mut i: usize = 0;
-    while i < n {
+    let n = usize::from(e[counter]);
+    for i in 0..n {
         let p = Allocation(e[base + i * 2]);
         let v = Value(e[base + 1 + i * 2]);
         if is_wrong(t, f, e, x, c, p, v, b, d) {
             return true;
         }
-        i += 1;
     }
     false
 }
@@ -139,10 +132,10 @@ fn untouched(c: &Cells, s: &Cells, at: usize) -> bool
     requires { at < 6656 }
     ensures { result ≡ and (eqb (get_or c.now at 0) 0) (eqb (get_or s.now at 0) 0) }
 {
-    if wide(c[at]) != 0 {
+    if c[at] != 0 {
         return false;
     }
-    wide(s[at]) == 0
+    s[at] == 0
 }
 
 // Whether a cell has the same list in both tables.
@@ -174,9 +167,9 @@ fn is_written(w: &SparseMap, u: usize) -> bool
     requires { Linked w.now × (u < 4608) }
     ensures { result ≡ is_written w.now u }
 {
-    match sparse::get(w, AllocationUnit(narrow(u))) {
-        Found::Value(_) => true,
-        Found::Nothing => false,
+    match sparse::get(w, AllocationUnit(u as u16)) {
+        Some(_) => true,
+        None => false,
     }
 }
 
@@ -196,7 +189,7 @@ fn unit_stays(
     if same_unit(c, s, u, b, d) {
         return true;
     }
-    if small_set::contains(free, RegUnit(narrow(u))) {
+    if small_set::contains(free, RegUnit(u as u16)) {
         return true;
     }
     is_written(w, u)
@@ -213,14 +206,10 @@ fn units_stay(
     requires { Linked w.now × Short c.now × Short s.now }
     ensures { (result ≡ all_in (unit_stays (memory_of s.now) (memory_of c.now) w.now free.now) (indices 0 512)) × Anything b.new × Anything d.new }
 {
-    let mut u: usize = 0;
-    let mut left: usize = 512;
-    while 0 < left {
+    for u in 0..512 {
         if !unit_stays(w, free, c, s, u, b, d) {
             return false;
         }
-        u += 1;
-        left -= 1;
     }
     true
 }
@@ -243,14 +232,10 @@ fn slots_stay(w: &SparseMap, c: &Cells, s: &Cells, n: usize, b: &mut Words, d: &
     requires { Linked w.now × Short c.now × Short s.now × (n ≤ 4096) }
     ensures { (result ≡ all_in (slot_stays (memory_of s.now) (memory_of c.now) w.now) (indices 0 n)) × Anything b.new × Anything d.new }
 {
-    let mut x: usize = 0;
-    let mut left = n;
-    while 0 < left {
+    for x in 0..n {
         if !slot_stays(w, c, s, x, b, d) {
             return false;
         }
-        x += 1;
-        left -= 1;
     }
     true
 }

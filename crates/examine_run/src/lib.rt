@@ -23,7 +23,7 @@ ghost use Rattle.examine_run.specs.Ran.{if, PutIf, LaidOne, edit_at, stepped, ra
 
 use cells::{Cells, Words};
 use edit::Edit;
-use entity::{Allocation, PhysReg, SpillSlot, Value, narrow, wide};
+use entity::{Allocation, PhysReg, SpillSlot, Value};
 use entries::Entries;
 use function::{Function, Remat};
 use reginfo::RegInfo;
@@ -34,15 +34,12 @@ pub fn content(t: &RegInfo, f: &Function, e: &Entries, x: &Ties, v: Value, b: &m
     requires { Checked t.now f.now × Tied e.now x.now × (v.0 < num_values (function_of f.now)) }
     ensures { (words_in b.new ≡ generic_content (reg_info_of t.now) (function_of f.now) (sorted_of e.now).moves v.0) × (count_in b.new ≡ width (reg_info_of t.now) (function_of f.now) v.0) × (count_in b.new ≤ 9) }
 {
-    cells::told_words(*b);
     let n = ties::width(t, f, v);
     let first = 512 + 8 * ties::number_of(e, x, v);
-    let mut j: usize = 0;
-    while j < n {
-        b[1 + j] = narrow(first + j);
-        j += 1;
+    for j in 0..n {
+        b[1 + j] = (first + j) as u16;
     }
-    b[0] = narrow(n);
+    b[0] = n as u16;
 }
 
 // The source of kept move m holds its value.
@@ -62,10 +59,8 @@ pub fn lay(t: &RegInfo, f: &Function, e: &Entries, x: &Ties, c: &mut Cells, b: &
     ensures { (memory_of c.new ≡ generic_start (reg_info_of t.now) (function_of f.now) (sorted_of e.now).moves) × Short c.new × Anything b.new }
 {
     cells::clear(c);
-    let mut left = ties::kept(e);
-    while 0 < left {
-        left -= 1;
-        lay_one(t, f, e, x, c, b, left);
+    for m in (0..ties::kept(e)).rev() {
+        lay_one(t, f, e, x, c, b, m);
     }
 }
 
@@ -84,7 +79,7 @@ fn put_if(t: &RegInfo, c: &mut Cells, p: Allocation, b: &Words) -> bool
     requires { Short c.old × Celled (reg_info_of t.now) (place_at p.0) × (count_in b.now ≤ 9) }
     ensures { ((f : spec.Function) → PutIf (reg_info_of t.now) f (place_at p.0) (words_in b.now) (memory_of c.old) result (memory_of c.new)) × Short c.new }
 {
-    if !cells::fits(t, p, wide(b[0])) {
+    if !cells::fits(t, p, usize::from(b[0])) {
         return false;
     }
     cells::write(t, c, p, b);
@@ -167,14 +162,14 @@ pub fn step(
     ensures { (stepped (reg_info_of t.now) (function_of f.now) (generic_content (reg_info_of t.now) (function_of f.now) (sorted_of e.now).moves) (edit_at word) (memory_of c.old) ≡ if result (memory_of c.new)) × Short c.new × Anything b.new }
 {
     match edit::read(word) {
-        Edit::Move { to, from, value: _ } => do_move(t, c, b, to, from),
-        Edit::Rematerialize { to, value } => do_remat(t, f, e, x, c, b, to, value),
-        Edit::EmergencySpill { to, from } => {
+        Some(Edit::Move { to, from, value: _ }) => do_move(t, c, b, to, from),
+        Some(Edit::Rematerialize { to, value }) => do_remat(t, f, e, x, c, b, to, value),
+        Some(Edit::EmergencySpill { to, from }) => {
             do_spill(t, c, b, to, from);
             true
         }
-        Edit::EmergencyReload { to, from } => do_reload(t, c, b, to, from),
-        Edit::Nothing => false,
+        Some(Edit::EmergencyReload { to, from }) => do_reload(t, c, b, to, from),
+        None => false,
     }
 }
 
@@ -192,12 +187,10 @@ pub fn run(
     requires { Checked t.now f.now × Tied e.now x.now × Short c.old × (most ≤ 2048) × (all_in (named_in (reg_info_of t.now) (function_of f.now) most) list.now ≡ true) }
     ensures { (ran (reg_info_of t.now) (function_of f.now) (generic_content (reg_info_of t.now) (function_of f.now) (sorted_of e.now).moves) list.now (memory_of c.old) ≡ if result (memory_of c.new)) × Short c.new × Anything b.new }
 {
-    let mut i = 0;
-    while i < list.len() {
-        if !step(t, f, e, x, c, b, most, list[i]) {
+    for word in list {
+        if !step(t, f, e, x, c, b, most, *word) {
             return false;
         }
-        i += 1;
     }
     true
 }

@@ -9,7 +9,7 @@ use lib.Dec.{eqb}
 use lib.ListN.{length, get_or, drop, drop_of_length-le}
 use borrow.Author.Tests.{ltb-true}
 use Rattle.entity.specs.Logic.{pick, and, all_in}
-use Rattle.entity.specs.Place.{Place, reg, slot, code_of, place_at, names, read_place}
+use Rattle.entity.specs.Place.{Place, reg, slot, code_of, place_at, names}
 use Rattle.entity.proofs.Laws.{code-there, drop-step}
 use Rattle.reginfo.specs.RegInfo.{RegInfo, num_regs}
 use Rattle.reginfo.specs.Table.{reg_info_of}
@@ -52,14 +52,6 @@ pick_some false x y h = let z : ◌≡◌ {A = ℕ} 0 1 = cc in absurd (omega ar
 pick-none : {A : Type 0} (b : Bool) (y : A) → none ≡ pick b (some y) none → false ≡ b
 pick-none true y h = let z : ◌≡◌ {A = ℕ} 0 1 = cc in absurd (omega arith)
 pick-none false y h = refl
-
-pub some-named : (regs slots c : ℕ) (p : Place) → some p ≡ read_place regs slots c → true ≡ names regs slots (place_at c)
-unfolding read_place
-some-named regs slots c p e = pick_some (names regs slots (place_at c)) p (place_at c) e
-
-pub none_named : (regs slots c : ℕ) → none ≡ read_place regs slots c → false ≡ names regs slots (place_at c)
-unfolding read_place
-none_named regs slots c e = pick-none (names regs slots (place_at c)) (place_at c) e
 
 module _ (t f : List ℕ) (ok : Checked t f) (most : ℕ) (few : most ≤ 2048) where
   pub few-regs : num_regs (reg_info_of t) ≤ 512

@@ -15,7 +15,7 @@ ghost use Rattle.examine_rules.specs.Examine.{named};
 ghost use Rattle.examine_words.specs.Named.{named_in};
 
 use edit::Edit;
-use entity::{Allocation, Named, PhysReg, SpillSlot, Value, narrow, wide};
+use entity::{Allocation, PhysReg, SpillSlot, Value};
 use function::Function;
 use reginfo::RegInfo;
 
@@ -24,19 +24,15 @@ fn names(t: &RegInfo, f: &Function, most: usize, p: Allocation) -> bool
     requires { Checked t.now f.now × (most ≤ 2048) }
     ensures { result ≡ names (num_regs (reg_info_of t.now)) ((function_of f.now).slots + most) (place_at p.0) }
 {
-    let regs = narrow(reginfo::num_regs(t));
-    let slots = narrow(function::num_slots(f) + most);
-    match Allocation::read(p.0 as u32, regs, slots) {
-        Named::PhysReg(_) => true,
-        Named::SpillSlot(_) => true,
-        Named::Nothing => false,
-    }
+    let regs = reginfo::num_regs(t) as u16;
+    let slots = (function::num_slots(f) + most) as u16;
+    Allocation::read(p.0 as u32, regs, slots).is_some()
 }
 
 fn has_value(f: &Function, v: Value) -> bool
     ensures { result ≡ ltb v.0 (num_values (function_of f.now)) }
 {
-    wide(v.0) < function::num_values(f)
+    usize::from(v.0) < function::num_values(f)
 }
 
 // Whether a slot is below N + most and a register is the target's.
@@ -44,10 +40,10 @@ fn names_both(t: &RegInfo, f: &Function, most: usize, s: SpillSlot, r: PhysReg) 
     requires { Checked t.now f.now × (most ≤ 2048) }
     ensures { result ≡ and (ltb s.0 ((function_of f.now).slots + most)) (ltb r.0 (num_regs (reg_info_of t.now))) }
 {
-    if function::num_slots(f) + most <= wide(s.0) {
+    if function::num_slots(f) + most <= usize::from(s.0) {
         return false;
     }
-    wide(r.0) < reginfo::num_regs(t)
+    usize::from(r.0) < reginfo::num_regs(t)
 }
 
 // Whether the word is that of a move, and the move names what there is.
@@ -114,11 +110,11 @@ pub fn is_named(t: &RegInfo, f: &Function, most: usize, word: u64) -> bool
     ensures { result ≡ named_in (reg_info_of t.now) (function_of f.now) most word }
 {
     match edit::read(word) {
-        Edit::Move { to, from, value } => is_move(t, f, most, to, from, value, word),
-        Edit::Rematerialize { to, value } => is_remat(t, f, most, to, value, word),
-        Edit::EmergencySpill { to, from } => is_spill(t, f, most, to, from, word),
-        Edit::EmergencyReload { to, from } => is_reload(t, f, most, to, from, word),
-        Edit::Nothing => false,
+        Some(Edit::Move { to, from, value }) => is_move(t, f, most, to, from, value, word),
+        Some(Edit::Rematerialize { to, value }) => is_remat(t, f, most, to, value, word),
+        Some(Edit::EmergencySpill { to, from }) => is_spill(t, f, most, to, from, word),
+        Some(Edit::EmergencyReload { to, from }) => is_reload(t, f, most, to, from, word),
+        None => false,
     }
 }
 
@@ -127,12 +123,10 @@ pub fn all_named(t: &RegInfo, f: &Function, most: usize, list: &[u64]) -> bool
     requires { Checked t.now f.now × (most ≤ 2048) }
     ensures { result ≡ all_in (named_in (reg_info_of t.now) (function_of f.now) most) list.now }
 {
-    let mut i = 0;
-    while i < list.len() {
-        if !is_named(t, f, most, list[i]) {
+    for word in list {
+        if !is_named(t, f, most, *word) {
             return false;
         }
-        i += 1;
     }
     true
 }

@@ -15,7 +15,6 @@ ghost use Rattle.frame_calls.specs.Answers.{answer_of, GivesIn, AsksIn, CanTakeI
 use calls::Opened;
 use carried::Carried;
 use edit::Edits;
-use entity::narrow;
 use entries::Entries;
 use frame_table::Frame;
 use function::Function;
@@ -72,7 +71,7 @@ fn note_slots(frame: &mut Frame, i: usize, f: &Function)
     ensures { SlotsNoted frame.old i (function_of f.now).slots frame.new }
 {
     if i == 0 {
-        frame_table::set_slots(frame, narrow(function::num_slots(f)));
+        frame_table::set_slots(frame, function::num_slots(f) as u16);
     }
 }
 

@@ -7,8 +7,6 @@ ghost use Rattle.frame_table.specs.Table.{number_of, counter_of, slots_of, made_
 ghost use Rattle.frame_table.specs.Opening.{sum_of, Filled, FrameAs};
 ghost use Rattle.frame_table.specs.Steps.{WentOn, SlotsSet, OneOpened};
 
-use entity::{narrow, wide};
-
 pub type Frame = [u16; 37];
 
 // Whether a frame is open, or 02's number.
@@ -18,26 +16,16 @@ pub enum FrameOpened {
     Refused(u8),
 }
 
-// It does nothing: a call tells the length of the table that is passed.
-fn told(frame: [u16; 37]) -> bool
-    ensures { length frame ≡ 37 }
-{
-    true
-}
-
 // Whether the shares add up to at most the limit. What is left of it goes down, so that no sum is too large.
 fn shares_within(limit: u32, shares: &[u32]) -> bool
     ensures { result ≡ leb (sum_of shares.now) limit }
 {
     let mut left = limit;
-    let mut i: usize = 0;
-    while i < shares.len() {
-        let share = shares[i];
-        if left < share {
+    for share in shares {
+        if left < *share {
             return false;
         }
-        left -= share;
-        i += 1;
+        left -= *share;
     }
     true
 }
@@ -47,17 +35,14 @@ fn fill(frame: &mut Frame, limit: u16, shares: &[u32])
     requires { (length shares.now ≤ 16) × (sum_of shares.now ≤ limit) }
     ensures { Filled limit shares.now frame.new }
 {
-    told(*frame);
     frame[0] = shares.len() as u16;
     frame[1] = limit;
     frame[2] = 0;
     frame[3] = 0;
     frame[36] = 0;
-    let mut i: usize = 0;
-    while i < shares.len() {
+    for i in 0..shares.len() {
         frame[4 + i] = shares[i] as u16;
         frame[20 + i] = 0;
-        i += 1;
     }
 }
 
@@ -86,7 +71,7 @@ pub fn open_frame(frame: &mut Frame, limit: u32, shares: &[u32]) -> FrameOpened
 pub fn number(frame: &Frame) -> usize
     ensures { result ≡ number_of frame.now }
 {
-    wide(frame[0])
+    usize::from(frame[0])
 }
 
 // The counter that slot numbers come from.
@@ -107,7 +92,6 @@ pub fn slots(frame: &Frame) -> u16
 pub fn set_slots(frame: &mut Frame, n: u16)
     ensures { SlotsSet frame.old n frame.new }
 {
-    told(*frame);
     frame[3] = n;
 }
 
@@ -116,13 +100,13 @@ pub fn set_slots(frame: &mut Frame, n: u16)
 pub fn opens_next(frame: &Frame, i: usize) -> bool
     ensures { result ≡ opens_next frame.now i }
 {
-    if wide(frame[0]) <= i {
+    if usize::from(frame[0]) <= i {
         return false;
     }
     if frame[2] != 0 {
         return false;
     }
-    wide(frame[36]) == i
+    usize::from(frame[36]) == i
 }
 
 // Formula i is open, and those before it.
@@ -130,8 +114,7 @@ pub fn note_open(frame: &mut Frame, i: usize)
     requires { i < 16 }
     ensures { OneOpened frame.old i frame.new }
 {
-    told(*frame);
-    frame[36] = narrow(i + 1);
+    frame[36] = (i + 1) as u16;
 }
 
 // How many slots formula i has made.
@@ -171,12 +154,10 @@ fn others_lack(frame: &Frame, i: usize) -> usize
     requires { number_of frame.now ≤ 16 }
     ensures { result ≡ others_lack_of frame.now i }
 {
-    let n = wide(frame[0]);
+    let n = usize::from(frame[0]);
     let mut sum: usize = 0;
-    let mut j: usize = 0;
-    while j < n {
-        sum += wide(lacks_beside(frame, i, j));
-        j += 1;
+    for j in 0..n {
+        sum += usize::from(lacks_beside(frame, i, j));
     }
     sum
 }
@@ -188,12 +169,12 @@ pub fn reach(frame: &Frame, i: usize) -> u16
     requires { number_of frame.now ≤ 16 }
     ensures { result ≡ reach_of frame.now i }
 {
-    let limit = wide(frame[1]);
+    let limit = usize::from(frame[1]);
     let others = others_lack(frame, i);
     if limit < others {
         return 0;
     }
-    narrow(limit - others)
+    (limit - others) as u16
 }
 
 // A call of formula i led the counter to n: the slots between are its own.
@@ -201,7 +182,6 @@ pub fn go_on(frame: &mut Frame, i: usize, n: u16)
     requires { (i < 16) × (counter_of frame.old ≤ n) × (made_of frame.old i ≤ counter_of frame.old) }
     ensures { WentOn frame.old i n frame.new }
 {
-    told(*frame);
     frame[20 + i] += n - frame[2];
     frame[2] = n;
 }

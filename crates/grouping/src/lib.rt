@@ -2,8 +2,8 @@
 // list and cache as they were.
 #![tactic(auto)]
 
-ghost use Rattle.std.specs.Prelude.{◌≡◌, false, ℕ, ◌<◌, ◌≤◌, eqb, ltb, length, get_or};
-ghost use Rattle.entity.specs.Logic.{pick, Anything};
+ghost use Rattle.std.specs.Prelude.{◌≡◌, false, ℕ, ◌<◌, ◌≤◌, eqb, length, get_or};
+ghost use Rattle.entity.specs.Logic.{Anything};
 ghost use Rattle.reginfo.specs.Table.{reg_info_of};
 ghost use Rattle.function.specs.Known.{Checked};
 ghost use Rattle.small_set.specs.Set.{set_of};
@@ -19,7 +19,6 @@ ghost use Rattle.grouping.specs.Answers.{TestedAs, Laid, PartAdded, rest, PartGi
 
 use carried::Carried;
 use edit::Edits;
-use entity::{narrow, wide};
 use entries::{Added, Entries};
 use function::Function;
 use groups::{Labels, Owners};
@@ -31,32 +30,16 @@ use small_set::RegUnitSet;
 use sparse::SparseMap;
 use visits::States;
 
-// These do nothing: a call tells the length of the table that is passed.
-fn told_cache(t: [u16; 65600]) -> bool
-    ensures { length t ≡ 65600 }
-{
-    true
-}
-
-fn told_words(t: [u64; 1024]) -> bool
-    ensures { length t ≡ 1024 }
-{
-    true
-}
-
 // A stack of the cache as another has it.
 fn copy_stack(from: &EmergencySpillSlotCache, to: &mut EmergencySpillSlotCache, z: usize)
     requires { CacheFits from.now × (z < 32) }
     ensures { StackCopied from.now to.old to.new z }
 {
-    told_cache(*to);
-    let depth = wide(from[z]);
-    let mut i: usize = 0;
-    while i < depth {
+    let depth = usize::from(from[z]);
+    for i in 0..depth {
         to[64 + z * 2048 + i] = from[64 + z * 2048 + i];
-        i += 1;
     }
-    to[z] = narrow(depth);
+    to[z] = depth as u16;
 }
 
 // All of them. Neither the slots made nor the stamp is copied: in a frame the counter is the frame's, and a call by groups is one patch, whatever the
@@ -65,10 +48,8 @@ fn copy_stacks(from: &EmergencySpillSlotCache, to: &mut EmergencySpillSlotCache)
     requires { CacheFits from.now }
     ensures { StacksCopied from.now to.old to.new }
 {
-    let mut z: usize = 0;
-    while z < 32 {
+    for z in 0..32 {
         copy_stack(from, to, z);
-        z += 1;
     }
 }
 
@@ -128,11 +109,12 @@ fn add_part(
 {
     entries::new_parallel_move(e, w);
     let mut k = first;
+    // Kept a `while`: each entry of a group names the next, and nothing is counted.
     while k < 128 {
         if let Added::Refused(n) = parallel_moves::add_entry(t, f, e, w, numbers, k * 4) {
             return Added::Refused(n);
         }
-        k = groups::index(next[k]);
+        k = usize::from(next[k]);
     }
     Added::Yes
 }
@@ -198,21 +180,12 @@ fn resolve_part(
     )
 }
 
-fn greater(a: u16, b: u16) -> u16
-    ensures { result ≡ pick (ltb a b) b a }
-{
-    if a < b {
-        return b;
-    }
-    a
-}
-
 // Whether an entry is the first of its group.
 fn is_first(labels: &Labels, i: usize) -> bool
     requires { i < 128 }
     ensures { result ≡ eqb (get_or labels.now i 0) i }
 {
-    groups::index(labels[i]) == i
+    usize::from(labels[i]) == i
 }
 
 // "Groups go in the order of their first entry"; "a 17 in one refuses them all": then neither the working cache nor `joined` matters.
@@ -245,10 +218,8 @@ fn resolve_parts(
     let n = numbers.len() / 4;
     let mut count: usize = 0;
     let mut met: u16 = 0;
-    let mut i: usize = 0;
-    while i < n {
+    for i in 0..n {
         if !is_first(labels, i) {
-            i += 1;
             continue;
         }
         match resolve_part(
@@ -276,8 +247,7 @@ fn resolve_parts(
             Resolved::Refused(k) => return Resolved::Refused(k),
             Resolved::Edits(m, p) => {
                 count += m;
-                met = greater(met, p);
-                i += 1;
+                met = met.max(p);
             }
         }
     }
@@ -298,10 +268,8 @@ fn write(words: &[u64], n: usize, list: &mut [u64])
     requires { (n ≤ length words.now) × (n ≤ length list.old) }
     ensures { Written words.now n list.old list.new }
 {
-    let mut i: usize = 0;
-    while i < n {
+    for i in 0..n {
         list[i] = words[i];
-        i += 1;
     }
 }
 
@@ -359,14 +327,12 @@ pub fn resolve_groups_granted(
     }
     lay(t, numbers, free, owners, labels, next, common);
     begin(g.made, cache, work);
-    told_words(*joined);
     match resolve_parts(
         g.limit, t, f, numbers, given, free, common, labels, next, work, joined, e, w, available,
         sources, edits, slots, d, marks, c,
     ) {
         Resolved::Refused(k) => Resolved::Refused(k),
         Resolved::Edits(n, met) => {
-            told_words(*joined);
             hand_over(joined, n, work, list, cache);
             Resolved::Edits(n, met)
         }

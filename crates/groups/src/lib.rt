@@ -2,7 +2,7 @@
 // (parallel_moves, specs/Given.antt), and have passed their tests.
 #![tactic(auto)]
 
-ghost use Rattle.std.specs.Prelude.{◌≡◌, ℕ, ◌+◌, ◌*◌, ◌<◌, ◌≤◌, eqb, ltb, length, get_or};
+ghost use Rattle.std.specs.Prelude.{◌≡◌, ℕ, ◌+◌, ◌*◌, ◌<◌, ◌≤◌, eqb, length, get_or};
 ghost use Rattle.entity.specs.Logic.{pick, or, cells, Anything};
 ghost use Rattle.entity.specs.Place.{place_at};
 ghost use Rattle.reginfo.specs.RegInfo.{reg_units, place_units};
@@ -16,7 +16,7 @@ ghost use Rattle.groups.specs.Noting.{Renamed, UnitNoted, PlaceNoted, EntryNoted
 ghost use Rattle.groups.specs.Linked.{Linked, GroupAt};
 ghost use Rattle.groups.specs.Free.{Closed, Reopened, CommonAs, FreeAs};
 
-use entity::{Allocation, AllocationKind, AllocationUnit, PhysReg, RegUnit, wide};
+use entity::{Allocation, AllocationKind, AllocationUnit, PhysReg, RegUnit};
 use reginfo::RegInfo;
 use small_set::RegUnitSet;
 
@@ -25,43 +25,6 @@ pub type Owners = [u8; 4608];
 
 // A number for each entry.
 pub type Labels = [u8; 128];
-
-// These do nothing: a call tells the length of the table that is passed.
-fn told_owners(t: [u8; 4608]) -> bool
-    ensures { length t ≡ 4608 }
-{
-    true
-}
-
-fn told_labels(t: [u8; 128]) -> bool
-    ensures { length t ≡ 128 }
-{
-    true
-}
-
-// A label as an index.
-pub fn index(x: u8) -> usize
-    ensures { (result ≡ x) × (result < 256) }
-{
-    x as usize
-}
-
-// An index as a label.
-fn byte(x: usize) -> u8
-    requires { x < 256 }
-    ensures { result ≡ x }
-{
-    x as u8
-}
-
-fn lesser(a: u8, b: u8) -> u8
-    ensures { result ≡ pick (ltb a b) a b }
-{
-    if a < b {
-        return a;
-    }
-    b
-}
 
 // What becomes of a label where a and b become `low`.
 fn relabelled(x: u8, a: u8, b: u8, low: u8) -> u8
@@ -81,12 +44,9 @@ fn relabelled(x: u8, a: u8, b: u8, low: u8) -> u8
 fn join(labels: &mut Labels, a: u8, b: u8)
     ensures { Renamed a b labels.old labels.new }
 {
-    told_labels(*labels);
-    let low = lesser(a, b);
-    let mut i: usize = 0;
-    while i < 128 {
+    let low = a.min(b);
+    for i in 0..128 {
         labels[i] = relabelled(labels[i], a, b, low);
-        i += 1;
     }
 }
 
@@ -95,11 +55,10 @@ fn note_unit(owners: &mut Owners, labels: &mut Labels, u: AllocationUnit, k: usi
     requires { (u.0 < 4608) × (k < 128) }
     ensures { UnitNoted u.0 k owners.old labels.old owners.new labels.new }
 {
-    told_owners(*owners);
-    let i = wide(u.0);
-    let o = index(owners[i]);
+    let i = usize::from(u.0);
+    let o = usize::from(owners[i]);
     if 128 <= o {
-        owners[i] = byte(k);
+        owners[i] = k as u8;
         return;
     }
     let a = labels[o];
@@ -116,10 +75,8 @@ fn note_place(t: &RegInfo, owners: &mut Owners, labels: &mut Labels, p: Allocati
     ensures { PlaceNoted (reg_info_of t.now) (place_units (reg_info_of t.now) (place_at p.0)) k owners.old labels.old owners.new labels.new }
 {
     let n = reginfo::num_place_units(t, p);
-    let mut j: usize = 0;
-    while j < n {
+    for j in 0..n {
         note_unit(owners, labels, reginfo::place_unit(t, p, j), k);
-        j += 1;
     }
 }
 
@@ -136,8 +93,7 @@ fn note_entry(t: &RegInfo, numbers: &[u32], owners: &mut Owners, labels: &mut La
     requires { KnownEntry (reg_info_of t.now) numbers.now k × (k * 4 + 4 ≤ length numbers.now) × (k < 128) }
     ensures { EntryNoted (reg_info_of t.now) numbers.now k owners.old labels.old owners.new labels.new }
 {
-    told_labels(*labels);
-    labels[k] = byte(k);
+    labels[k] = k as u8;
     note_place(t, owners, labels, place_at(numbers, k * 4 + 1), k);
     if numbers[k * 4] == 0 {
         note_place(t, owners, labels, place_at(numbers, k * 4 + 2), k);
@@ -151,10 +107,8 @@ pub fn label(t: &RegInfo, numbers: &[u32], owners: &mut Owners, labels: &mut Lab
 {
     *owners = [255; 4608];
     let n = numbers.len() / 4;
-    let mut k: usize = 0;
-    while k < n {
+    for k in 0..n {
         note_entry(t, numbers, owners, labels, k);
-        k += 1;
     }
 }
 
@@ -164,14 +118,11 @@ pub fn link(labels: &Labels, n: usize, next: &mut Labels)
     requires { (n ≤ 128) × ((i : ℕ) → i < n → get_or labels.now i 0 < 128) }
     ensures { Linked (cells labels.now 0 n) n next.new }
 {
-    told_labels(*next);
     let mut heads = [255u8; 128];
-    let mut i = n;
-    while 0 < i {
-        i -= 1;
-        let g = index(labels[i]);
+    for i in (0..n).rev() {
+        let g = usize::from(labels[i]);
         next[i] = heads[g];
-        heads[g] = byte(i);
+        heads[g] = i as u8;
     }
 }
 
@@ -181,10 +132,8 @@ fn close_reg(t: &RegInfo, r: PhysReg, out: &mut RegUnitSet)
     ensures { Closed (reg_units (reg_info_of t.now) r.0) out.old out.new }
 {
     let n = reginfo::num_reg_units(t, r);
-    let mut j: usize = 0;
-    while j < n {
+    for j in 0..n {
         small_set::remove(out, reginfo::reg_unit(t, r, j));
-        j += 1;
     }
 }
 
@@ -193,7 +142,6 @@ fn close(t: &RegInfo, p: Allocation, out: &mut RegUnitSet)
     requires { KnownPlace (reg_info_of t.now) (place_at p.0) }
     ensures { Closed (place_units (reg_info_of t.now) (place_at p.0)) out.old out.new }
 {
-    small_set::told(*out);
     match p.kind() {
         AllocationKind::PhysReg(r) => close_reg(t, r, out),
         AllocationKind::SpillSlot(_) => {}
@@ -219,10 +167,8 @@ pub fn common_free(t: &RegInfo, numbers: &[u32], free: &RegUnitSet, out: &mut Re
 {
     small_set::copy_from(out, free);
     let n = numbers.len() / 4;
-    let mut k: usize = 0;
-    while k < n {
+    for k in 0..n {
         close_source(t, numbers, k, out);
-        k += 1;
     }
 }
 
@@ -243,10 +189,8 @@ fn reopen_reg(t: &RegInfo, free: &RegUnitSet, r: PhysReg, out: &mut RegUnitSet)
     ensures { Reopened (reg_units (reg_info_of t.now) r.0) free.now out.old out.new }
 {
     let n = reginfo::num_reg_units(t, r);
-    let mut j: usize = 0;
-    while j < n {
+    for j in 0..n {
         reopen_unit(free, reginfo::reg_unit(t, r, j), out);
-        j += 1;
     }
 }
 
@@ -255,7 +199,6 @@ fn reopen(t: &RegInfo, free: &RegUnitSet, p: Allocation, out: &mut RegUnitSet)
     requires { KnownPlace (reg_info_of t.now) (place_at p.0) }
     ensures { Reopened (place_units (reg_info_of t.now) (place_at p.0)) free.now out.old out.new }
 {
-    small_set::told(*free);
     match p.kind() {
         AllocationKind::PhysReg(r) => reopen_reg(t, free, r, out),
         AllocationKind::SpillSlot(_) => {}
@@ -288,8 +231,9 @@ pub fn part_free(
 {
     small_set::copy_from(out, common);
     let mut k = g;
+    // Kept a `while`: each entry of a group names the next, and nothing is counted.
     while k < 128 {
         reopen_source(t, numbers, free, k, out);
-        k = index(next[k]);
+        k = usize::from(next[k]);
     }
 }

@@ -8,6 +8,7 @@ use native.Mathlib.Omega.{arith}
 use lib.Dec.{eqb}
 use lib.ListN.{length, take, drop}
 use borrow.Author.Tests.{eq-eqb, ne_eqb}
+use Rattle.std.specs.Prelude.{Option, None, Some}
 use Rattle.rules.specs.Edit.{Edit}
 use Rattle.rules.specs.Patch.{Answer, refused, resolved}
 use Rattle.rules.proofs.Steps.{same?}
@@ -30,8 +31,6 @@ use Rattle.frame_calls.specs.declared.FramePreview.{FramePreview}
 use Rattle.frame_calls.specs.declared.FrameAsked as A
 use Rattle.frame_calls.specs.declared.FrameAsked.{FrameAsked}
 use Rattle.frame_calls.specs.Answers.{answer_of, GivesIn, AsksIn, CanTakeIn, TakesIn, preview_in}
-use Rattle.schedule.specs.declared.Left.{Left}
-use Rattle.schedule.specs.declared.Left.TheVariants.{Nothing, Answer as Held}
 use Rattle.schedule.specs.declared.Lists.{Lists}
 use Rattle.schedule.specs.declared.Lists.TheVariants as L
 use Rattle.schedule.specs.Lists.{ListsAt, Called, with_patch, called}
@@ -69,18 +68,18 @@ module _ (frame frame' : List ℕ) (i : ℕ) (f : List ℕ) (answer : Answer) (r
 -- ---- asked for
 module _ (frame : List ℕ) (i : ℕ) (f : List ℕ) (answer : Answer) (r : FrameAsked) (list list' cache slots' : List ℕ) (h : AsksIn frame i f answer r list list' cache slots') where
   module _ (out out' : List ℕ) (len : ℕ) where
-    pub asking-refused : (k : ℕ) → r ≡ A.TheVariants.Refused k → Put out out' 0 (refused_line k) len → Put out out' 0 (text_in frame i answer) len × LeftBy frame i f answer cache slots' Nothing
+    pub asking-refused : (k : ℕ) → r ≡ A.TheVariants.Refused k → Put out out' 0 (refused_line k) len → Put out out' 0 (text_in frame i answer) len × LeftBy frame i f answer cache slots' None
     asking-refused k e p = go answer (rw e at h)
       where
-        go : (a : Answer) → AsksIn frame i f a (A.TheVariants.Refused k) list list' cache slots' → Put out out' 0 (text_in frame i a) len × LeftBy frame i f a cache slots' Nothing
+        go : (a : Answer) → AsksIn frame i f a (A.TheVariants.Refused k) list list' cache slots' → Put out out' 0 (text_in frame i a) len × LeftBy frame i f a cache slots' None
         go (refused n) x = let y = x.0 in let z : k ≡ n = cc in (rw (← z) p, refl)
         go (resolved es c n) x = let y = x.0 in let z : ◌≡◌ {A = ℕ} 0 1 = cc in absurd (omega arith)
 
     pub asking-ready : (n : ℕ) (b : FramePreview) → r ≡ A.TheVariants.Ready n b → ((es : List Edit) → Words (take n list') es → Put out out' 0 (patch_text 1 es b.made) len)
-        → Put out out' 0 (text_in frame i answer) len × LeftBy frame i f answer cache slots' (Held b)
+        → Put out out' 0 (text_in frame i answer) len × LeftBy frame i f answer cache slots' (Some b)
     asking-ready n b e p = go answer (rw e at h)
       where
-        go : (a : Answer) → AsksIn frame i f a (A.TheVariants.Ready n b) list list' cache slots' → Put out out' 0 (text_in frame i a) len × LeftBy frame i f a cache slots' (Held b)
+        go : (a : Answer) → AsksIn frame i f a (A.TheVariants.Ready n b) list list' cache slots' → Put out out' 0 (text_in frame i a) len × LeftBy frame i f a cache slots' (Some b)
         go (refused k) x = let y = x.0 in let z : ◌≡◌ {A = ℕ} 0 1 = cc in absurd (omega arith)
         go (resolved es c k) x =
             let y = x.0 in
@@ -88,7 +87,7 @@ module _ (frame : List ℕ) (i : ℕ) (f : List ℕ) (answer : Answer) (r : Fram
             let q : b ≡ preview_in frame i c k cache = cc in
             let w : Words (take n list') es = rw m (front-words list' (drop (length es) list) es x.2 x.1) in
             let o : b.made ≡ made_of frame i + (c.made - counter_of frame) = ap (λ (v : FramePreview). v.made) q in
-            (rw (← o) (p es w), (ap Held q, x.3, x.4))
+            (rw (← o) (p es w), (ap Some q, x.3, x.4))
 
   pub few-shown : (n : ℕ) (b : FramePreview) → r ≡ A.TheVariants.Ready n b → length list' ≡ 1024 → n ≤ 1024
   few-shown n b e l = go answer (rw e at h)
@@ -98,19 +97,19 @@ module _ (frame : List ℕ) (i : ℕ) (f : List ℕ) (answer : Answer) (r : Fram
       go (resolved es c k) x = let y = x.0 in let m : n ≡ length es = cc in omega (arith, m, front_fits list' (drop (length es) list) es x.1, l)
 
 -- ---- taken
-pub can-take : (frame : List ℕ) (i : ℕ) (left : Left) (a : FramePreview) (slots cache : List ℕ) → left ≡ Held a → CanTakeIf frame i left slots cache
+pub can-take : (frame : List ℕ) (i : ℕ) (left : Option FramePreview) (a : FramePreview) (slots cache : List ℕ) → left ≡ Some a → CanTakeIf frame i left slots cache
     → a.stamp ≡ stamp_of cache → a.counter ≡ counter_of frame → CanTakeIn frame i a slots cache
 can-take frame i left a slots cache e h = rw e at h
 
-module _ (frame frame' : List ℕ) (i : ℕ) (left : Left) (slots cache cache' out out' : List ℕ) (len : ℕ) where
+module _ (frame frame' : List ℕ) (i : ℕ) (left : Option FramePreview) (slots cache cache' out out' : List ℕ) (len : ℕ) where
   abbrev Told : Type 0
   Told = Put out out' 0 (taken_text left (is_fresh frame cache left)) len × TakenBy (is_fresh frame cache left) frame frame' i (to_of left) slots cache cache'
 
-  pub nothing_left : left ≡ Nothing → Put out out' 0 (taken_text Nothing false) len → cache' ≡ cache → frame' ≡ frame → Told
+  pub nothing_left : left ≡ None → Put out out' 0 (taken_text None false) len → cache' ≡ cache → frame' ≡ frame → Told
   nothing_left e p c f = rw e (p, (c, f))
 
-  module _ (a : FramePreview) (e : left ≡ Held a) (r : TakeAnswer) (h : TakesIn frame frame' i a slots cache r cache') where
-    late : is_fresh frame cache (Held a) ≡ false → (k : ℕ) → r ≡ K.TheVariants.Refused k → (a.stamp ≡ stamp_of cache → ⊥) ⊎ (a.counter ≡ counter_of frame → ⊥) → Put out out' 0 (refused_line k) len → Told
+  module _ (a : FramePreview) (e : left ≡ Some a) (r : TakeAnswer) (h : TakesIn frame frame' i a slots cache r cache') where
+    late : is_fresh frame cache (Some a) ≡ false → (k : ℕ) → r ≡ K.TheVariants.Refused k → (a.stamp ≡ stamp_of cache → ⊥) ⊎ (a.counter ≡ counter_of frame → ⊥) → Put out out' 0 (refused_line k) len → Told
     late b k z d p =
         let q = h.other d in
         let y = q.0 in
@@ -126,18 +125,18 @@ module _ (frame frame' : List ℕ) (i : ℕ) (left : Left) (slots cache cache' o
         (λ d. late (rw (eq-eqb a.stamp (stamp_of cache) s, ne_eqb a.counter (counter_of frame) d) refl) k z (inr d) p) (same? a.counter (counter_of frame)))
         (λ d. late (rw (ne_eqb a.stamp (stamp_of cache) d) refl) k z (inl d) p) (same? a.stamp (stamp_of cache))
 
-    pub in-time : r ≡ K.TheVariants.Yes → Put out out' 0 (taken_text (Held a) true) len → Told
+    pub in-time : r ≡ K.TheVariants.Yes → Put out out' 0 (taken_text (Some a) true) len → Told
     in-time z p =
         ⊎_elim
         (λ s. ⊎_elim
         (λ c. let y = h.same s c in
-        let b : is_fresh frame cache (Held a) ≡ true = rw (eq-eqb a.stamp (stamp_of cache) s, eq-eqb a.counter (counter_of frame) c) refl in
+        let b : is_fresh frame cache (Some a) ≡ true = rw (eq-eqb a.stamp (stamp_of cache) s, eq-eqb a.counter (counter_of frame) c) refl in
         rw (e, b) (p, (y.1, y.2, y.3)))
         (λ d. let y = (h.other (inr d)).0 in let n : ◌≡◌ {A = ℕ} 0 1 = cc in absurd (omega arith)) (same? a.counter (counter_of frame)))
         (λ d. let y = (h.other (inl d)).0 in let n : ◌≡◌ {A = ℕ} 0 1 = cc in absurd (omega arith)) (same? a.stamp (stamp_of cache))
 
 -- ---- a call as it is read
-module _ (frame frame' : List ℕ) (i : ℕ) (t f cache cache' slots slots' : List ℕ) (left left' : Left) (out out' : List ℕ) (len : ℕ) (s : List ℕ) (at at' : ℕ) where
+module _ (frame frame' : List ℕ) (i : ℕ) (t f cache cache' slots slots' : List ℕ) (left left' : Option FramePreview) (out out' : List ℕ) (len : ℕ) (s : List ℕ) (at at' : ℕ) where
   abbrev As : (from : ℕ) → Read Called → Type 0
   As from x = AnsweredAs frame frame' i t f cache cache' slots slots' left left' out out' len s from at' x
 

@@ -7,6 +7,7 @@ use mathlib.Core.Logic.{⊎_elim}
 use native.Mathlib.Omega.{arith}
 use lib.Dec.{eqb}
 use lib.ListN.{length}
+use Rattle.std.specs.Prelude.{Option, None, Some}
 use Rattle.entity.proofs.Laws.{and-true}
 use borrow.Author.Tests.{eqb-true}
 use Rattle.rules.specs.Patch.{Answer, refused, resolved}
@@ -24,8 +25,6 @@ use Rattle.frame_calls.specs.Answers.{answer_of}
 use Rattle.print.specs.Text.{refused_line}
 use Rattle.print.specs.Put.{Put}
 use Rattle.number.specs.Read as read
-use Rattle.schedule.specs.declared.Left.{Left}
-use Rattle.schedule.specs.declared.Left.TheVariants.{Nothing, Answer as Held}
 use Rattle.schedule.specs.Lists.{Called, resolves, asks, takes}
 use Rattle.schedule.specs.Answered.{text_in, MovedBy, LeftBy, is_fresh, to_of, taken_text, TakenBy, Did, AnsweredAs}
 use Rattle.schedule.specs.Standing.{Waits, WaitsIf, Stands, FrameOn, CanTakeIf}
@@ -72,10 +71,10 @@ in-frame-on frame frame' f cache low h =
     let s = h.stacks in
     record { fits = h.fits; stacks = record { once = s.once; sole = s.sole; low = s.low; below = λ x z a. omega (arith, s.below x z a, low) } }
 
-waits-on : (start count : ℕ) (frame frame' : List ℕ) (i : ℕ) (f cache slots : List ℕ) (left : Left) → FrameOn frame frame' → i < number_of frame
+waits-on : (start count : ℕ) (frame frame' : List ℕ) (i : ℕ) (f cache slots : List ℕ) (left : Option FramePreview) → FrameOn frame frame' → i < number_of frame
     → WaitsIf start count frame i f cache slots left → WaitsIf start count frame' i f cache slots left
-waits-on start count frame frame' i f cache slots Nothing o h w = tt
-waits-on start count frame frame' i f cache slots (Held a) o h w =
+waits-on start count frame frame' i f cache slots None o h w = tt
+waits-on start count frame frame' i f cache slots (Some a) o h w =
     record {
       mark = w.mark;
       stamp = w.stamp;
@@ -87,7 +86,7 @@ waits-on start count frame frame' i f cache slots (Held a) o h w =
           (record { can = y.0.can; on = omega (arith, e, y.0.on); within = rw (o.same e i h) y.0.within }, y.1);
     }
 
-pub other-stands : (frame frame' : List ℕ) (i : ℕ) (t f cache slots : List ℕ) (left : Left) (n m : ℕ) → FrameOn frame frame' → i < number_of frame → n ≤ m
+pub other-stands : (frame frame' : List ℕ) (i : ℕ) (t f cache slots : List ℕ) (left : Option FramePreview) (n m : ℕ) → FrameOn frame frame' → i < number_of frame → n ≤ m
     → Stands frame i t f cache slots left n → Stands frame' i t f cache slots left m
 other-stands frame frame' i t f cache slots left n m o h l x =
     record {
@@ -101,15 +100,15 @@ other-stands frame frame' i t f cache slots left n m o h l x =
     }
 
 -- ---- its own
-pub can-of : (start count : ℕ) (frame : List ℕ) (i : ℕ) (f cache slots : List ℕ) (left : Left) → WaitsIf start count frame i f cache slots left → CanTakeIf frame i left slots cache
-can-of start count frame i f cache slots Nothing w = tt
-can-of start count frame i f cache slots (Held a) w = λ s c. (w.can s c).0
+pub can-of : (start count : ℕ) (frame : List ℕ) (i : ℕ) (f cache slots : List ℕ) (left : Option FramePreview) → WaitsIf start count frame i f cache slots left → CanTakeIf frame i left slots cache
+can-of start count frame i f cache slots None w = tt
+can-of start count frame i f cache slots (Some a) w = λ s c. (w.can s c).0
 
 -- an answer that was left before a patch was taken or resolved
-waits-late : (start count : ℕ) → count + 1 < 18446744073709551616 → (frame frame' : List ℕ) (i : ℕ) (f cache cache' slots : List ℕ) (left : Left) → counter_of frame ≤ counter_of frame'
+waits-late : (start count : ℕ) → count + 1 < 18446744073709551616 → (frame frame' : List ℕ) (i : ℕ) (f cache cache' slots : List ℕ) (left : Option FramePreview) → counter_of frame ≤ counter_of frame'
     → stamp_of cache' ≡ stamp_after start (count + 1) → WaitsIf start count frame i f cache slots left → WaitsIf start (count + 1) frame' i f cache' slots left
-waits-late start count few frame frame' i f cache cache' slots Nothing l e w = tt
-waits-late start count few frame frame' i f cache cache' slots (Held a) l e w =
+waits-late start count few frame frame' i f cache cache' slots None l e w = tt
+waits-late start count few frame frame' i f cache cache' slots (Some a) l e w =
     record {
       mark = w.mark;
       stamp = w.stamp;
@@ -118,7 +117,7 @@ waits-late start count few frame frame' i f cache cache' slots (Held a) l e w =
       can = λ s c. absurd (omega (arith, w.before, stamp-told start w.mark (count + 1) (omega (arith, w.before)) few (sym w.stamp ∙ s ∙ e)));
     }
 
-module _ (frame frame' : List ℕ) (i : ℕ) (t f cache cache' slots slots' : List ℕ) (left left' : Left) (at at' : ℕ) (fine : FrameOk frame) (there : i < number_of frame)
+module _ (frame frame' : List ℕ) (i : ℕ) (t f cache cache' slots slots' : List ℕ) (left left' : Option FramePreview) (at at' : ℕ) (fine : FrameOk frame) (there : i < number_of frame)
     (x : Stands frame i t f cache slots left at) (ahead : at < at') (few : at' < 18446744073709551616) where
   pub record After : Type 0 where
     pub ok : FrameOk frame'
@@ -176,18 +175,18 @@ module _ (frame frame' : List ℕ) (i : ℕ) (t f cache cache' slots slots' : Li
   after-taking : TakenBy (is_fresh frame cache left) frame frame' i (to_of left) slots cache cache' → slots' ≡ slots → left' ≡ left → After
   after-taking h es el = go left refl x.waits h
     where
-      test : (a : FramePreview) (b : Bool) → is_fresh frame cache (Held a) ≡ b → left ≡ Held a → Waits x.start x.count frame i f cache slots a → TakenBy b frame frame' i a.to slots cache cache' → After
+      test : (a : FramePreview) (b : Bool) → is_fresh frame cache (Some a) ≡ b → left ≡ Some a → Waits x.start x.count frame i f cache slots a → TakenBy b frame frame' i a.to slots cache cache' → After
       test a true e q w h =
           let u = and-true (eqb a.stamp (stamp_of cache)) (eqb a.counter (counter_of frame)) e in
           committed a w (eqb-true a.stamp (stamp_of cache) u.0) (eqb-true a.counter (counter_of frame) u.1) h.0 h.1 h.2 x.waits es el
       test a false e q w h = unchanged h.1 h.0 es el
 
-      go : (l : Left) → left ≡ l → WaitsIf x.start x.count frame i f cache slots l → TakenBy (is_fresh frame cache l) frame frame' i (to_of l) slots cache cache' → After
-      go Nothing e w h = unchanged h.1 h.0 es el
-      go (Held a) e w h = test a (is_fresh frame cache (Held a)) refl e w h
+      go : (l : Option FramePreview) → left ≡ l → WaitsIf x.start x.count frame i f cache slots l → TakenBy (is_fresh frame cache l) frame frame' i (to_of l) slots cache cache' → After
+      go None e w h = unchanged h.1 h.0 es el
+      go (Some a) e w h = test a (is_fresh frame cache (Some a)) refl e w h
 
 -- ---- any call
-module _ (frame frame' : List ℕ) (i : ℕ) (t f cache cache' slots slots' : List ℕ) (left left' : Left) (out out' : List ℕ) (len : ℕ) (s : List ℕ) (at at' : ℕ) (fine : FrameOk frame) (there : i < number_of frame)
+module _ (frame frame' : List ℕ) (i : ℕ) (t f cache cache' slots slots' : List ℕ) (left left' : Option FramePreview) (out out' : List ℕ) (len : ℕ) (s : List ℕ) (at at' : ℕ) (fine : FrameOk frame) (there : i < number_of frame)
     (x : Stands frame i t f cache slots left at) (within : at ≤ length s) (few : length s < 18446744073709551616) where
   abbrev Next : Type 0
   Next = FrameOk frame' × FrameOn frame frame' × Stands frame' i t f cache' slots' left' at' × (at ≤ at') × (at' ≤ length s) × (len ≤ length out)

@@ -1,5 +1,5 @@
 -- 02 l, a schedule: what a call is answered, as text, and what it leaves.
-use Rattle.std.specs.Prelude.{ℕ, ◌+◌, ◌-◌, ◌<◌, ◌≤◌, ◌≡◌, Bool, true, false, List, [], ◌∷◌, eqb, length, drop}
+use Rattle.std.specs.Prelude.{ℕ, ◌+◌, ◌-◌, ◌<◌, ◌≤◌, ◌≡◌, Bool, true, false, List, [], ◌∷◌, eqb, length, drop, Option, None, Some}
 use Rattle.entity.specs.Logic.{and}
 use Rattle.rules.specs.Patch.{Answer, refused, resolved}
 use Rattle.number.specs.Read as read
@@ -11,10 +11,9 @@ use Rattle.print.specs.Put.{Put}
 use Rattle.frame_table.specs.Table.{counter_of, made_of, reach_of}
 use Rattle.frame_table.specs.Steps.{WentOn}
 use Rattle.frame_table.specs.Held.{FrameOk}
+use Rattle.frame_calls.specs.declared.FramePreview.{FramePreview}
 use Rattle.frame_calls.specs.Given.{InFrame}
 use Rattle.frame_calls.specs.Answers.{answer_of, preview_in}
-use Rattle.schedule.specs.declared.Left.{Left}
-use Rattle.schedule.specs.declared.Left.TheVariants.{Nothing, Answer as Held}
 use Rattle.schedule.specs.Lists.{Given, Called, resolves, asks, takes}
 
 -- as `resolve` prints the only patch of a job, or its refusal; of the slots made, the formula's own count is told
@@ -29,31 +28,31 @@ MovedBy frame frame' i f (resolved es c n) cache cache' =
     (cache_of cache' ≡ c) × (stamp_of cache' ≡ raised (stamp_of cache)) × WentOn frame i c.made frame' × FrameOk frame' × InFrame frame' f cache' × (counter_of frame ≤ c.made)
 
 -- what an asking leaves to take
-abbrev pub LeftBy : (frame : List ℕ) (i : ℕ) (f : List ℕ) → Answer → (cache slots : List ℕ) → Left → Type 0
-LeftBy frame i f (refused n) cache slots left = left ≡ Nothing
-LeftBy frame i f (resolved es c n) cache slots left = (left ≡ Held (preview_in frame i c n cache)) × Pending f (reach_of frame i) cache slots c × (counter_of frame ≤ c.made)
+abbrev pub LeftBy : (frame : List ℕ) (i : ℕ) (f : List ℕ) → Answer → (cache slots : List ℕ) → Option FramePreview → Type 0
+LeftBy frame i f (refused n) cache slots left = left ≡ None
+LeftBy frame i f (resolved es c n) cache slots left = (left ≡ Some (preview_in frame i c n cache)) × Pending f (reach_of frame i) cache slots c × (counter_of frame ≤ c.made)
 
 -- whether it can still be taken
-abbrev pub is_fresh : (frame cache : List ℕ) → Left → Bool
-is_fresh frame cache Nothing = false
-is_fresh frame cache (Held a) = and (eqb a.stamp (stamp_of cache)) (eqb a.counter (counter_of frame))
+abbrev pub is_fresh : (frame cache : List ℕ) → Option FramePreview → Bool
+is_fresh frame cache None = false
+is_fresh frame cache (Some a) = and (eqb a.stamp (stamp_of cache)) (eqb a.counter (counter_of frame))
 
 -- where the counter is then
-abbrev pub to_of : Left → ℕ
-to_of Nothing = 0
-to_of (Held a) = a.to
+abbrev pub to_of : Option FramePreview → ℕ
+to_of None = 0
+to_of (Some a) = a.to
 
 -- the line `taken`, or that of 20; where no asking left an answer there is nothing to take, and that is said
-abbrev pub taken_text : Left → Bool → List ℕ
-taken_text Nothing fresh = 110 ∷ 111 ∷ 116 ∷ 104 ∷ 105 ∷ 110 ∷ 103 ∷ 32 ∷ 116 ∷ 111 ∷ 32 ∷ 116 ∷ 97 ∷ 107 ∷ 101 ∷ 10 ∷ []
-taken_text (Held a) true = 116 ∷ 97 ∷ 107 ∷ 101 ∷ 110 ∷ 10 ∷ []
-taken_text (Held a) false = refused_line 20
+abbrev pub taken_text : Option FramePreview → Bool → List ℕ
+taken_text None fresh = 110 ∷ 111 ∷ 116 ∷ 104 ∷ 105 ∷ 110 ∷ 103 ∷ 32 ∷ 116 ∷ 111 ∷ 32 ∷ 116 ∷ 97 ∷ 107 ∷ 101 ∷ 10 ∷ []
+taken_text (Some a) true = 116 ∷ 97 ∷ 107 ∷ 101 ∷ 110 ∷ 10 ∷ []
+taken_text (Some a) false = refused_line 20
 
 abbrev pub TakenBy : Bool → (frame frame' : List ℕ) (i to : ℕ) (slots cache cache' : List ℕ) → Type 0
 TakenBy true frame frame' i to slots cache cache' = Committed slots cache cache' to × WentOn frame i to frame' × FrameOk frame'
 TakenBy false frame frame' i to slots cache cache' = (cache' ≡ cache) × (frame' ≡ frame)
 
-module _ (frame frame' : List ℕ) (i : ℕ) (t f cache cache' slots slots' : List ℕ) (left left' : Left) (out out' : List ℕ) (len : ℕ) where
+module _ (frame frame' : List ℕ) (i : ℕ) (t f cache cache' slots slots' : List ℕ) (left left' : Option FramePreview) (out out' : List ℕ) (len : ℕ) where
   -- the rules' answer to a patch, with a list of 1,024 words lent
   abbrev pub answer_to : Given → Answer
   answer_to p = answer_of frame i t f p.free p.numbers 1024 cache

@@ -18,7 +18,6 @@ ghost use Rattle.schedule.specs.Lists.{ListAt, ListsAt, with_patch, called};
 ghost use Rattle.schedule.specs.Answered.{text_in, MovedBy, LeftBy, is_fresh, to_of, taken_text, TakenBy, AnsweredAs};
 ghost use Rattle.schedule.specs.Standing.{CanTakeIf, Stands, FrameOn};
 
-use entity::wide;
 use frame_calls::{FrameAsked, FramePreview};
 use frame_table::Frame;
 use function::Function;
@@ -28,18 +27,11 @@ use reading::Next;
 use reginfo::RegInfo;
 use slots::{EmergencySpillSlotCache, Slots};
 
-// What a formula's last asking left to take.
-#[derive(Clone, Copy)]
-pub enum Left {
-    Nothing,
-    Answer(FramePreview),
-}
-
-// How long the text of an asking's answer is, and what it left.
+// How long the text of an asking's answer is, and what it left to take; a refused one leaves nothing.
 #[derive(Drop)]
 struct Said {
     len: usize,
-    left: Left,
+    left: Option<FramePreview>,
 }
 
 // After a call: where the next one stands, the end where this one is refused as no call; how long its text is; and what is left to take.
@@ -47,7 +39,7 @@ struct Said {
 pub struct Turn {
     pub at: usize,
     pub len: usize,
-    pub left: Left,
+    pub left: Option<FramePreview>,
 }
 
 // How many free units and how many of the entries' numbers a patch has, and where the next call stands; or 01's number.
@@ -57,40 +49,13 @@ enum Lists {
     Refused(u8),
 }
 
-// It does nothing: a call tells the length of the list that is passed.
-fn told(list: [u64; 1024]) -> bool
-    ensures { length list ≡ 1024 }
-{
-    true
-}
-
-fn told_numbers(numbers: [u32; 1024]) -> bool
-    ensures { length numbers ≡ 1024 }
-{
-    true
-}
-
-fn byte(x: u8) -> usize
-    ensures { (result ≡ x) × (result < 256) }
-{
-    x as usize
-}
-
-fn long(x: u32) -> usize
-    ensures { result ≡ x }
-{
-    x as usize
-}
-
 // As many numbers as were counted, put at the front of the lent ones.
 fn read_numbers(s: &[u8], from: usize, n: usize, numbers: &mut [u32; 1024]) -> Next
     requires { n ≤ 1024 }
     ensures { NextAt (times n number) s.now from (take n numbers.new) (length numbers.new ≡ 1024) result }
 {
-    told_numbers(*numbers);
     let mut at = from;
-    let mut i: usize = 0;
-    while i < n {
+    for i in 0..n {
         match number::read(s, at) {
             Number::Refused(k) => return Next::Refused(k),
             Number::Is(x, next) => {
@@ -98,7 +63,6 @@ fn read_numbers(s: &[u8], from: usize, n: usize, numbers: &mut [u32; 1024]) -> N
                 at = next;
             }
         }
-        i += 1;
     }
     Next::At(at)
 }
@@ -109,7 +73,7 @@ pub fn read_list(s: &[u8], at: usize, numbers: &mut [u32; 1024]) -> Number
 {
     match reading::below(s, at, 1025) {
         Number::Refused(k) => Number::Refused(k),
-        Number::Is(n, from) => match read_numbers(s, from, long(n), numbers) {
+        Number::Is(n, from) => match read_numbers(s, from, n as usize, numbers) {
             Next::Refused(k) => Number::Refused(k),
             Next::At(next) => Number::Is(n, next),
         },
@@ -124,7 +88,7 @@ fn read_lists(s: &[u8], at: usize, free: &mut [u32; 1024], numbers: &mut [u32; 1
         Number::Refused(k) => Lists::Refused(k),
         Number::Is(n, then) => match read_list(s, then, numbers) {
             Number::Refused(k) => Lists::Refused(k),
-            Number::Is(m, next) => Lists::Are(long(n), long(m), next),
+            Number::Is(m, next) => Lists::Are(n as usize, m as usize, next),
         },
     }
 }
@@ -134,7 +98,7 @@ pub fn put_refused(out: &mut [u8], k: u8) -> usize
     requires { 20480 ≤ length out.old }
     ensures { Put out.old out.new 0 (refused_line k) result }
 {
-    print::put_refused(out, 0, byte(k))
+    print::put_refused(out, 0, usize::from(k))
 }
 
 // The text of a patch whose edits stand at the front of the list.
@@ -142,8 +106,7 @@ fn put_patch(out: &mut [u8], list: &[u64; 1024], count: usize, made: u16) -> usi
     requires { (20480 ≤ length out.old) × (count ≤ 1024) }
     ensures { (es : List rule.Edit) → Words (take count list.now) es → Put out.old out.new 0 (patch_text 1 es made) result }
 {
-    told(*list);
-    print::put_patch(out, 0, 1, list, count, wide(made))
+    print::put_patch(out, 0, 1, list, count, usize::from(made))
 }
 
 // Resolves a patch of formula i, with working tables of its own.
@@ -160,7 +123,6 @@ fn resolve(
     requires { Checked t.now f.now × FrameOk frame.old × (i < number_of frame.old) × InFrame frame.old f.now cache.old }
     ensures { GivesIn frame.old frame.new i f.now (answer_of frame.old i t.now f.now free.now numbers.now 1024 cache.old) result list.old list.new cache.old cache.new × (length list.new ≡ 1024) }
 {
-    told(*list);
     let mut e = [0u16; 1541];
     let mut w = [0u16; 6657];
     let mut available = [false; 512];
@@ -206,7 +168,6 @@ fn ask(
     requires { Checked t.now f.now × FrameOk frame.now × (i < number_of frame.now) × InFrame frame.now f.now cache.now }
     ensures { AsksIn frame.now i f.now (answer_of frame.now i t.now f.now free.now numbers.now 1024 cache.now) result list.old list.new cache.now slots.new × (length list.new ≡ 1024) }
 {
-    told(*list);
     let mut e = [0u16; 1541];
     let mut w = [0u16; 6657];
     let mut available = [false; 512];
@@ -276,11 +237,11 @@ fn put_asked(
     match ask(frame, i, t, f, free, numbers, cache, &mut list, slots) {
         FrameAsked::Refused(k) => Said {
             len: put_refused(out, k),
-            left: Left::Nothing,
+            left: None,
         },
         FrameAsked::Ready(n, a) => Said {
             len: put_patch(out, &list, n, a.made),
-            left: Left::Answer(a),
+            left: Some(a),
         },
     }
 }
@@ -289,7 +250,7 @@ fn put_asked(
 fn put_taken(
     frame: &mut Frame,
     i: usize,
-    left: Left,
+    left: Option<FramePreview>,
     slots: &Slots,
     cache: &mut EmergencySpillSlotCache,
     out: &mut [u8],
@@ -298,8 +259,8 @@ fn put_taken(
     ensures { Put out.old out.new 0 (taken_text left (is_fresh frame.old cache.old left)) result × TakenBy (is_fresh frame.old cache.old left) frame.old frame.new i (to_of left) slots.now cache.old cache.new }
 {
     match left {
-        Left::Nothing => print::put_text(out, 0, b"nothing to take\n"),
-        Left::Answer(a) => match frame_calls::take_in(frame, i, a, slots, cache) {
+        None => print::put_text(out, 0, b"nothing to take\n"),
+        Some(a) => match frame_calls::take_in(frame, i, a, slots, cache) {
             TakeAnswer::Refused(k) => put_refused(out, k),
             TakeAnswer::Yes => print::put_text(out, 0, b"taken\n"),
         },
@@ -307,7 +268,7 @@ fn put_taken(
 }
 
 // No call: the schedule ends.
-fn ended(s: &[u8], left: Left, out: &mut [u8], k: u8) -> Turn
+fn ended(s: &[u8], left: Option<FramePreview>, out: &mut [u8], k: u8) -> Turn
     requires { 20480 ≤ length out.old }
     ensures { Put out.old out.new 0 (refused_line k) result.len × (result.at ≡ length s.now) × (result.left ≡ left) }
 {
@@ -327,7 +288,7 @@ fn answer_patch(
     f: &Function,
     cache: &mut EmergencySpillSlotCache,
     slots: &mut Slots,
-    left: Left,
+    left: Option<FramePreview>,
     s: &[u8],
     at: usize,
     out: &mut [u8],
@@ -367,7 +328,7 @@ pub fn answer_call(
     f: &Function,
     cache: &mut EmergencySpillSlotCache,
     slots: &mut Slots,
-    left: Left,
+    left: Option<FramePreview>,
     s: &[u8],
     at: usize,
     out: &mut [u8],

@@ -13,25 +13,18 @@ ghost use Rattle.entries.specs.Table.{sorted_of};
 ghost use Rattle.examine_rules.specs.Examine.{number_of, width, no_start};
 ghost use Rattle.ties.specs.Ties.{kept, source_at, value_at, labels_in, by_source, by_value, noted_one, Kept, Noted, SameCells, TiedOne, Tied};
 
-use entity::{Allocation, Value, narrow, wide};
+use entity::{Allocation, Value};
 use entries::Entries;
 use function::Function;
 use reginfo::RegInfo;
 
 pub type Ties = [u16; 12416];
 
-// It does nothing: a call tells the length of the table that is passed.
-fn told(x: [u16; 12416]) -> bool
-    ensures { length x ≡ 12416 }
-{
-    true
-}
-
 // How many moves are kept, and of kept move m the source and the value.
 pub fn kept(e: &Entries) -> usize
     ensures { result ≡ kept e.now }
 {
-    wide(e[1024])
+    usize::from(e[1024])
 }
 
 pub fn source_at(e: &Entries, m: usize) -> Allocation
@@ -53,10 +46,9 @@ fn note_one(e: &Entries, x: &mut Ties, m: usize)
     requires { Kept e.now × (m < kept e.now) }
     ensures { (x.new ≡ noted_one e.now x.old m) × (length x.old ≡ 12416) }
 {
-    told(*x);
-    let n = narrow(m);
-    let v = wide(value_at(e, m).0);
-    let s = wide(source_at(e, m).0);
+    let n = m as u16;
+    let v = usize::from(value_at(e, m).0);
+    let s = usize::from(source_at(e, m).0);
     x[v] = n;
     x[4096 + s] = n;
     x[12288 + m] = n;
@@ -68,10 +60,8 @@ fn note(e: &Entries, x: &mut Ties)
     ensures { Noted e.now x.new × ((m : ℕ) → m < kept e.now → get_or x.new (12288 + m) 0 ≡ m) }
 {
     let n = kept(e);
-    let mut i: usize = 0;
-    while i < n {
+    for i in 0..n {
         note_one(e, x, i);
-        i += 1;
     }
 }
 
@@ -80,25 +70,16 @@ fn by_source(e: &Entries, x: &Ties, m: usize) -> usize
     requires { Kept e.now × (m < kept e.now) }
     ensures { result ≡ by_source e.now x.now m }
 {
-    let s = wide(source_at(e, m).0);
-    wide(x[4096 + s])
+    let s = usize::from(source_at(e, m).0);
+    usize::from(x[4096 + s])
 }
 
 fn by_value(e: &Entries, x: &Ties, m: usize) -> usize
     requires { Kept e.now × (m < kept e.now) }
     ensures { result ≡ by_value e.now x.now m }
 {
-    let v = wide(value_at(e, m).0);
-    wide(x[v])
-}
-
-fn lesser(a: u16, b: u16) -> u16
-    ensures { result ≡ pick (ltb a b) a b }
-{
-    if a < b {
-        return a;
-    }
-    b
+    let v = usize::from(value_at(e, m).0);
+    usize::from(x[v])
 }
 
 // What a label becomes where a and b become one.
@@ -106,10 +87,10 @@ fn joined(y: u16, a: u16, b: u16) -> u16
     ensures { result ≡ pick (or (eqb y a) (eqb y b)) (pick (ltb a b) a b) y }
 {
     if y == a {
-        return lesser(a, b);
+        return a.min(b);
     }
     if y == b {
-        return lesser(a, b);
+        return a.min(b);
     }
     y
 }
@@ -119,11 +100,8 @@ fn relabel(x: &mut Ties, n: usize, a: u16, b: u16)
     requires { n ≤ 128 }
     ensures { (labels_in x.new n ≡ join a b (labels_in x.old n)) × SameCells x.old x.new }
 {
-    told(*x);
-    let mut j: usize = 0;
-    while j < n {
+    for j in 0..n {
         x[12288 + j] = joined(x[12288 + j], a, b);
-        j += 1;
     }
 }
 
@@ -159,10 +137,8 @@ pub fn tie(e: &Entries, x: &mut Ties)
 {
     note(e, x);
     let n = kept(e);
-    let mut i: usize = 0;
-    while i < n {
+    for i in 0..n {
         tie_one(e, x, i);
-        i += 1;
     }
 }
 
@@ -183,10 +159,10 @@ pub fn number_of(e: &Entries, x: &Ties, v: Value) -> usize
     requires { Tied e.now x.now × (v.0 < 4096) }
     ensures { (result ≡ number_of (sorted_of e.now).moves v.0) × (result < 4224) }
 {
-    let at = wide(v.0);
-    let k = wide(x[at]);
+    let at = usize::from(v.0);
+    let k = usize::from(x[at]);
     if is_of(e, k, v) {
-        return wide(x[12288 + k]);
+        return usize::from(x[12288 + k]);
     }
     128 + at
 }
@@ -207,15 +183,13 @@ pub fn no_start(t: &RegInfo, f: &Function, e: &Entries, x: &Ties) -> bool
     ensures { result ≡ no_start (reg_info_of t.now) (function_of f.now) (sorted_of e.now).moves }
 {
     let n = kept(e);
-    let mut i: usize = 0;
-    while i < n {
+    for i in 0..n {
         let k = by_source(e, x, i);
         let a = width(t, f, value_at(e, i));
         let b = width(t, f, value_at(e, k));
         if a != b {
             return true;
         }
-        i += 1;
     }
     false
 }

@@ -39,17 +39,11 @@ pub struct DrawnPatch {
 }
 
 // What became of a patch, and the seed that it left.
+// Both are gone on from, by the seed, so a refused one is no `Err`.
 #[derive(Drop)]
 pub enum Tried {
     Accepted(u32),
     Refused(u32),
-}
-
-// It does nothing: a call tells the length of the table that is passed.
-fn told(tally: [u64; 263]) -> bool
-    ensures { length tally ≡ 263 }
-{
-    true
 }
 
 // The code of the place that a draw comes to.
@@ -95,21 +89,17 @@ fn draw_patch(t: &RegInfo, f: &Function, seed: u32, numbers: &mut [u32]) -> Draw
     ensures { PatchDrawn t.now f.now seed numbers.old numbers.new result }
 {
     let mut s = draws::draw(seed);
-    let mut i: usize = 0;
-    let mut left = 1 + s as usize % 16;
-    while 0 < left {
+    let n = 1 + s as usize % 16;
+    for i in 0..n {
         s = draw_move(t, f, s, numbers, i);
-        i += 1;
-        left -= 1;
     }
-    DrawnPatch { count: i, seed: s }
+    DrawnPatch { count: n, seed: s }
 }
 
 fn add(tally: &mut Tally, i: usize, n: u64)
     requires { (i < 263) × (get_or tally.old i 0 + n < 2 ^ 64) }
     ensures { (tally.new ≡ set tally.old i (get_or tally.old i 0 + n)) × (length tally.old ≡ 263) }
 {
-    told(*tally);
     tally[i] += n;
 }
 
@@ -118,12 +108,9 @@ fn count_kinds(list: &[u64], tally: &mut Tally)
     requires { (length list.now ≤ 1024) × Room 1 tally.old }
     ensures { Kinds list.now tally.old tally.new }
 {
-    told(*tally);
-    let mut i = 0;
-    while i < list.len() {
-        let kind = (list[i] % 8) as usize;
+    for word in list {
+        let kind = (*word % 8) as usize;
         tally[kind] += 1;
-        i += 1;
     }
 }
 
@@ -226,8 +213,7 @@ fn try_patch(
     ensures anything { Anything numbers.new × Anything list.new × Anything e.new × Anything w.new × Anything available.new × Anything sources.new × Anything edits.new × Anything slots.new × Anything d.new × Anything marks.new × Anything c.new }
 {
     let mut s = seed;
-    let mut left: usize = 9;
-    while 0 < left {
+    for _done in 0..9u32 {
         match try_once(
             t, f, p, s, cache, tally, numbers, list, e, w, available, sources, edits, slots, d,
             marks, c,
@@ -239,7 +225,6 @@ fn try_patch(
                 s = next;
             }
         }
-        left -= 1;
     }
     s
 }
@@ -270,21 +255,12 @@ fn try_patches(
     ensures anything { Anything numbers.new × Anything list.new × Anything e.new × Anything w.new × Anything available.new × Anything sources.new × Anything edits.new × Anything slots.new × Anything d.new × Anything marks.new × Anything c.new }
 {
     let mut s = seed;
-    let mut left = count;
-    while 0 < left {
+    for _done in 0..count {
         s = try_patch(
             t, f, p, s, cache, tally, numbers, list, e, w, available, sources, edits, slots, d,
             marks, c,
         );
-        left -= 1;
     }
-}
-
-// It does nothing: a call tells the length of the table that is passed.
-fn told_function(f: [u16; 16388]) -> bool
-    ensures { length f ≡ 16388 }
-{
-    true
 }
 
 // Writes the setting; what else the table holds stays.
@@ -292,7 +268,6 @@ fn set_kept(f: &mut Function, kept: u16)
     requires { num_values (function_of f.old) ≤ 4096 }
     ensures { function_of f.new ≡ with_kept kept (function_of f.old) }
 {
-    told_function(*f);
     f[16387] = kept;
 }
 
@@ -306,7 +281,6 @@ fn clear(tally: &mut Tally)
 fn count_evictions(tally: &mut Tally)
     ensures { (tally.new ≡ set tally.old 5 (get_or tally.old 4 0)) × (length tally.old ≡ 263) }
 {
-    told(*tally);
     tally[5] = tally[4];
 }
 

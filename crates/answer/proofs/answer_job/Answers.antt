@@ -1,7 +1,6 @@
 use Rattle.parallel_moves.proofs.Resolving.{fresh}
 use Rattle.rules.specs.Patch.{resolve}
 use Rattle.answer.proofs.Opening.{turned-away, known, all-answered}
-use borrow.Author.Rules.{rules}
 use Rattle.answer.proofs.answer_job.Goals as goal
 
 pub answer_patches-requires : goal.answer_patches-requires

@@ -1,6 +1,5 @@
 use native.Mathlib.Omega.{arith}
 use mathlib.Core.Path.{◌∙◌}
-use borrow.Author.Rules.{rules}
 use lib.ListN.{drop}
 use Rattle.reginfo.specs.Table.{reg_info_of}
 use Rattle.function.specs.Table.{function_of}
@@ -38,7 +37,7 @@ head-requires c =
     let s = c in
     let p = c.answer_patch in
     let g = called resolve s.args.t.now s.args.f.now s.args.s.now _ s.args.cache.now p.new.list p.new.cache _ _ _ _ (rw c.in-Edits.is at p.ensures.step_at) in
-    (few resolve s.args.t.now s.args.f.now s.args.s.now _ s.args.cache.now p.new.list p.new.cache resolve-bounded s.args.at _ _ _ s.requires.0 g, c.wide.ensures.1, c.wide-in-Edits.ensures.1)
+    (few resolve s.args.t.now s.args.f.now s.args.s.now _ s.args.cache.now p.new.list p.new.cache resolve-bounded s.args.at _ _ _ s.requires.0 g, omega arith, omega arith)
 
 pub offset_bounds-words-n : goal.offset_bounds-words-n
 offset_bounds-words-n c =
@@ -77,4 +76,4 @@ returns-else-from-n c =
     let b = c.behind-from in
     let p = c.answer_patch in
     let g = called resolve s.args.t.now s.args.f.now s.args.s.now _ s.args.cache.now p.new.list p.new.cache _ _ _ _ (rw c.in-Edits.is at p.ensures.step_at) in
-    record { next = next-put resolve s.args.t.now s.args.f.now s.args.s.now s.args.at s.args.words.now s.args.n b.result s.requires.2 b.ensures s.args.cache.now p.new.list p.new.cache _ _ _ g p.auto.list c.if-from-n.false (few resolve s.args.t.now s.args.f.now s.args.s.now _ s.args.cache.now p.new.list p.new.cache resolve-bounded s.args.at _ _ _ s.requires.0 g) _ _ _ c.wide.ensures.1 (c.wide.ensures.0 ∙ c.made.ensures) c.wide-in-Edits.ensures.1 c.wide-in-Edits.ensures.0 c.head.ensures; anything = (tt, tt, tt, tt, tt, tt, tt, tt, tt, tt) }
+    record { next = next-put resolve s.args.t.now s.args.f.now s.args.s.now s.args.at s.args.words.now s.args.n b.result s.requires.2 b.ensures s.args.cache.now p.new.list p.new.cache _ _ _ g p.auto.list c.if-from-n.false (few resolve s.args.t.now s.args.f.now s.args.s.now _ s.args.cache.now p.new.list p.new.cache resolve-bounded s.args.at _ _ _ s.requires.0 g) _ _ _ (omega arith) (c.from.ensures ∙ c.made.ensures) (omega arith) c.from-in-Edits.ensures c.head.ensures; anything = (tt, tt, tt, tt, tt, tt, tt, tt, tt, tt) }

@@ -1,57 +1,49 @@
-use Prim.Native.Nat.{ℕ}
+use Prim.Native.Nat.{◌+◌, ◌-◌}
 use native.Mathlib.Omega.{arith}
-use lib.ListN.{length}
-use borrow.Author.Rules.{rules}
-use mathlib.Core.Path.{ap, sym, ◌∙◌}
+use mathlib.Core.Path.{◌≡◌, refl, ◌∙◌}
 use Rattle.print.proofs.Putting.{same_length as put-length}
 use Rattle.rules.specs.Patch.{resolve}
-use Rattle.answer.specs.Whole.{rest_in}
-use Rattle.answer.proofs.Going.{Going, begun, room, refused-here, goes_on, left_over_lem, all_read}
+use Rattle.answer.proofs.Going.{begun, room, refused-here, goes_on, left_over_lem, all_read}
 use Rattle.answer.proofs.answer_patches.Goals as goal
 
-pub loop-left-init : goal.loop-left-init
-loop-left-init c = let s = c in begun resolve s.args.t.now s.args.f.now s.args.s.now _ s.args.words.now s.args.cache.now s.args.from _ (ap (λ (k : ℕ). rest_in resolve s.args.t.now s.args.f.now s.args.s.now s.args.from s.args.cache.now k (length s.args.words.now)) (sym c.long-left.ensures)) s.requires.1
+pub loop-done-init : goal.loop-done-init
+loop-done-init c = let s = c in let z : s.args.count - 0 ≡ s.args.count = omega arith in rw z (begun resolve s.args.t.now s.args.f.now s.args.s.now _ s.args.words.now s.args.cache.now s.args.from _ refl s.requires.1)
 
 pub answer_next-requires : goal.answer_next-requires
-answer_next-requires c = let s = c in let l = c.loop-left in (s.requires.0, l.invariant.cached, room resolve s.args.t.now s.args.f.now s.args.s.now _ s.args.words.now l.cache l.words l.at l.n l.left l.invariant)
+answer_next-requires c = let s = c in let l = c.loop-done in (s.requires.0, l.invariant.cached, room resolve s.args.t.now s.args.f.now s.args.s.now _ s.args.words.now l.cache l.words l.at l.n (s.args.count - l._done) l.invariant)
 
 pub shape_of-words-in-Refused : goal.shape_of-words-in-Refused
-shape_of-words-in-Refused c = c.answer_next.auto.words ∙ put-length c.loop-left.invariant.put
+shape_of-words-in-Refused c = c.answer_next.auto.words ∙ put-length c.loop-done.invariant.put
 
 pub returns-in-Refused : goal.returns-in-Refused
 returns-in-Refused c =
     let s = c in
-    let l = c.loop-left in
+    let l = c.loop-done in
     let p = c.answer_next in
-    record { wholly = refused-here resolve s.args.t.now s.args.f.now s.args.s.now _ s.args.words.now l.cache l.words l.at l.n l.left l.invariant p.new.cache p.new.words _ (omega (arith, c.loop-left-test.true)) (rw c.in-Refused.is at p.ensures.next); anything = (tt, tt, tt, tt, tt, tt, tt, tt, tt, tt, tt) }
+    record { wholly = refused-here resolve s.args.t.now s.args.f.now s.args.s.now _ s.args.words.now l.cache l.words l.at l.n (s.args.count - l._done) l.invariant p.new.cache p.new.words _ (omega (arith, c.loop-done-test.true)) (rw c.in-Refused.is at p.ensures.next); anything = (tt, tt, tt, tt, tt, tt, tt, tt, tt, tt, tt) }
 
-pub overflow_sub-left : goal.overflow_sub-left
-overflow_sub-left c = omega (arith, c.loop-left-test.true)
-
-pub loop-left-smaller : goal.loop-left-smaller
-loop-left-smaller c = omega (arith, c.loop-left-test.true)
-
-pub loop-left-preserved : goal.loop-left-preserved
-loop-left-preserved c =
+pub loop-done-preserved : goal.loop-done-preserved
+loop-done-preserved c =
     let s = c in
-    let l = c.loop-left in
+    let l = c.loop-done in
     let p = c.answer_next in
-    goes_on resolve s.args.t.now s.args.f.now s.args.s.now _ s.args.words.now l.cache l.words l.at l.n l.left l.invariant p.new.cache p.new.words _ _ (omega (arith, c.loop-left-test.true)) (rw c.in-At.is at p.ensures.next)
+    let e : s.args.count - (l._done + 1) ≡ s.args.count - l._done - 1 = omega arith in
+    rw e (goes_on resolve s.args.t.now s.args.f.now s.args.s.now _ s.args.words.now l.cache l.words l.at l.n (s.args.count - l._done) l.invariant p.new.cache p.new.words _ _ (omega (arith, c.loop-done-test.true)) (rw c.in-At.is at p.ensures.next))
 
 pub shape_of-words-then-at-s : goal.shape_of-words-then-at-s
-shape_of-words-then-at-s c = put-length c.loop-left.invariant.put
+shape_of-words-then-at-s c = put-length c.loop-done.invariant.put
 
 pub returns-then-at-s : goal.returns-then-at-s
 returns-then-at-s c =
     let s = c in
-    let l = c.loop-left in
-    record { wholly = left_over_lem resolve s.args.t.now s.args.f.now s.args.s.now _ s.args.words.now l.cache l.words l.at l.n l.left l.invariant (omega (arith, c.loop-left-test.false)) c.if-at-s.true; anything = (tt, tt, tt, tt, tt, tt, tt, tt, tt, tt, tt) }
+    let l = c.loop-done in
+    record { wholly = left_over_lem resolve s.args.t.now s.args.f.now s.args.s.now _ s.args.words.now l.cache l.words l.at l.n (s.args.count - l._done) l.invariant (omega (arith, c.loop-done-test.false)) c.if-at-s.true; anything = (tt, tt, tt, tt, tt, tt, tt, tt, tt, tt, tt) }
 
 pub shape_of-words : goal.shape_of-words
-shape_of-words c = put-length c.loop-left.invariant.put
+shape_of-words c = put-length c.loop-done.invariant.put
 
 pub returns : goal.returns
 returns c =
     let s = c in
-    let l = c.loop-left in
-    record { wholly = all_read resolve s.args.t.now s.args.f.now s.args.s.now _ s.args.words.now l.cache l.words l.at l.n l.left l.invariant (omega (arith, c.loop-left-test.false)) c.if-at-s.false; anything = (tt, tt, tt, tt, tt, tt, tt, tt, tt, tt, tt) }
+    let l = c.loop-done in
+    record { wholly = all_read resolve s.args.t.now s.args.f.now s.args.s.now _ s.args.words.now l.cache l.words l.at l.n (s.args.count - l._done) l.invariant (omega (arith, c.loop-done-test.false)) c.if-at-s.false; anything = (tt, tt, tt, tt, tt, tt, tt, tt, tt, tt, tt) }

@@ -40,7 +40,7 @@ head-requires c =
     let s = c in
     let p = c.answer_patch in
     let g = called resolve_by_groups s.args.t.now s.args.f.now s.args.s.now _ s.args.cache.now p.new.list p.new.cache _ _ _ _ (rw c.in-Edits.is at p.ensures.step_at) in
-    (few resolve_by_groups s.args.t.now s.args.f.now s.args.s.now _ s.args.cache.now p.new.list p.new.cache groups-bounded s.args.at _ _ _ s.requires.0 g, c.wide.ensures.1, c.wide-in-Edits.ensures.1)
+    (few resolve_by_groups s.args.t.now s.args.f.now s.args.s.now _ s.args.cache.now p.new.list p.new.cache groups-bounded s.args.at _ _ _ s.requires.0 g, omega arith, omega arith)
 
 pub offset_bounds-words-n : goal.offset_bounds-words-n
 offset_bounds-words-n c =
@@ -79,4 +79,4 @@ returns-else-from-n c =
     let b = c.behind-from in
     let p = c.answer_patch in
     let g = called resolve_by_groups s.args.t.now s.args.f.now s.args.s.now _ s.args.cache.now p.new.list p.new.cache _ _ _ _ (rw c.in-Edits.is at p.ensures.step_at) in
-    record { next_as = next-put resolve_by_groups s.args.t.now s.args.f.now s.args.s.now s.args.at s.args.words.now s.args.n b.result s.requires.2 b.ensures s.args.cache.now p.new.list p.new.cache _ _ _ g p.auto.list c.if-from-n.false (few resolve_by_groups s.args.t.now s.args.f.now s.args.s.now _ s.args.cache.now p.new.list p.new.cache groups-bounded s.args.at _ _ _ s.requires.0 g) _ _ _ c.wide.ensures.1 (c.wide.ensures.0 ∙ c.made.ensures) c.wide-in-Edits.ensures.1 c.wide-in-Edits.ensures.0 c.head.ensures; anything = (tt, tt, tt, tt, tt, tt, tt, tt, tt, tt); anything_2 = (tt, tt, tt, tt, tt, tt, tt) }
+    record { next_as = next-put resolve_by_groups s.args.t.now s.args.f.now s.args.s.now s.args.at s.args.words.now s.args.n b.result s.requires.2 b.ensures s.args.cache.now p.new.list p.new.cache _ _ _ g p.auto.list c.if-from-n.false (few resolve_by_groups s.args.t.now s.args.f.now s.args.s.now _ s.args.cache.now p.new.list p.new.cache groups-bounded s.args.at _ _ _ s.requires.0 g) _ _ _ (omega arith) (c.from.ensures ∙ c.made.ensures) (omega arith) c.from-in-Edits.ensures c.head.ensures; anything = (tt, tt, tt, tt, tt, tt, tt, tt, tt, tt); anything_2 = (tt, tt, tt, tt, tt, tt, tt) }

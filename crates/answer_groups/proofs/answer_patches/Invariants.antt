@@ -1,5 +1,5 @@
 -- `answer_patches` meets its contract, by the laws of crate answer.
-use Prim.Native.Nat.{ℕ}
+use Prim.Native.Nat.{◌-◌}
 use native.Mathlib.Omega.{arith}
 use lib.ListN.{length}
 use borrow.Author.Rules.{rules}
@@ -10,8 +10,5 @@ use Rattle.answer.specs.Whole.{rest_in}
 use Rattle.answer.proofs.Going.{Going, begun, room, refused-here, goes_on, left_over_lem, all_read}
 use Rattle.answer_groups.proofs.answer_patches.Given as goal
 
-abbrev pub invariant-loop-left : goal.invariant-loop-left
-invariant-loop-left l = Going resolve_by_groups l.t l.f l.s (rest_in resolve_by_groups l.t l.f l.s l.from l.initial.cache l.count (length l.initial.words)) l.initial.words l.cache l.words l.at l.n l.left
-
-abbrev pub decreases-loop-left : goal.decreases-loop-left
-decreases-loop-left l = l.left
+abbrev pub invariant-loop-done : goal.invariant-loop-done
+invariant-loop-done l = Going resolve_by_groups l.t l.f l.s (rest_in resolve_by_groups l.t l.f l.s l.from l.initial.cache l.count (length l.initial.words)) l.initial.words l.cache l.words l.at l.n (l.count - l._done)

@@ -15,7 +15,7 @@ use Rattle.answer_groups.proofs.resolve_kept.Goals as goal
 
 pub slice_bounds-resolve_groups-end : goal.slice_bounds-resolve_groups-end
 slice_bounds-resolve_groups-end c =
-    sym (length-take-le (c.long-m.result * 4) c.args.numbers.now (omega (arith, c.long-m.ensures, c.requires.3)))
+    sym (length-take-le (c.args.n * 4) c.args.numbers.now (omega (arith, c.requires.3)))
 
 pub resolve_groups-requires : goal.resolve_groups-requires
 resolve_groups-requires c =
@@ -25,9 +25,9 @@ resolve_groups-requires c =
 pub returns-in-Refused : goal.returns-in-Refused
 returns-in-Refused c =
     let a = c.args in
-    record { call_at = λ p num. call-refused a.f.now a.after a.list.now _ a.cache.now _ (resolve_by_groups (reg_info_of a.t.now) (function_of a.f.now) p (length a.list.now) (cache_of a.cache.now)) _ (rw c.in-Refused.is at (c.resolve_groups.ensures.groups p (rw c.long-m.ensures num))); anything = (tt, tt, tt, tt, tt, tt, tt, tt, tt); anything_2 = (tt, tt, tt, tt, tt, tt) }
+    record { call_at = λ p num. call-refused a.f.now a.after a.list.now _ a.cache.now _ (resolve_by_groups (reg_info_of a.t.now) (function_of a.f.now) p (length a.list.now) (cache_of a.cache.now)) _ (rw c.in-Refused.is at (c.resolve_groups.ensures.groups p num)); anything = (tt, tt, tt, tt, tt, tt, tt, tt, tt); anything_2 = (tt, tt, tt, tt, tt, tt) }
 
 pub returns-in-Edits : goal.returns-in-Edits
 returns-in-Edits c =
     let a = c.args in
-    record { call_at = λ p num. call-edits a.f.now a.after a.list.now _ a.cache.now _ (resolve_by_groups (reg_info_of a.t.now) (function_of a.f.now) p (length a.list.now) (cache_of a.cache.now)) _ _ (rw c.in-Edits.is at (c.resolve_groups.ensures.groups p (rw c.long-m.ensures num))); anything = (tt, tt, tt, tt, tt, tt, tt, tt, tt); anything_2 = (tt, tt, tt, tt, tt, tt) }
+    record { call_at = λ p num. call-edits a.f.now a.after a.list.now _ a.cache.now _ (resolve_by_groups (reg_info_of a.t.now) (function_of a.f.now) p (length a.list.now) (cache_of a.cache.now)) _ _ (rw c.in-Edits.is at (c.resolve_groups.ensures.groups p num)); anything = (tt, tt, tt, tt, tt, tt, tt, tt, tt); anything_2 = (tt, tt, tt, tt, tt, tt) }

@@ -10,7 +10,7 @@ pub resolve_kept-requires : goal.resolve_kept-requires
 resolve_kept-requires c =
     let pre = c.requires in
     let k = rw c.in-Is.is at c.read_numbers.ensures in
-    (pre.0, pre.1, k.few, omega (arith, k.few, c.told.ensures))
+    (pre.0, pre.1, k.few, omega (arith, k.few, c.told-numbers))
 
 pub returns-in-Refused : goal.returns-in-Refused
 returns-in-Refused c =

@@ -1,7 +1,6 @@
 -- `clear` meets its contract: every mark is 0, and every unit holds its number.
 use mathlib.Core.Path.{◌∙◌}
 use native.Mathlib.Omega.{arith}
-use borrow.Author.Rules.{rules}
 use Rattle.cells.proofs.Laws.{blank-is}
 use Rattle.cells.proofs.clear.Goals as goal
 

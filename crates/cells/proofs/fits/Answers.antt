@@ -3,15 +3,9 @@ use mathlib.Core.Path.{sym, ◌∙◌}
 use Rattle.machine.specs.Machine.{fits}
 use Rattle.cells.proofs.fits.Goals as goal
 
-pub is_memory-requires : goal.is_memory-requires
-is_memory-requires c = c.requires.known
-
 pub returns-then-is_memory : goal.returns-then-is_memory
 unfolding fits
 returns-then-is_memory c = λ f. rw (sym c.is_memory.ensures ∙ c.if-is_memory.true)
-
-pub num_place_units-requires : goal.num_place_units-requires
-num_place_units-requires c = c.requires.known
 
 pub returns : goal.returns
 unfolding fits

@@ -1,15 +1,8 @@
 -- `load` meets its contract: the words below the index stand in the list.
-use Prim.Native.Nat.{ℕ, ◌+◌, ◌-◌, ◌<◌, ◌≤◌}
-use mathlib.Core.Path.{◌≡◌, refl}
-use native.Mathlib.Omega.{arith}
+use Prim.Native.Nat.{ℕ, ◌+◌, ◌<◌, ◌≤◌}
+use mathlib.Core.Path.{◌≡◌}
 use lib.ListN.{length, get_or}
-use borrow.Author.Rules.{rules}
-use lib.ListN.{length-set}
-use Rattle.cells.proofs.Laws.{words_are, count-is, set_below}
 use Rattle.cells.proofs.load.Given as goal
 
 abbrev pub invariant-loop-j : goal.invariant-loop-j
 invariant-loop-j l = (length l.b ≡ 10) × ((k : ℕ) → k < l.j → get_or l.b (1 + k) 0 ≡ get_or l.c (l.from + k) 0) × (l.j ≤ l.n)
-
-abbrev pub decreases-loop-j : goal.decreases-loop-j
-decreases-loop-j l = l.n - l.j

@@ -1,6 +1,5 @@
 -- `word_at` meets its contract: it stands at its cell.
 use mathlib.Core.Path.{sym}
-use borrow.Author.Rules.{rules}
 use Rattle.cells.proofs.Laws.{word_of}
 use Rattle.cells.proofs.word_at.Goals as goal
 

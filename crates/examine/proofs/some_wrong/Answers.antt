@@ -5,7 +5,6 @@ use native.Mathlib.Omega.{arith}
 use Rattle.entity.specs.Logic.{or}
 use Rattle.reginfo.specs.Table.{reg_info_of}
 use Rattle.function.specs.Table.{function_of}
-use Rattle.rules.specs.Patch.{sorted}
 use Rattle.entries.specs.Table.{sorted_of}
 use Rattle.examine_rules.specs.Examine.{generic_content}
 use Rattle.cells.specs.Cells.{memory_of}
@@ -16,9 +15,6 @@ use Rattle.examine.proofs.some_wrong.Goals as goal
 
 pub kept_wrong-requires : goal.kept_wrong-requires
 kept_wrong-requires c = let s = c in (s.requires.0, s.requires.2, s.requires.3, kept-ending s.args.t.now s.args.f.now s.requires.0 s.args.e.now s.requires.1.sorted)
-
-pub returns-then-kept_wrong : goal.returns-then-kept_wrong
-returns-then-kept_wrong c = let s = c in (sym (ap (λ (z : Bool). or z (or (remats_wrong (reg_info_of s.args.t.now) (function_of s.args.f.now) (generic_content (reg_info_of s.args.t.now) (function_of s.args.f.now) (sorted_of s.args.e.now).moves) (memory_of s.args.c.now) (sorted_of s.args.e.now).remats) (remats_wrong (reg_info_of s.args.t.now) (function_of s.args.f.now) (generic_content (reg_info_of s.args.t.now) (function_of s.args.f.now) (sorted_of s.args.e.now).moves) (memory_of s.args.c.now) (sorted_of s.args.e.now).remats_with_scratch))) (sym c.kept_wrong.ensures.0 ∙ c.if-kept_wrong.true)), tt, tt)
 
 pub remats_wrong-requires : goal.remats_wrong-requires
 remats_wrong-requires c = let s = c in (s.requires.0, s.requires.2, s.requires.3, omega arith, omega arith, (few-of s.args.t.now s.args.f.now s.args.e.now s.args.w.now s.requires.1).1, remats-ending s.args.t.now s.args.f.now s.requires.0 s.args.e.now s.requires.1.sorted)

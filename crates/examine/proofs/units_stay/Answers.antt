@@ -1,5 +1,5 @@
 use Prim.Native.Nat.{◌+◌, ◌-◌}
-use mathlib.Core.Path.{◌≡◌, refl, sym, ap, ◌∙◌}
+use mathlib.Core.Path.{◌≡◌, sym, ap, ◌∙◌}
 use mathlib.Core.Bool.{Bool}
 use native.Mathlib.Omega.{arith}
 use borrow.Author.Tests.{not-true, not-false}
@@ -9,26 +9,11 @@ use Rattle.examine.specs.Ends.{unit_stays}
 use Rattle.examine.proofs.Laws.{all-index, all_none}
 use Rattle.examine.proofs.units_stay.Goals as goal
 
-pub loop-left-init : goal.loop-left-init
-loop-left-init c = (refl, refl)
-
-pub unit_stays-requires : goal.unit_stays-requires
-unit_stays-requires c = let s = c in let l = c.loop-left in (s.requires.0, s.requires.1, s.requires.2, omega (arith, l.invariant.1, c.loop-left-test.true))
-
 pub returns-then-not-unit_stays : goal.returns-then-not-unit_stays
-returns-then-not-unit_stays c = let s = c in let l = c.loop-left in (sym (l.invariant.0 ∙ all-index (unit_stays (memory_of s.args.s.now) (memory_of s.args.c.now) s.args.w.now s.args.free.now) l.u l.left c.loop-left-test.true ∙ ap (λ (z : Bool). and z (all_in (unit_stays (memory_of s.args.s.now) (memory_of s.args.c.now) s.args.w.now s.args.free.now) (indices (l.u + 1) (l.left - 1)))) (sym c.unit_stays.ensures.0 ∙ not-true c.unit_stays.result c.if-not-unit_stays.true-raw)), tt, tt)
+returns-then-not-unit_stays c = let s = c in let l = c.loop-u in (sym (l.invariant.0 ∙ all-index (unit_stays (memory_of s.args.s.now) (memory_of s.args.c.now) s.args.w.now s.args.free.now) l.u (512 - l.u) (omega (arith, c.loop-u-test.true)) ∙ ap (λ (z : Bool). and z (all_in (unit_stays (memory_of s.args.s.now) (memory_of s.args.c.now) s.args.w.now s.args.free.now) (indices (l.u + 1) ((512 - l.u) - 1)))) (sym c.unit_stays.ensures.0 ∙ not-true c.unit_stays.result c.if-not-unit_stays.true-raw)), tt, tt)
 
-pub overflow_add-u : goal.overflow_add-u
-overflow_add-u c = omega (arith, c.loop-left.invariant.1)
-
-pub overflow_sub-left : goal.overflow_sub-left
-overflow_sub-left c = omega arith
-
-pub loop-left-smaller : goal.loop-left-smaller
-loop-left-smaller c = omega arith
-
-pub loop-left-preserved : goal.loop-left-preserved
-loop-left-preserved c = let s = c in let l = c.loop-left in (l.invariant.0 ∙ all-index (unit_stays (memory_of s.args.s.now) (memory_of s.args.c.now) s.args.w.now s.args.free.now) l.u l.left c.loop-left-test.true ∙ ap (λ (z : Bool). and z (all_in (unit_stays (memory_of s.args.s.now) (memory_of s.args.c.now) s.args.w.now s.args.free.now) (indices (l.u + 1) (l.left - 1)))) (sym c.unit_stays.ensures.0 ∙ not-false c.unit_stays.result c.if-not-unit_stays.false-raw), omega (arith, l.invariant.1, c.loop-left-test.true))
+pub loop-u-preserved : goal.loop-u-preserved
+loop-u-preserved c = let s = c in let l = c.loop-u in let z : (512 - l.u) - 1 ≡ 512 - (l.u + 1) = omega arith in rw (← z) (l.invariant.0 ∙ all-index (unit_stays (memory_of s.args.s.now) (memory_of s.args.c.now) s.args.w.now s.args.free.now) l.u (512 - l.u) (omega (arith, c.loop-u-test.true)) ∙ ap (λ (z : Bool). and z (all_in (unit_stays (memory_of s.args.s.now) (memory_of s.args.c.now) s.args.w.now s.args.free.now) (indices (l.u + 1) ((512 - l.u) - 1)))) (sym c.unit_stays.ensures.0 ∙ not-false c.unit_stays.result c.if-not-unit_stays.false-raw), omega (arith, l.invariant.1, c.loop-u-test.true))
 
 pub returns : goal.returns
-returns c = let s = c in let l = c.loop-left in (sym (l.invariant.0 ∙ all_none (unit_stays (memory_of s.args.s.now) (memory_of s.args.c.now) s.args.w.now s.args.free.now) l.u l.left (omega arith)), tt, tt)
+returns c = let s = c in let l = c.loop-u in (sym (l.invariant.0 ∙ all_none (unit_stays (memory_of s.args.s.now) (memory_of s.args.c.now) s.args.w.now s.args.free.now) l.u (512 - l.u) (omega arith)), tt, tt)

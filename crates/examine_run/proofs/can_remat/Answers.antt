@@ -1,6 +1,5 @@
 -- `can_rebuild` meets its contract: the value has a class, and the class the place.
 use mathlib.Core.Path.{sym, ap, ◌∙◌}
-use borrow.Author.Rules.{rules}
 use Rattle.function.specs.Table.{function_of}
 use Rattle.function.specs.Answers.{remat_of}
 use Rattle.function.proofs.Laws.{never-remat, remat-known}

@@ -1,6 +1,5 @@
 -- `do_reload` meets its contract: the slot's list is put.
 use mathlib.Core.Path.{ap, ◌∙◌}
-use native.Mathlib.Omega.{arith}
 use Rattle.entity.specs.Place.{reg, slot, place_at}
 use Rattle.entity.proofs.Laws.{place-there}
 use Rattle.reginfo.specs.Table.{reg_info_of}
@@ -9,14 +8,8 @@ use Rattle.cells.specs.Cells.{memory_of}
 use Rattle.examine_run.proofs.Laws.{reload-is}
 use Rattle.examine_run.proofs.do_reload.Goals as goal
 
-pub spillslot-requires : goal.spillslot-requires
-spillslot-requires c = let s = c in omega (arith, s.requires.3)
-
 pub read-requires : goal.read-requires
 read-requires c = let s = c in (s.requires.0, rw (c.spillslot.ensures, place-there (slot s.args.s.0)) s.requires.1)
-
-pub reg-requires : goal.reg-requires
-reg-requires c = let s = c in omega (arith, s.requires.4)
 
 pub put_if-requires : goal.put_if-requires
 put_if-requires c = let s = c in (s.requires.0, rw (c.reg.ensures, place-there (reg s.args.r.0)) s.requires.2, c.read.ensures.1)

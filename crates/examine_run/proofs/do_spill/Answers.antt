@@ -1,23 +1,16 @@
 -- `do_spill` meets its contract: the register's words are put.
 use mathlib.Core.Path.{sym, ap, ◌∙◌}
-use native.Mathlib.Omega.{arith}
 use mathlib.Core.Bool.{false≢true}
 use Rattle.entity.specs.Place.{reg, slot, place_at}
 use Rattle.entity.proofs.Laws.{place-there}
 use Rattle.reginfo.specs.Table.{reg_info_of}
-use Rattle.machine.specs.Machine.{read, write}
+use Rattle.machine.specs.Machine.{read}
 use Rattle.cells.specs.Cells.{memory_of}
 use Rattle.examine_run.proofs.Laws.{spill-is}
 use Rattle.examine_run.proofs.do_spill.Goals as goal
 
-pub reg-requires : goal.reg-requires
-reg-requires c = let s = c in omega (arith, s.requires.4)
-
 pub read-requires : goal.read-requires
 read-requires c = let s = c in (s.requires.0, rw (c.reg.ensures, place-there (reg s.args.r.0)) s.requires.2)
-
-pub spillslot-requires : goal.spillslot-requires
-spillslot-requires c = let s = c in omega (arith, s.requires.3)
 
 pub write-requires : goal.write-requires
 write-requires c = let s = c in (s.requires.0, rw (c.spillslot.ensures, place-there (slot s.args.s.0)) s.requires.1, c.read.ensures.1, rw (c.spillslot.ensures, place-there (slot s.args.s.0)) (λ z. absurd (false≢true (sym z))))

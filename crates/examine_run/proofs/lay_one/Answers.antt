@@ -2,7 +2,6 @@
 use Prim.Native.Nat.{ℕ}
 use mathlib.Core.Path.{◌≡◌, sym, ap, ap₂, ◌∙◌}
 use mathlib.Core.List.{List}
-use native.Mathlib.Omega.{arith}
 use lib.ListN.{get_or}
 use Rattle.entity.specs.Place.{Place, place_at}
 use Rattle.reginfo.specs.Table.{reg_info_of}
@@ -15,12 +14,6 @@ use Rattle.cells.specs.Cells.{memory_of}
 use Rattle.ties.proofs.Laws.{source_is, value-is}
 use Rattle.examine_run.proofs.Laws.{value_there, source-celled, source-takes}
 use Rattle.examine_run.proofs.lay_one.Goals as goal
-
-pub value_at-v-requires : goal.value_at-v-requires
-value_at-v-requires c = omega (arith, c.requires.1.known.few, c.requires.4)
-
-pub source_at-p-requires : goal.source_at-p-requires
-source_at-p-requires c = omega (arith, c.requires.1.known.few, c.requires.4)
 
 pub content-requires : goal.content-requires
 content-requires c = let s = c in (s.requires.0, s.requires.1, rw c.value_at-v.ensures (value_there s.args.t.now s.args.f.now s.requires.0 s.args.e.now s.requires.2 s.args.m s.requires.4))

@@ -1,7 +1,6 @@
 -- `is_move` meets its contract: its places, its value, its word.
 use mathlib.Core.Path.{sym, ◌∙◌}
 use native.Mathlib.Omega.{arith}
-use borrow.Author.Rules.{rules}
 use borrow.Author.Tests.{not-true, not-false, ltb-true}
 use Rattle.function.specs.Function.{num_values}
 use Rattle.function.specs.Table.{function_of}
@@ -12,9 +11,6 @@ use Rattle.examine_words.proofs.is_move.Goals as goal
 pub returns-then-not-names : goal.returns-then-not-names
 unfolding named
 returns-then-not-names c = rw (← c.names.ensures, not-true c.names.result c.if-not-names.true-raw)
-
-pub names-requires-2 : goal.names-requires-2
-names-requires-2 c = c.requires
 
 pub returns-then-not-names-2 : goal.returns-then-not-names-2
 unfolding named

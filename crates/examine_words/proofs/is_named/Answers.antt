@@ -1,23 +1,20 @@
 -- `is_named` meets its contract: by what is read.
-use mathlib.Core.Path.{sym, ap, ◌∙◌}
-use borrow.Author.Rules.{rules}
 use Rattle.reginfo.specs.Table.{reg_info_of}
 use Rattle.function.specs.Table.{function_of}
-use Rattle.edit.specs.Read.{read_of}
 use Rattle.examine_words.proofs.Laws.{named-word, named_none}
 use Rattle.examine_words.proofs.is_named.Goals as goal
 
-pub returns-in-Move : goal.returns-in-Move
-returns-in-Move c = let s = c in c.is_move.ensures ∙ named-word (reg_info_of s.args.t.now) (function_of s.args.f.now) s.args.most s.args.word _ (sym (ap read_of c.in-Move.is) ∙ c.read.ensures)
+pub returns-in-Some-Move : goal.returns-in-Some-Move
+returns-in-Some-Move c = rw c.is_move.ensures (named-word (reg_info_of c.args.t.now) (function_of c.args.f.now) c.args.most c.args.word _ (rw c.in-Some-Move.field-0-is at c.in-Some-Move.ensures))
 
-pub returns-in-Rematerialize : goal.returns-in-Rematerialize
-returns-in-Rematerialize c = let s = c in c.is_remat.ensures ∙ named-word (reg_info_of s.args.t.now) (function_of s.args.f.now) s.args.most s.args.word _ (sym (ap read_of c.in-Rematerialize.is) ∙ c.read.ensures)
+pub returns-in-Some-Rematerialize : goal.returns-in-Some-Rematerialize
+returns-in-Some-Rematerialize c = rw c.is_remat.ensures (named-word (reg_info_of c.args.t.now) (function_of c.args.f.now) c.args.most c.args.word _ (rw c.in-Some-Rematerialize.field-0-is at c.in-Some-Rematerialize.ensures))
 
-pub returns-in-EmergencySpill : goal.returns-in-EmergencySpill
-returns-in-EmergencySpill c = let s = c in c.is_spill.ensures ∙ named-word (reg_info_of s.args.t.now) (function_of s.args.f.now) s.args.most s.args.word _ (sym (ap read_of c.in-EmergencySpill.is) ∙ c.read.ensures)
+pub returns-in-Some-EmergencySpill : goal.returns-in-Some-EmergencySpill
+returns-in-Some-EmergencySpill c = rw c.is_spill.ensures (named-word (reg_info_of c.args.t.now) (function_of c.args.f.now) c.args.most c.args.word _ (rw c.in-Some-EmergencySpill.field-0-is at c.in-Some-EmergencySpill.ensures))
 
-pub returns-in-EmergencyReload : goal.returns-in-EmergencyReload
-returns-in-EmergencyReload c = let s = c in c.is_reload.ensures ∙ named-word (reg_info_of s.args.t.now) (function_of s.args.f.now) s.args.most s.args.word _ (sym (ap read_of c.in-EmergencyReload.is) ∙ c.read.ensures)
+pub returns-in-Some-EmergencyReload : goal.returns-in-Some-EmergencyReload
+returns-in-Some-EmergencyReload c = rw c.is_reload.ensures (named-word (reg_info_of c.args.t.now) (function_of c.args.f.now) c.args.most c.args.word _ (rw c.in-Some-EmergencyReload.field-0-is at c.in-Some-EmergencyReload.ensures))
 
-pub returns-in-Nothing : goal.returns-in-Nothing
-returns-in-Nothing c = let s = c in named_none (reg_info_of s.args.t.now) (function_of s.args.f.now) s.args.most s.args.word (sym (ap read_of c.in-Nothing.is) ∙ c.read.ensures)
+pub returns-in-None : goal.returns-in-None
+returns-in-None c = named_none (reg_info_of c.args.t.now) (function_of c.args.f.now) c.args.most c.args.word c.in-None.ensures

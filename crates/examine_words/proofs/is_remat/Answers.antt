@@ -1,7 +1,6 @@
 -- `is_remat` meets its contract: its place, its value, its word.
 use mathlib.Core.Path.{sym, ◌∙◌}
 use native.Mathlib.Omega.{arith}
-use borrow.Author.Rules.{rules}
 use borrow.Author.Tests.{not-true, not-false, ltb-true}
 use Rattle.function.specs.Function.{num_values}
 use Rattle.function.specs.Table.{function_of}

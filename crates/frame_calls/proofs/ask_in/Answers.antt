@@ -1,6 +1,5 @@
 use Rattle.frame_table.proofs.Held.{own-low}
 use Rattle.frame_calls.proofs.Laws.{granted-ok, few, asked-on, refused-asking, accepted-asking}
-use borrow.Author.Rules.{rules}
 use Rattle.frame_calls.proofs.ask_in.Goals as goal
 
 pub ask_granted-requires : goal.ask_granted-requires

@@ -1,6 +1,5 @@
 use mathlib.Core.Path.{◌∙◌}
 use Rattle.frame_calls.proofs.Opening.{least_first, least_other}
-use borrow.Author.Rules.{rules}
 use Rattle.frame_calls.proofs.least_slots.Goals as goal
 
 pub returns-then-i-eq0 : goal.returns-then-i-eq0

@@ -1,6 +1,5 @@
 use mathlib.Core.Path.{◌∙◌}
 use Rattle.frame_calls.proofs.Opening.{most-first, most_other}
-use borrow.Author.Rules.{rules}
 use Rattle.frame_calls.proofs.most_slots.Goals as goal
 
 pub returns-then-i-eq0 : goal.returns-then-i-eq0

@@ -1,5 +1,4 @@
 use Rattle.frame_calls.proofs.Opening.{most-low, not_opened, left_over, low-slots, all_read}
-use borrow.Author.Rules.{rules}
 use Rattle.frame_calls.proofs.open_in.Goals as goal
 
 pub read_beginning_within-requires : goal.read_beginning_within-requires

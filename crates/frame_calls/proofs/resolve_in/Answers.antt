@@ -1,6 +1,5 @@
 use Rattle.frame_table.proofs.Held.{own-low}
 use Rattle.frame_calls.proofs.Laws.{granted-ok, few, led_on, refused-call, accepted-call}
-use borrow.Author.Rules.{rules}
 use Rattle.frame_calls.proofs.resolve_in.Goals as goal
 
 pub resolve_granted-requires : goal.resolve_granted-requires

@@ -2,7 +2,6 @@ use mathlib.Core.Path.{◌∙◌}
 use native.Mathlib.Omega.{arith}
 use Rattle.frame_table.proofs.Held.{own-low}
 use Rattle.frame_calls.proofs.Laws.{counter-other, same-counter, stamp-other, stamp-same, taken}
-use borrow.Author.Rules.{rules}
 use Rattle.frame_calls.proofs.take_in.Goals as goal
 
 pub returns-then-counter-a : goal.returns-then-counter-a

@@ -1,13 +1,9 @@
-use Prim.Native.Nat.{◌-◌, ◌≤◌}
 use native.Mathlib.Omega.{arith}
-use lib.ListN.{length}
-use borrow.Author.Rules.{rules}
-use Rattle.frame_table.specs.Opening.{sum_of}
-use Rattle.frame_table.proofs.Laws.{Filling, filling-start, filling_step, filling-end, share-low}
+use Rattle.frame_table.proofs.Laws.{filling-start, filling_step, filling-end, share-low}
 use Rattle.frame_table.proofs.fill.Goals as goal
 
 pub loop-i-init : goal.loop-i-init
-loop-i-init c = let s = c in (filling-start s.args.limit s.args.shares.now s.args.frame.now c.told.ensures, s.requires.0, s.requires.1, omega arith)
+loop-i-init c = let s = c in (filling-start s.args.limit s.args.shares.now s.args.frame.now c.told-frame, s.requires.0, s.requires.1, omega arith)
 
 pub overflow_cast-frame-in-loop-i : goal.overflow_cast-frame-in-loop-i
 overflow_cast-frame-in-loop-i c = let s = c in let l = c.loop-i in omega (arith, share-low s.args.shares.now l.i, l.invariant.2)

@@ -1,5 +1,4 @@
 use mathlib.Core.Path.{◌∙◌}
-use borrow.Author.Rules.{rules}
 use Rattle.frame_table.proofs.Laws.{beside-own, beside-other}
 use Rattle.frame_table.proofs.lacks_beside.Goals as goal
 

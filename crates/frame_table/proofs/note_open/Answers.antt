@@ -1,8 +1,7 @@
 use Rattle.frame_table.proofs.Laws.{one-opened}
-use borrow.Author.Rules.{rules}
 use Rattle.frame_table.proofs.note_open.Goals as goal
 
 pub returns : goal.returns
 returns c =
     let start = c in
-    rw c.narrow.ensures (one-opened start.args.frame.now start.args.i c.told.ensures)
+    one-opened start.args.frame.now start.args.i c.told-frame

@@ -1,6 +1,5 @@
 -- Each condition in its turn.
 use mathlib.Core.Path.{refl, sym, ◌∙◌}
-use borrow.Author.Rules.{rules}
 use borrow.Author.Tests.{not-true, not-false, leb-true, leb-false}
 use Rattle.frame_table.proofs.Laws.{no-formula, too_many, limit-over, shares-above, none-refused}
 use Rattle.frame_table.proofs.open_frame.Goals as goal

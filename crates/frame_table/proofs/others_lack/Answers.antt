@@ -1,33 +1,24 @@
-use Prim.Native.Nat.{◌-◌, ◌*◌, ◌≤◌}
 use mathlib.Core.Path.{◌≡◌, sym, ◌∙◌}
 use native.Mathlib.Omega.{arith}
-use borrow.Author.Rules.{rules}
-use Rattle.rules.specs.Counts.{sum}
 use Rattle.frame_table.specs.Table.{number_of, lacks_beside}
 use Rattle.frame_table.proofs.Laws.{sum-none, sum_more, others-lack-is}
 use Rattle.frame_table.proofs.others_lack.Goals as goal
 
 pub loop-j-init : goal.loop-j-init
-loop-j-init c = let s = c in (c.wide-n.ensures.0, sym (sum-none (lacks_beside s.args.frame.now s.args.i)), omega arith, omega (arith, c.wide-n.ensures.0, s.requires), omega arith)
+loop-j-init c = let s = c in (c.from-n.ensures, sym (sum-none (lacks_beside s.args.frame.now s.args.i)), omega arith, omega (arith, c.from-n.ensures, s.requires), omega arith)
 
 pub lacks_beside-requires : goal.lacks_beside-requires
 lacks_beside-requires c = omega (arith, c.loop-j-test.true, c.loop-j.invariant.3)
 
 pub overflow_add-sum : goal.overflow_add-sum
-overflow_add-sum c = let l = c.loop-j in omega (arith, c.wide-sum.ensures.1, l.invariant.4, l.invariant.3, l.invariant.2)
-
-pub overflow_add-j : goal.overflow_add-j
-overflow_add-j c = let l = c.loop-j in omega (arith, l.invariant.3, l.invariant.2)
-
-pub loop-j-smaller : goal.loop-j-smaller
-loop-j-smaller c = omega (arith, c.loop-j-test.true)
+overflow_add-sum c = let l = c.loop-j in omega (arith, l.invariant.4, l.invariant.3, l.invariant.2)
 
 pub loop-j-preserved : goal.loop-j-preserved
 loop-j-preserved c =
     let l = c.loop-j in
     let s = c in
     let more = sum_more (lacks_beside s.args.frame.now s.args.i) l.j in
-    (l.invariant.0, omega (arith, c.wide-sum.ensures.0, c.lacks_beside.ensures, l.invariant.1, more), omega (arith, c.loop-j-test.true), l.invariant.3, omega (arith, l.invariant.4, c.wide-sum.ensures.1))
+    (l.invariant.0, omega (arith, c.from-sum.ensures, c.lacks_beside.ensures, l.invariant.1, more), omega (arith, c.loop-j-test.true), l.invariant.3, omega (arith, l.invariant.4))
 
 pub returns : goal.returns
 returns c =

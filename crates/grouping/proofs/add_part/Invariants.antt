@@ -1,20 +1,13 @@
 -- `add_part` meets its contract: entry by entry of the group.
-use mathlib.Core.Path.{◌∙◌}
-use native.Mathlib.Omega.{arith}
-use Prim.Native.Nat.{◌+◌, ◌-◌}
+use Prim.Native.Nat.{◌-◌}
 use mathlib.Core.List.{List}
 use Rattle.reginfo.specs.Table.{reg_info_of}
 use Rattle.rules.specs.Patch.{Entry}
-use Rattle.group_rules.specs.Groups.{near}
-use Rattle.group_rules.specs.Refusals.{no_entry}
-use Rattle.group_rules.proofs.Labelled.{labelled}
-use Rattle.group_rules.proofs.Parts.{near-comm}
 use Rattle.parallel_moves.specs.Given.{entries_of}
 use Rattle.groups.specs.Given.{count_of, labels_in}
-use Rattle.groups.proofs.Entries.{how-many, inside, at}
-use Rattle.groups.proofs.Chain.{rest, At, at_next, at-end, at_first}
-use Rattle.grouping.proofs.Adding.{entry-is, owned, Adding, adding-start, adding-more, adding-stop, part-stopped, part-added}
-use borrow.Author.Rules.{rules}
+use Rattle.groups.proofs.Entries.{at}
+use Rattle.groups.proofs.Chain.{At}
+use Rattle.grouping.proofs.Adding.{owned, Adding}
 use Rattle.grouping.proofs.add_part.Given as goal
 
 abbrev pub invariant-loop-k : goal.invariant-loop-k

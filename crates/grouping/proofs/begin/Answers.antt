@@ -1,6 +1,5 @@
 -- `begin` meets its contract.
 use mathlib.Core.Path.{◌∙◌}
-use borrow.Author.Rules.{rules}
 use Rattle.grouping.proofs.begin.Goals as goal
 
 pub copy_stacks-requires : goal.copy_stacks-requires

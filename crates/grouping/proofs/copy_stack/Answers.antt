@@ -1,9 +1,6 @@
 use mathlib.Core.Path.{◌≡◌, refl, sym, ◌∙◌}
 use native.Mathlib.Omega.{arith}
-use Prim.Native.Nat.{◌-◌, ◌≤◌}
-use Rattle.slots.specs.Stacks.{depth_of}
-use Rattle.grouping.proofs.Copying.{Copying, copying-start, copying-more, copied}
-use borrow.Author.Rules.{rules}
+use Rattle.grouping.proofs.Copying.{copying-start, copying-more, copied}
 use Rattle.grouping.proofs.copy_stack.Goals as goal
 
 pub offset_bounds-from-z : goal.offset_bounds-from-z
@@ -13,7 +10,7 @@ pub bounds-from-z : goal.bounds-from-z
 bounds-from-z c = omega (arith, c.requires.1)
 
 pub loop-i-init : goal.loop-i-init
-loop-i-init c = (omega arith, c.wide-depth.ensures.0, copying-start _ _ _ c.told_cache.ensures)
+loop-i-init c = (omega arith, c.from-depth.ensures, copying-start _ _ _ c.told-to)
 
 pub overflow_mul-to : goal.overflow_mul-to
 overflow_mul-to c =
@@ -75,26 +72,11 @@ bounds-to-z c =
     let args = c.args in
     let l = c.loop-i in let d = pre.0.deep args.z pre.1 in omega (arith, l.invariant.1, d, pre.1, c.loop-i-test.true)
 
-pub overflow_add-i : goal.overflow_add-i
-overflow_add-i c =
-    let pre = c.requires in
-    let args = c.args in
-    let l = c.loop-i in let d = pre.0.deep args.z pre.1 in omega (arith, l.invariant.1, d, pre.1, c.loop-i-test.true)
-
-pub loop-i-smaller : goal.loop-i-smaller
-loop-i-smaller c = omega (arith, c.loop-i-test.true)
-
 pub loop-i-preserved : goal.loop-i-preserved
 loop-i-preserved c =
     let pre = c.requires in
     let args = c.args in
     let l = c.loop-i in let d = pre.0.deep args.z pre.1 in (omega (arith, c.loop-i-test.true), l.invariant.1, copying-more _ _ l.to args.z l.i _ pre.1 (omega (arith, l.invariant.1, d, c.loop-i-test.true)) refl l.invariant.2)
-
-pub narrow-requires : goal.narrow-requires
-narrow-requires c =
-    let pre = c.requires in
-    let args = c.args in
-    let l = c.loop-i in let d = pre.0.deep args.z pre.1 in omega (arith, l.invariant.1, d)
 
 pub offset_bounds-to-z-2 : goal.offset_bounds-to-z-2
 offset_bounds-to-z-2 c =
@@ -110,4 +92,4 @@ pub returns : goal.returns
 returns c =
     let pre = c.requires in
     let args = c.args in
-    let l = c.loop-i in let d = pre.0.deep args.z pre.1 in let e : l.i ≡ c.wide-depth.result = omega (arith, l.invariant.0, c.loop-i-test.false) in copied _ _ l.to args.z l.i _ pre.1 (e ∙ l.invariant.1) (omega (arith, l.invariant.1, d, e)) (c.narrow.ensures ∙ sym e) l.invariant.2
+    let l = c.loop-i in let d = pre.0.deep args.z pre.1 in let e : l.i ≡ c.from-depth.result = omega (arith, l.invariant.0, c.loop-i-test.false) in copied _ _ l.to args.z l.i _ pre.1 (e ∙ l.invariant.1) (omega (arith, l.invariant.1, d, e)) (sym e) l.invariant.2

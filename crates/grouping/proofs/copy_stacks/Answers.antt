@@ -1,8 +1,6 @@
 use mathlib.Core.Path.{◌≡◌}
 use native.Mathlib.Omega.{arith}
-use Prim.Native.Nat.{◌-◌, ◌≤◌}
-use Rattle.grouping.proofs.Copying.{Copies, copies-start, copies-more, copies-end}
-use borrow.Author.Rules.{rules}
+use Rattle.grouping.proofs.Copying.{copies-start, copies-more, copies-end}
 use Rattle.grouping.proofs.copy_stacks.Goals as goal
 
 pub loop-z-init : goal.loop-z-init
@@ -10,9 +8,6 @@ loop-z-init c = (omega arith, copies-start _ _)
 
 pub copy_stack-requires : goal.copy_stack-requires
 copy_stack-requires c = (c.requires, c.loop-z-test.true)
-
-pub loop-z-smaller : goal.loop-z-smaller
-loop-z-smaller c = omega (arith, c.loop-z-test.true)
 
 pub loop-z-preserved : goal.loop-z-preserved
 loop-z-preserved c =

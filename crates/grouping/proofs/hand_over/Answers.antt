@@ -1,6 +1,5 @@
 -- `hand_over` meets its contract.
 use mathlib.Core.Path.{◌∙◌}
-use borrow.Author.Rules.{rules}
 use Rattle.grouping.proofs.hand_over.Goals as goal
 
 pub write-requires : goal.write-requires

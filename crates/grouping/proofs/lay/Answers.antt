@@ -1,6 +1,5 @@
 -- `lay` meets its contract.
 use Rattle.reginfo.specs.Table.{reg_info_of}
-use Rattle.group_rules.proofs.Labelled.{labelled}
 use Rattle.grouping.proofs.Laying.{labels-low}
 use borrow.Author.Rules.{rules}
 use Rattle.grouping.proofs.lay.Goals as goal

@@ -4,7 +4,6 @@ use Rattle.function.specs.Table.{function_of}
 use Rattle.scratch.specs.State.{T}
 use Rattle.parallel_moves.proofs.Resolving.{own-ok}
 use Rattle.grouping.proofs.Ending.{own-groups}
-use borrow.Author.Rules.{rules}
 use Rattle.grouping.proofs.resolve_groups.Goals as goal
 
 pub own_grant-g-requires : goal.own_grant-g-requires

@@ -2,7 +2,6 @@
 use mathlib.Core.Path.{refl}
 use native.Mathlib.Omega.{arith}
 use Rattle.grouping.proofs.Ending.{begun_ok, groups-refused, passed, part_out, can-hand-over, all-given}
-use borrow.Author.Rules.{rules}
 use Rattle.grouping.proofs.resolve_groups_granted.Goals as goal
 
 pub whole_refusal-requires : goal.whole_refusal-requires
@@ -33,8 +32,7 @@ resolve_parts-requires c =
     let lay = c.lay in
     let args = c.args in
     let begin = c.begin in
-    let told-words = c.told_words in
-    (pre.0, (rw c.in_default.is at whole-refusal.ensures.0).known refl, lay.ensures.0, pre.2, begun_ok args.t.now args.f.now args.free.now args.numbers.now args.g pre.0 args.cache.now args.list.now _ pre.1 begin.ensures.0 begin.ensures.1, passed args.t.now args.f.now args.free.now args.numbers.now args.g pre.0 args.cache.now args.list.now (rw c.in_default.is at whole-refusal.ensures.0), told-words.ensures)
+    (pre.0, (rw c.in_default.is at whole-refusal.ensures.0).known refl, lay.ensures.0, pre.2, begun_ok args.t.now args.f.now args.free.now args.numbers.now args.g pre.0 args.cache.now args.list.now _ pre.1 begin.ensures.0 begin.ensures.1, passed args.t.now args.f.now args.free.now args.numbers.now args.g pre.0 args.cache.now args.list.now (rw c.in_default.is at whole-refusal.ensures.0), c.told-joined)
 
 pub hand_over-requires : goal.hand_over-requires
 hand_over-requires c =
@@ -43,7 +41,7 @@ hand_over-requires c =
     let whole-refusal = c.whole_refusal in
     let begin = c.begin in
     let resolve-parts = c.resolve_parts in
-    let h = can-hand-over args.t.now args.f.now args.free.now args.numbers.now args.g pre.0 args.cache.now args.list.now (rw c.in_default.is at whole-refusal.ensures.0) _ _ _ begin.ensures.0 _ _ (rw c.in-Edits.is at resolve-parts.ensures.parts_give) in (omega (arith, h.0, c.told_words-in-Edits.ensures), h.1, h.2)
+    let h = can-hand-over args.t.now args.f.now args.free.now args.numbers.now args.g pre.0 args.cache.now args.list.now (rw c.in_default.is at whole-refusal.ensures.0) _ _ _ begin.ensures.0 _ _ (rw c.in-Edits.is at resolve-parts.ensures.parts_give) in (omega (arith, h.0, c.resolve_parts.auto.joined, c.told-joined), h.1, h.2)
 
 pub returns-in-Refused-resolve_parts : goal.returns-in-Refused-resolve_parts
 returns-in-Refused-resolve_parts c =

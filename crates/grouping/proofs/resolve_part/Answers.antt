@@ -1,6 +1,5 @@
 -- `resolve_part` meets its contract: an entry is refused, or the group is resolved.
 use Rattle.grouping.proofs.Adding.{part-refused, part-resolved}
-use borrow.Author.Rules.{rules}
 use Rattle.grouping.proofs.resolve_part.Goals as goal
 
 pub add_part-requires : goal.add_part-requires

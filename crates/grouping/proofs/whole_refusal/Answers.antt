@@ -1,7 +1,6 @@
 -- `whole_refusal` meets its contract: by an entry, or by the patch.
 use mathlib.Core.Path.{◌∙◌}
 use Rattle.grouping.proofs.Testing.{entries-refused, entries-taken, all-given}
-use borrow.Author.Rules.{rules}
 use Rattle.grouping.proofs.whole_refusal.Goals as goal
 
 pub add_entries-requires : goal.add_entries-requires

@@ -1,10 +1,7 @@
 use mathlib.Core.Path.{◌≡◌, refl}
 use native.Mathlib.Omega.{arith}
-use Prim.Native.Nat.{◌-◌, ◌≤◌}
-use lib.ListN.{length, length-set}
-use Rattle.grouping.specs.Copied.{Written}
+use lib.ListN.{length-set}
 use Rattle.grouping.proofs.Copying.{written-more}
-use borrow.Author.Rules.{rules}
 use Rattle.grouping.proofs.write.Goals as goal
 
 pub loop-i-init : goal.loop-i-init
@@ -15,9 +12,6 @@ bounds-words-i c = omega (arith, c.requires.0, c.loop-i-test.true)
 
 pub bounds-list-i : goal.bounds-list-i
 bounds-list-i c = let l = c.loop-i in omega (arith, l.invariant.1, c.requires.1, c.loop-i-test.true)
-
-pub loop-i-smaller : goal.loop-i-smaller
-loop-i-smaller c = omega (arith, c.loop-i-test.true)
 
 pub loop-i-preserved : goal.loop-i-preserved
 loop-i-preserved c =

@@ -1,12 +1,9 @@
-use Prim.Native.Nat.{◌-◌, ◌≤◌}
-use mathlib.Core.Path.{◌≡◌, refl}
+use mathlib.Core.Path.{refl}
 use native.Mathlib.Omega.{arith}
-use lib.ListN.{length}
-use borrow.Author.Rules.{rules}
 use Rattle.entity.proofs.Laws.{has_get_d}
 use Rattle.reginfo.specs.RegInfo.{reg_units}
 use Rattle.reginfo.specs.Table.{reg_info_of}
-use Rattle.groups.proofs.Free.{Closing, closing-more, closing_end}
+use Rattle.groups.proofs.Free.{closing-more, closing_end}
 use Rattle.groups.proofs.close_reg.Goals as goal
 
 pub num_reg_units-n-requires : goal.num_reg_units-n-requires

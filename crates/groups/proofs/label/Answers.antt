@@ -1,11 +1,8 @@
 use mathlib.Core.Path.{◌≡◌, refl}
 use native.Mathlib.Omega.{arith}
-use Prim.Native.Nat.{◌-◌, ◌≤◌}
 use lib.ListN.{length}
 use Rattle.reginfo.specs.Table.{reg_info_of}
 use Rattle.parallel_moves.specs.Given.{entries_of}
-use Rattle.groups.specs.Given.{count_of}
-use Rattle.groups.specs.Noting.{AllNoted}
 use Rattle.groups.proofs.Entries.{how-many, inside, at, units-low}
 use Rattle.groups.proofs.Tables.{filled}
 use Rattle.groups.proofs.Noting.{none-noted, all-labelled}
@@ -19,14 +16,6 @@ note_entry-requires c =
     let pre = c.requires in
     let args = c.args in
     let l = c.loop-k in let h = c.loop-k-test.true in (pre.each l.k (omega (arith, l.invariant.1, h)), inside (reg_info_of args.t.now) args.numbers.now (pre) l.k (omega (arith, l.invariant.1, h)), omega (arith, l.invariant.1, h, pre.few))
-
-pub overflow_add-k : goal.overflow_add-k
-overflow_add-k c =
-    let pre = c.requires in
-    let l = c.loop-k in omega (arith, l.invariant.1, c.loop-k-test.true, pre.few)
-
-pub loop-k-smaller : goal.loop-k-smaller
-loop-k-smaller c = omega (arith, c.loop-k-test.true)
 
 pub loop-k-preserved : goal.loop-k-preserved
 loop-k-preserved c =

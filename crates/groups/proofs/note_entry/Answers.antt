@@ -1,14 +1,11 @@
 -- `note_entry` meets its contract: its first place, and of a move its second.
+use mathlib.Core.Path.{refl}
 use native.Mathlib.Omega.{arith}
 use Rattle.reginfo.specs.Table.{reg_info_of}
 use Rattle.groups.proofs.Entries.{is-remat}
 use Rattle.groups.proofs.Tables.{own-label}
 use Rattle.groups.proofs.Noting.{remat-noted, move-noted}
-use borrow.Author.Rules.{rules}
 use Rattle.groups.proofs.note_entry.Goals as goal
-
-pub byte-requires : goal.byte-requires
-byte-requires c = omega (arith, c.requires.2)
 
 pub bounds-labels-k : goal.bounds-labels-k
 bounds-labels-k c = omega (arith, c.requires.2)
@@ -71,17 +68,13 @@ note_place-requires-then-numbers-k-eq0 c =
 pub returns-then-numbers-k-eq0 : goal.returns-then-numbers-k-eq0
 returns-then-numbers-k-eq0 c =
     let args = c.args in
-    let told-labels = c.told_labels in
     let pre = c.requires in
-    let byte = c.byte in
     let place_at = c.place_at in
     let note-place = c.note_place in
-    let own = (own-label args.labels.now args.k _ told-labels.ensures pre.2 byte.ensures) in move-noted (reg_info_of args.t.now) args.numbers.now args.k _ _ _ _ _ own.0 own.1 _ _ c.if-numbers-k-eq0.true (rw place_at.ensures at note-place.ensures) (rw c.place_at-then-numbers-k-eq0.ensures at c.note_place-then-numbers-k-eq0.ensures)
+    let own = (own-label args.labels.now args.k _ c.told-labels pre.2 refl) in move-noted (reg_info_of args.t.now) args.numbers.now args.k _ _ _ _ _ own.0 own.1 _ _ c.if-numbers-k-eq0.true (rw place_at.ensures at note-place.ensures) (rw c.place_at-then-numbers-k-eq0.ensures at c.note_place-then-numbers-k-eq0.ensures)
 
 pub returns-else-numbers-k-eq0 : goal.returns-else-numbers-k-eq0
 returns-else-numbers-k-eq0 c =
     let args = c.args in
-    let told-labels = c.told_labels in
     let pre = c.requires in
-    let byte = c.byte in
-    let own = (own-label args.labels.now args.k _ told-labels.ensures pre.2 byte.ensures) in remat-noted (reg_info_of args.t.now) args.numbers.now args.k _ _ _ _ _ own.0 own.1 (is-remat (reg_info_of args.t.now) args.numbers.now args.k pre.0 c.if-numbers-k-eq0.false) (rw c.place_at.ensures at c.note_place.ensures)
+    let own = (own-label args.labels.now args.k _ c.told-labels pre.2 refl) in remat-noted (reg_info_of args.t.now) args.numbers.now args.k _ _ _ _ _ own.0 own.1 (is-remat (reg_info_of args.t.now) args.numbers.now args.k pre.0 c.if-numbers-k-eq0.false) (rw c.place_at.ensures at c.note_place.ensures)

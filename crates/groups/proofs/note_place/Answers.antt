@@ -1,13 +1,9 @@
-use mathlib.Core.Path.{◌≡◌}
 use native.Mathlib.Omega.{arith}
-use Prim.Native.Nat.{◌-◌, ◌≤◌}
-use lib.ListN.{length}
 use Rattle.entity.specs.Place.{place_at}
 use Rattle.entity.proofs.Laws.{has_get_d}
 use Rattle.reginfo.specs.RegInfo.{place_units}
 use Rattle.reginfo.specs.Table.{reg_info_of}
-use Rattle.groups.proofs.Noting.{NotedTo, to_start, to-more, to_end}
-use borrow.Author.Rules.{rules}
+use Rattle.groups.proofs.Noting.{to_start, to-more, to_end}
 use Rattle.groups.proofs.note_place.Goals as goal
 
 pub num_place_units-n-requires : goal.num_place_units-n-requires

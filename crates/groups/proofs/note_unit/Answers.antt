@@ -1,23 +1,23 @@
 -- `note_unit` meets its contract.
+use mathlib.Core.Path.{refl}
 use native.Mathlib.Omega.{arith}
 use Rattle.groups.proofs.Tables.{noted-fresh, noted-same, noted-joined}
-use borrow.Author.Rules.{rules}
 use Rattle.groups.proofs.note_unit.Goals as goal
 
 pub bounds-owners-i : goal.bounds-owners-i
-bounds-owners-i c = omega (arith, c.wide-i.ensures.0, c.requires.0)
+bounds-owners-i c = omega (arith, c.from-i.ensures, c.requires.0)
 
 pub bounds-owners-i-then-o-ge128 : goal.bounds-owners-i-then-o-ge128
 bounds-owners-i-then-o-ge128 c =
     let pre = c.requires in
-    omega (arith, c.wide-i.ensures.0, pre.0)
+    omega (arith, c.from-i.ensures, pre.0)
 
 pub returns-then-o-ge128 : goal.returns-then-o-ge128
 returns-then-o-ge128 c =
     let args = c.args in
     let pre = c.requires in
-    let wide = c.wide-i in
-    noted-fresh _ _ args.owners.now args.labels.now _ _ c.told_owners.ensures pre.0 wide.ensures.0 c.byte.ensures (rw (← wide.ensures.0, ← c.index-o.ensures.0) c.if-o-ge128.true)
+    let i = c.from-i in
+    noted-fresh _ _ args.owners.now args.labels.now _ _ c.told-owners pre.0 i.ensures refl (rw (← i.ensures, ← c.from-o.ensures) c.if-o-ge128.true)
 
 pub bounds-labels-o : goal.bounds-labels-o
 bounds-labels-o c = omega (arith, c.if-o-ge128.false)
@@ -30,13 +30,13 @@ bounds-labels-k c =
 pub returns-then-a-b : goal.returns-then-a-b
 returns-then-a-b c =
     let args = c.args in
-    let wide = c.wide-i in
-    let index = c.index-o in
-    noted-same _ _ args.owners.now args.labels.now (rw (← wide.ensures.0, ← index.ensures.0) c.if-o-ge128.false) (rw (← wide.ensures.0, ← index.ensures.0) c.if-a-b.true)
+    let i = c.from-i in
+    let o = c.from-o in
+    noted-same _ _ args.owners.now args.labels.now (rw (← i.ensures, ← o.ensures) c.if-o-ge128.false) (rw (← i.ensures, ← o.ensures) c.if-a-b.true)
 
 pub returns : goal.returns
 returns c =
     let args = c.args in
-    let wide = c.wide-i in
-    let index = c.index-o in
-    noted-joined _ _ args.owners.now args.labels.now _ (rw (← wide.ensures.0, ← index.ensures.0) c.if-o-ge128.false) (rw (← wide.ensures.0, ← index.ensures.0) c.join.ensures)
+    let i = c.from-i in
+    let o = c.from-o in
+    noted-joined _ _ args.owners.now args.labels.now _ (rw (← i.ensures, ← o.ensures) c.if-o-ge128.false) (rw (← i.ensures, ← o.ensures) c.join.ensures)

@@ -1,7 +1,6 @@
 use mathlib.Core.Path.{refl, ◌∙◌}
 use native.Mathlib.Omega.{arith}
-use Prim.Native.Nat.{◌+◌, ◌-◌}
-use mathlib.Core.List.{List}
+use Prim.Native.Nat.{◌+◌}
 use lib.Dec.{eqb}
 use Rattle.reginfo.specs.Table.{reg_info_of}
 use Rattle.rules.specs.Patch.{Entry}
@@ -12,8 +11,7 @@ use Rattle.group_rules.proofs.Parts.{near-comm}
 use Rattle.parallel_moves.specs.Given.{entries_of}
 use Rattle.groups.specs.Given.{count_of, labels_in}
 use Rattle.groups.proofs.Entries.{how-many, inside, at}
-use Rattle.groups.proofs.Chain.{rest, At, at_next, at-end, at_first, FreeTo, free_more, free-end}
-use borrow.Author.Rules.{rules}
+use Rattle.groups.proofs.Chain.{rest, at_next, at-end, at_first, free_more, free-end}
 use Rattle.groups.proofs.part_free.Goals as goal
 
 pub loop-k-init : goal.loop-k-init
@@ -35,13 +33,13 @@ pub loop-k-smaller : goal.loop-k-smaller
 loop-k-smaller c =
     let args = c.args in
     let pre = c.requires in
-    let l = c.loop-k in let h = at_next (labels_in (reg_info_of args.t.now) args.numbers.now) (entries_of args.numbers.now) (count_of args.numbers.now) args.g ((labelled Entry (near (reg_info_of args.t.now)) (near-comm (reg_info_of args.t.now)) no_entry (entries_of args.numbers.now)).each ∙ how-many (reg_info_of args.t.now) args.numbers.now pre.0) (how-many (reg_info_of args.t.now) args.numbers.now pre.0) pre.0.few args.next.now pre.2.linked l.k l.invariant.0 c.loop-k-test.true l.invariant.1 in omega (arith, h.3, c.index-k.ensures.0, c.index-k.ensures.1)
+    let l = c.loop-k in let h = at_next (labels_in (reg_info_of args.t.now) args.numbers.now) (entries_of args.numbers.now) (count_of args.numbers.now) args.g ((labelled Entry (near (reg_info_of args.t.now)) (near-comm (reg_info_of args.t.now)) no_entry (entries_of args.numbers.now)).each ∙ how-many (reg_info_of args.t.now) args.numbers.now pre.0) (how-many (reg_info_of args.t.now) args.numbers.now pre.0) pre.0.few args.next.now pre.2.linked l.k l.invariant.0 c.loop-k-test.true l.invariant.1 in omega (arith, h.3, c.from-k.ensures)
 
 pub loop-k-preserved : goal.loop-k-preserved
 loop-k-preserved c =
     let args = c.args in
     let pre = c.requires in
-    let l = c.loop-k in let h = at_next (labels_in (reg_info_of args.t.now) args.numbers.now) (entries_of args.numbers.now) (count_of args.numbers.now) args.g ((labelled Entry (near (reg_info_of args.t.now)) (near-comm (reg_info_of args.t.now)) no_entry (entries_of args.numbers.now)).each ∙ how-many (reg_info_of args.t.now) args.numbers.now pre.0) (how-many (reg_info_of args.t.now) args.numbers.now pre.0) pre.0.few args.next.now pre.2.linked l.k l.invariant.0 c.loop-k-test.true l.invariant.1 in (rest (labels_in (reg_info_of args.t.now) args.numbers.now) (entries_of args.numbers.now) (count_of args.numbers.now) args.g (l.k + 1), rw c.index-k.ensures.0 h.2, free_more (reg_info_of args.t.now) (chosen (λ x. eqb x args.g) (labels_in (reg_info_of args.t.now) args.numbers.now) (entries_of args.numbers.now)) args.free.now args.common.now l.out _ _ _ c.reopen_source.ensures (rw (h.1, at (reg_info_of args.t.now) args.numbers.now pre.0 l.k h.0) at l.invariant.2))
+    let l = c.loop-k in let h = at_next (labels_in (reg_info_of args.t.now) args.numbers.now) (entries_of args.numbers.now) (count_of args.numbers.now) args.g ((labelled Entry (near (reg_info_of args.t.now)) (near-comm (reg_info_of args.t.now)) no_entry (entries_of args.numbers.now)).each ∙ how-many (reg_info_of args.t.now) args.numbers.now pre.0) (how-many (reg_info_of args.t.now) args.numbers.now pre.0) pre.0.few args.next.now pre.2.linked l.k l.invariant.0 c.loop-k-test.true l.invariant.1 in (rest (labels_in (reg_info_of args.t.now) args.numbers.now) (entries_of args.numbers.now) (count_of args.numbers.now) args.g (l.k + 1), rw c.from-k.ensures h.2, free_more (reg_info_of args.t.now) (chosen (λ x. eqb x args.g) (labels_in (reg_info_of args.t.now) args.numbers.now) (entries_of args.numbers.now)) args.free.now args.common.now l.out _ _ _ c.reopen_source.ensures (rw (h.1, at (reg_info_of args.t.now) args.numbers.now pre.0 l.k h.0) at l.invariant.2))
 
 pub returns : goal.returns
 returns c =

@@ -7,7 +7,6 @@ use Rattle.reginfo.proofs.Laws.{by_kind, known-kind}
 use Rattle.entity.specs.Logic.{and, or, has}
 use Rattle.small_set.specs.Set.{set_of}
 use Rattle.groups.proofs.Free.{slot-reopened}
-use borrow.Author.Rules.{rules}
 use Rattle.groups.proofs.reopen.Goals as goal
 
 pub reopen_reg-requires : goal.reopen_reg-requires
@@ -24,4 +23,4 @@ returns-in-PhysReg c =
 pub returns-in-SpillSlot : goal.returns-in-SpillSlot
 returns-in-SpillSlot c =
     let args = c.args in
-    λ u. (slot-reopened c.in-SpillSlot.field-0.0 args.free.now args.out.now c.told.ensures) u ∙ ap (λ (p : Place). or (and (has u (place_units (reg_info_of args.t.now) p)) (set_of args.free.now u)) (set_of args.out.now u)) (by_kind (λ (p : Place). p) c.kind.ensures c.in-SpillSlot.is)
+    λ u. (slot-reopened c.in-SpillSlot.field-0.0 args.free.now args.out.now c.told-free) u ∙ ap (λ (p : Place). or (and (has u (place_units (reg_info_of args.t.now) p)) (set_of args.free.now u)) (set_of args.out.now u)) (by_kind (λ (p : Place). p) c.kind.ensures c.in-SpillSlot.is)

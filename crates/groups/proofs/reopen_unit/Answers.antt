@@ -1,7 +1,6 @@
 -- `reopen_unit` meets its contract.
 use mathlib.Core.Path.{sym}
 use borrow.Author.Tests.{not-true, not-false}
-use borrow.Author.Rules.{rules}
 use Rattle.groups.proofs.reopen_unit.Goals as goal
 
 pub returns-then-not-contains : goal.returns-then-not-contains

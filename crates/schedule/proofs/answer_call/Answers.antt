@@ -3,16 +3,9 @@ use Rattle.schedule.specs.Lists.{called}
 use lib.ListN.{drop}
 use mathlib.Core.Path.{refl}
 use native.Mathlib.Omega.{arith}
-use Rattle.schedule.proofs.Standing.{can-of, stands_after}
+use Rattle.schedule.proofs.Standing.{stands_after}
 use Rattle.schedule.proofs.Answering.{no_kind, takes-kind, patch-kind}
-use borrow.Author.Rules.{rules}
 use Rattle.schedule.proofs.answer_call.Goals as goal
-
-pub put_taken-len-requires : goal.put_taken-len-requires
-put_taken-len-requires c =
-    let s = c in
-    let a = s.args in
-    (s.requires.0, s.requires.1, can-of s.requires.2.start s.requires.2.count a.frame.now a.i a.f.now a.cache.now a.slots.now a.left s.requires.2.waits, s.requires.3)
 
 pub returns-then-kind-eq2 : goal.returns-then-kind-eq2
 returns-then-kind-eq2 c =

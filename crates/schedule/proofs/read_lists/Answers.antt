@@ -1,6 +1,6 @@
 -- The free units, then the numbers of the entries.
+use mathlib.Core.Path.{refl}
 use Rattle.schedule.proofs.Reading.{no-free, no-numbers, a-patch}
-use borrow.Author.Rules.{rules}
 use Rattle.schedule.proofs.read_lists.Goals as goal
 
 pub returns-in-Refused : goal.returns-in-Refused
@@ -21,4 +21,4 @@ returns-in-Is-read_list c =
     let a = c.args in
     let b = c.read_list in
     let q = c.read_list-in-Is in
-    a-patch a.s.now a.at b.new.numbers q.new.numbers b.result b.ensures _ _ c.in-Is.is q.result q.ensures _ _ c.in-Is-read_list.is _ _ c.long.ensures c.long-in-Is-read_list.ensures
+    a-patch a.s.now a.at b.new.numbers q.new.numbers b.result b.ensures _ _ c.in-Is.is q.result q.ensures _ _ c.in-Is-read_list.is _ _ refl refl

@@ -1,16 +1,9 @@
 -- `note` meets its contract: those below the index are noted.
-use Prim.Native.Nat.{ℕ, ◌+◌, ◌-◌, ◌<◌, ◌≤◌}
-use mathlib.Core.Path.{◌≡◌, sym, subst}
-use mathlib.Core.List.{List}
-use native.Mathlib.Omega.{arith}
+use Prim.Native.Nat.{ℕ, ◌+◌, ◌<◌, ◌≤◌}
+use mathlib.Core.Path.{◌≡◌}
 use lib.ListN.{get_or}
-use borrow.Author.Rules.{rules}
 use Rattle.ties.specs.Ties.{kept, NotedTo}
-use Rattle.ties.proofs.Laws.{noted-next, own-next, none-noted}
 use Rattle.ties.proofs.note.Given as goal
 
 abbrev pub invariant-loop-i : goal.invariant-loop-i
 invariant-loop-i l = NotedTo l.e l.x l.i × ((m : ℕ) → m < l.i → get_or l.x (12288 + m) 0 ≡ m) × (l.i ≤ kept l.e) × (l.n ≡ kept l.e)
-
-abbrev pub decreases-loop-i : goal.decreases-loop-i
-decreases-loop-i l = l.n - l.i

@@ -1,6 +1,5 @@
 -- `count_accepted` meets its contract.
 use native.Mathlib.Omega.{arith}
-use borrow.Author.Rules.{rules}
 use Rattle.trying.proofs.Tally.{kinds-left, price-left, words-counted}
 use Rattle.trying.proofs.count_accepted.Goals as goal
 

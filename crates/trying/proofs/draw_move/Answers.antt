@@ -1,7 +1,6 @@
 -- `draw_move` meets its contract: three draws, and the numbers that they come to.
 use Prim.Native.Nat.{◌+◌, ◌*◌}
 use native.Mathlib.Omega.{arith}
-use borrow.Author.Rules.{rules}
 use lib.ListN.{length-set}
 use Rattle.trying.proofs.Drawing.{two-set, three-set, move-written}
 use Rattle.trying.proofs.draw_move.Goals as goal

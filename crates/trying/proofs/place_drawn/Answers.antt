@@ -1,6 +1,5 @@
 -- `place_drawn` meets its contract: a register or a slot, by the number that the draw comes to.
 use native.Mathlib.Omega.{arith}
-use borrow.Author.Rules.{rules}
 use Rattle.trying.proofs.Drawing.{counts_of, low-place, register-drawn, slot-drawn}
 use Rattle.trying.proofs.place_drawn.Goals as goal
 

@@ -1,7 +1,6 @@
 -- `set_kept` meets its contract.
-use borrow.Author.Rules.{rules}
 use Rattle.trying.proofs.Setting.{kept_set}
 use Rattle.trying.proofs.set_kept.Goals as goal
 
 pub returns : goal.returns
-returns c = let s = c in kept_set s.args.f.now s.args.kept c.told_function.ensures s.requires
+returns c = let s = c in kept_set s.args.f.now s.args.kept c.told-f s.requires

@@ -1,7 +1,6 @@
 -- `value_drawn` meets its contract.
 use native.Mathlib.Omega.{arith}
 use native.Mathlib.Nat.{mod-le}
-use borrow.Author.Rules.{rules}
 use Rattle.trying.proofs.value_drawn.Goals as goal
 
 pub overflow_cast-result-2 : goal.overflow_cast-result-2
