@@ -7,6 +7,7 @@ use native.Mathlib.Omega.{arith}
 use native.Mathlib.Numerals.{add-one}
 use lib.ListN.{length, take, drop, get_or, length-append, drop_of_length-le}
 use lib.Seq.{take_at, drop-cons}
+use Rattle.std.specs.Prelude.{Option, Some, None}
 use Rattle.entity.specs.Logic.{pick}
 use Rattle.print.specs.Text.{decimal, newline, spaced, edits_word, made_word, patch_line, refused_line}
 use Rattle.print.specs.Words.{word_line}
@@ -17,8 +18,6 @@ use Rattle.print.proofs.Putting.{nothing_put, same_length, then-put}
 use Rattle.answer_text.specs.Heads.{is_head, count_in, made_in}
 use Rattle.answer_text.specs.Lines.{answer_line, answer_lines, refusal_text, answer_text, whole_lines, lines_within, fronted_by, Printed}
 use Rattle.answer_text.specs.Fitting.{Fitted, Ended}
-use Rattle.answer_text.specs.declared.Fit.{Fit}
-use Rattle.answer_text.specs.declared.Fit.TheVariants.{To, Short}
 use Rattle.answer_text.proofs.Endings.{answer-line, refusal-line as one-refusal, still-whole, front-lines, front-only}
 
 -- ---- a word's line
@@ -65,14 +64,14 @@ refusal-line (suc n) h = refl
 pub no-refusal : {out : List ℕ} {n : ℕ} → n ≤ length out → Ended out out n [] n
 no-refusal h = record { fits = λ f. nothing_put record { fits = f }; short = λ s. absurd (omega arith) }
 
-pub refusal-put : {out out' text : List ℕ} {n m : ℕ} {r : Fit} → Fitted out out' n text r → r ≡ To m → Ended out out' n text m
+pub refusal-put : {out out' text : List ℕ} {n m : ℕ} {r : Option ℕ} → Fitted out out' n text r → r ≡ Some m → Ended out out' n text m
 refusal-put {out} {out'} {text} {n} {m} f e =
-    let p : Put out out' n text m = subst (λ (x : Fit). Fitted out out' n text x) e f in
+    let p : Put out out' n text m = subst (λ (x : Option ℕ). Fitted out out' n text x) e f in
     record { fits = λ h. p; short = λ s. absurd (omega (arith, p.room)) }
 
-pub refusal-short : {out out' text : List ℕ} {n : ℕ} {r : Fit} → Fitted out out' n text r → r ≡ Short → Ended out out' n text 0
+pub refusal-short : {out out' text : List ℕ} {n : ℕ} {r : Option ℕ} → Fitted out out' n text r → r ≡ None → Ended out out' n text 0
 refusal-short {out} {out'} {text} {n} f e =
-    let s = subst (λ (x : Fit). Fitted out out' n text x) e f in
+    let s = subst (λ (x : Option ℕ). Fitted out out' n text x) e f in
     record { fits = λ h. absurd (omega (arith, s.0)); short = λ h. (refl, s.1) }
 
 -- ---- word by word: the lines of the first i words stand there, and patch k is next
@@ -114,10 +113,10 @@ module _ (out₀ words : List ℕ) where
       next-number true = omega (arith, s.number)
       next-number false = omega (arith, s.number)
 
-      pub one-printed : (out' : List ℕ) (e k' : ℕ) (r : Fit) → Fitted out out' n (answer_line k w) r → r ≡ To e → k' ≡ pick (is_head w) (k + 1) k
+      pub one-printed : (out' : List ℕ) (e k' : ℕ) (r : Option ℕ) → Fitted out out' n (answer_line k w) r → r ≡ Some e → k' ≡ pick (is_head w) (k + 1) k
           → Printing out₀ words out' e k' (i + 1)
       one-printed out' e k' r f t h =
-          let p : Put out out' n (answer_line k w) e = subst (λ (x : Fit). Fitted out out' n (answer_line k w) x) t f in
+          let p : Put out out' n (answer_line k w) e = subst (λ (x : Option ℕ). Fitted out out' n (answer_line k w) x) t f in
           record {
             text = s.text ++ answer_line k w;
             put = then-put s.put p;
@@ -127,10 +126,10 @@ module _ (out₀ words : List ℕ) where
             number = rw h (next-number (is_head w));
           }
 
-      pub none-fits : (out' : List ℕ) (refusal : ℕ) (r : Fit) → Fitted out out' n (answer_line k w) r → r ≡ Short
+      pub none-fits : (out' : List ℕ) (refusal : ℕ) (r : Option ℕ) → Fitted out out' n (answer_line k w) r → r ≡ None
           → Printed out₀ out' (answer_text words refusal) 0
       none-fits out' refusal r f t =
-          let x = subst (λ (y : Fit). Fitted out out' n (answer_line k w) y) t f in
+          let x = subst (λ (y : Option ℕ). Fitted out out' n (answer_line k w) y) t f in
           let front : length (s.text ++ answer_line k w) ≡ length s.text + length (answer_line k w) = length-append s.text (answer_line k w) in
           let lines : length (answer_lines 1 words) ≡ length (s.text ++ answer_line k w) + length later =
           ap length step ∙ length-append (s.text ++ answer_line k w) later in

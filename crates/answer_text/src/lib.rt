@@ -8,13 +8,6 @@ ghost use Rattle.answer_text.specs.Heads.{is_head, count_in, made_in};
 ghost use Rattle.answer_text.specs.Lines.{answer_line, refusal_text, answer_text, Printed};
 ghost use Rattle.answer_text.specs.Fitting.{Fitted, Ended};
 
-// Where the text goes on, or that it does not fit.
-#[derive(Drop)]
-pub enum Fit {
-    To(usize),
-    Short,
-}
-
 // Whether a word is a patch's head and no edit.
 fn is_head(word: u64) -> bool
     ensures { result ≡ is_head word }
@@ -58,19 +51,19 @@ fn put_line(out: &mut [u8], n: usize, k: usize, word: u64) -> usize
     print::put_edit(out, n, word)
 }
 
-// A text if it fits.
-fn put_fitting(out: &mut [u8], n: usize, text: &[u8]) -> Fit
+// A text if it fits: where it goes on.
+fn put_fitting(out: &mut [u8], n: usize, text: &[u8]) -> Option<usize>
     requires { n ≤ length out.old }
     ensures { Fitted out.old out.new n text.now result }
 {
     if text.len() <= out.len() - n {
-        return Fit::To(print::put_text(out, n, text));
+        return Some(print::put_text(out, n, text));
     }
-    Fit::Short
+    None
 }
 
 // The line of a word if it fits.
-fn put_word(out: &mut [u8], n: usize, k: usize, word: u64) -> Fit
+fn put_word(out: &mut [u8], n: usize, k: usize, word: u64) -> Option<usize>
     requires { n ≤ length out.old }
     ensures { Fitted out.old out.new n (answer_line k word) result }
 {
@@ -90,8 +83,8 @@ fn put_refusal(out: &mut [u8], n: usize, refusal: u8) -> usize
     let mut line = [0u8; 32];
     let m = print::put_refused(&mut line, 0, refusal as usize);
     match put_fitting(out, n, &line[..m]) {
-        Fit::To(end) => end,
-        Fit::Short => 0,
+        Some(end) => end,
+        None => 0,
     }
 }
 
@@ -101,15 +94,13 @@ pub fn put_answer(out: &mut [u8], words: &[u64], refusal: u8) -> usize
 {
     let mut n = 0;
     let mut k: usize = 1;
-    let mut i = 0;
-    while i < words.len() {
+    for i in 0..words.len() {
         let word = words[i];
-        let Fit::To(end) = put_word(out, n, k, word) else {
+        let Some(end) = put_word(out, n, k, word) else {
             return 0;
         };
         n = end;
         k = next_number(k, word);
-        i += 1;
     }
     put_refusal(out, n, refusal)
 }

@@ -52,10 +52,8 @@ pub fn number_in(arg: &[u8]) -> u64
         return 4294967296;
     }
     let mut n: u64 = 0;
-    let mut i = 0;
-    while i < arg.len() {
+    for i in 0..arg.len() {
         n = step(n, arg[i]);
-        i += 1;
     }
     n
 }

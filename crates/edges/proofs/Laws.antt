@@ -12,8 +12,7 @@ use borrow.Author.Tests.{leb-true, le-leb, lt-leb}
 use Rattle.entity.specs.Logic.{pick, and}
 use Rattle.entity.proofs.Laws.{and-true}
 use Rattle.answer_text.specs.Heads.{is_head, count_in}
-use Rattle.edges.specs.declared.Count.TheVariants as C
-use Rattle.edges.specs.declared.Found.TheVariants as F
+use Rattle.std.specs.Prelude.{Some, None}
 use Rattle.edges.specs.Patches.{headed, with_head, patch_behind, patch_numbered, counted, FoundIn, then_patches, patches_within, patches_of, nth, Numbered}
 
 -- no word is left
@@ -90,10 +89,10 @@ onward (suc zero) l at c p q h = absurd (q refl)
 onward (suc (suc n)) l at c p q h = let m : suc (suc n) - 1 ≡ suc n = omega arith in rw (m, h, drop-drop (1 + c) at l)
 
 -- what is found
-pub found_none : (l : List ℕ) (o : Option (List ℕ)) → o ≡ none → FoundIn l o F.Nothing
+pub found_none : (l : List ℕ) (o : Option (List ℕ)) → o ≡ none → FoundIn l o None
 found_none l o e = rw e refl
 
-pub found_at : (l : List ℕ) (o : Option (List ℕ)) (at c : ℕ) → headed (drop at l) ≡ some c → o ≡ some (take c (drop (at + 1) l)) → FoundIn l o (F.At (at + 1) c)
+pub found_at : (l : List ℕ) (o : Option (List ℕ)) (at c : ℕ) → headed (drop at l) ≡ some c → o ≡ some (take c (drop (at + 1) l)) → FoundIn l o (Some (at + 1, c))
 found_at l o at c h e = let w = head-fits l at c h in rw e (at + 1, c, refl, refl, w.1, w.0)
 
 pub no_more : (n : ℕ) (l : List ℕ) → (0 < n → ⊥) → patch_numbered n l ≡ none
@@ -101,25 +100,26 @@ no_more zero l h = refl
 no_more (suc n) l h = absurd (h (omega arith))
 
 -- what a count tells
-pub is-count : (o : Option ℕ) (c : ℕ) → counted o ≡ C.Edits c → o ≡ some c
+pub is-count : (o : Option ℕ) (c : ℕ) → counted o ≡ Some c → o ≡ some c
 is-count none c e = absurd (let z : ◌≡◌ {A = ℕ} 0 1 = cc in omega arith)
 is-count (some d) c e = let z : d ≡ c = cc in ap some z
 
-pub no-count : (o : Option ℕ) → counted o ≡ C.Nothing → o ≡ none
+pub no-count : (o : Option ℕ) → counted o ≡ None → o ≡ none
 no-count none e = refl
 no-count (some d) e = absurd (let z : ◌≡◌ {A = ℕ} 0 1 = cc in omega arith)
 
 -- what was found tells
-pub nothing-found : (l : List ℕ) (o : Option (List ℕ)) → FoundIn l o F.Nothing → o ≡ none
+pub nothing-found : (l : List ℕ) (o : Option (List ℕ)) → FoundIn l o None → o ≡ none
 nothing-found l none h = refl
 nothing-found l (some es) h = absurd (let z : ◌≡◌ {A = ℕ} 0 1 = cc in omega arith)
 
-pub found : (l : List ℕ) (o : Option (List ℕ)) (from count : ℕ) → FoundIn l o (F.At from count)
+pub found : (l : List ℕ) (o : Option (List ℕ)) (from count : ℕ) → FoundIn l o (Some (from, count))
     → (o ≡ some (take count (drop from l))) × (from + count ≤ length l) × (count ≤ 1024)
 found l none from count h = absurd (let z : ◌≡◌ {A = ℕ} 0 1 = cc in omega arith)
 found l (some es) from count h =
-    let a : from ≡ h.0 = cc in
-    let b : count ≡ h.1 = cc in
+    let p : (from, count) ≡ (h.0, h.1) = cc in
+    let a : from ≡ h.0 = ap (λ (p : ℕ × ℕ). p.0) p in
+    let b : count ≡ h.1 = ap (λ (p : ℕ × ℕ). p.1) p in
     rw (a, b) (ap some h.3, h.4, h.5)
 
 -- ---- all patches

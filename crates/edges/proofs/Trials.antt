@@ -5,13 +5,13 @@ use mathlib.Core.List.{List, [], ◌∷◌}
 use mathlib.Core.Option.{Option, none, some}
 use native.Mathlib.Omega.{arith}
 use lib.ListN.{length, take, drop}
-use Rattle.edges.specs.declared.Found.TheVariants as F
+use Rattle.std.specs.Prelude.{Some}
 use Rattle.edges.specs.Patches.{headed, patch_behind, FoundIn, patches_within}
 use Rattle.edges.specs.Trials.{two, Trials}
 use Rattle.edges.proofs.Laws.{nothing-found, found}
 
 -- the words of the second patch are found at 4, one of them
-only : (from count : ℕ) → FoundIn two (some (33 ∷ [])) (F.At from count) → ◌≡◌ {A = Option (List ℕ)} (some (33 ∷ [])) (some (take count (drop from two)))
+only : (from count : ℕ) → FoundIn two (some (33 ∷ [])) (Some (from, count)) → ◌≡◌ {A = Option (List ℕ)} (some (33 ∷ [])) (some (take count (drop from two)))
 only from count h = (found two (some (33 ∷ [])) from count h).0
 
 some_is : {l m : List ℕ} → some l ≡ some m → l ≡ m

@@ -1,12 +1,8 @@
 -- The patches of an answer's words: each is a head and the words of so many edits as the head counts.
-use Rattle.std.specs.Prelude.{ℕ, zero, suc, ◌+◌, ◌≤◌, ◌≡◌, List, [], ◌∷◌, leb, length, take, drop}
+use Rattle.std.specs.Prelude.{ℕ, zero, suc, ◌+◌, ◌≤◌, ◌≡◌, Option as Answered, Some, None, List, [], ◌∷◌, leb, length, take, drop}
 use Rattle.std.proofs.Math.Option.{Option, none, some}
 use Rattle.entity.specs.Logic.{pick, and}
 use Rattle.answer_text.specs.Heads.{is_head, count_in}
-use Rattle.edges.specs.declared.Count.{Count}
-use Rattle.edges.specs.declared.Count.TheVariants as C
-use Rattle.edges.specs.declared.Found.{Found}
-use Rattle.edges.specs.declared.Found.TheVariants as F
 
 -- the words begin with a head that counts at most 1,024 edits and no more than there are words behind it
 unfoldable pub headed : List ℕ → Option ℕ
@@ -27,15 +23,15 @@ abbrev pub patch_numbered : ℕ → List ℕ → Option (List ℕ)
 patch_numbered zero l = none
 patch_numbered (suc n) l = patch_behind n l
 
-abbrev pub counted : Option ℕ → Count
-counted none = C.Nothing
-counted (some c) = C.Edits c
+abbrev pub counted : Option ℕ → Answered ℕ
+counted none = None
+counted (some c) = Some c
 
 -- they stand behind an offset, and are at most 1,024
-abbrev pub FoundIn : List ℕ → Option (List ℕ) → Found → Type 0
-FoundIn words none r = r ≡ F.Nothing
+abbrev pub FoundIn : List ℕ → Option (List ℕ) → Answered (ℕ × ℕ) → Type 0
+FoundIn words none r = r ≡ None
 FoundIn words (some es) r =
-    (from : ℕ) × (count : ℕ) × (r ≡ F.At from count) × (es ≡ take count (drop from words)) × (from + count ≤ length words) × (count ≤ 1024)
+    (from : ℕ) × (count : ℕ) × (r ≡ Some (from, count)) × (es ≡ take count (drop from words)) × (from + count ≤ length words) × (count ≤ 1024)
 
 -- the words of the edits of all patches, one after the other; so many patches at most
 abbrev pub then_patches : Option ℕ → (ℕ → List (List ℕ)) → List (List ℕ)

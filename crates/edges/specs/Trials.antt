@@ -1,8 +1,7 @@
 -- Where a patch's words stand in an answer, by computation, and what is no patch.
-use Rattle.std.specs.Prelude.{ℕ, ◌≡◌, List, [], ◌∷◌, replicate}
+use Rattle.std.specs.Prelude.{ℕ, ◌≡◌, Some, None, List, [], ◌∷◌, replicate}
 use Rattle.std.proofs.Math.Option.{none, some}
 use Rattle.answer_text.specs.Heads.{head_word}
-use Rattle.edges.specs.declared.Found.TheVariants as F
 use Rattle.edges.specs.Patches.{headed, patch_numbered, FoundIn, patches_of, NumberedIn}
 
 -- a patch of two edits, and one of a single edit: so many slots were made and such positions met
@@ -28,8 +27,8 @@ pub record Trials : Type 0 where
   pub not-the-last : NumberedIn 1 two ((9 ∷ 17 ∷ []) ∷ []) → ⊥
   pub one-in-front : NumberedIn 0 two ([] ∷ patches_of two) → ⊥
   -- what `FoundIn` shuts out: nothing found, the words of the first patch, the head beside the edits, and words behind the last
-  pub is_found : FoundIn two (patch_numbered 2 two) F.Nothing → ⊥
-  pub another : FoundIn two (patch_numbered 2 two) (F.At 1 2) → ⊥
-  pub with-head : FoundIn two (patch_numbered 2 two) (F.At 3 2) → ⊥
-  pub beyond : FoundIn two (patch_numbered 2 two) (F.At 4 2) → ⊥
-  pub not_there : FoundIn two (patch_numbered 3 two) (F.At 5 0) → ⊥
+  pub is_found : FoundIn two (patch_numbered 2 two) None → ⊥
+  pub another : FoundIn two (patch_numbered 2 two) (Some (1, 2)) → ⊥
+  pub with-head : FoundIn two (patch_numbered 2 two) (Some (3, 2)) → ⊥
+  pub beyond : FoundIn two (patch_numbered 2 two) (Some (4, 2)) → ⊥
+  pub not_there : FoundIn two (patch_numbered 3 two) (Some (5, 0)) → ⊥

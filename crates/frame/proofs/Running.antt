@@ -7,6 +7,7 @@ use native.Mathlib.Omega.{arith}
 use lib.Dec.{ltb}
 use lib.ListN.{length, drop}
 use borrow.Author.Tests.{ltb-false}
+use Rattle.std.specs.Prelude.{Option, None}
 use Rattle.number.specs.Read.{Read, got, refused}
 use Rattle.reading.specs.declared.Next.{Next}
 use Rattle.reading.specs.declared.Next.TheVariants as X
@@ -21,8 +22,7 @@ use Rattle.slots.proofs.Stamps.{fresh-cleared, stamp-first}
 use Rattle.frame_table.specs.Table.{number_of}
 use Rattle.frame_table.specs.Held.{FrameOk}
 use Rattle.frame_table.proofs.Held.{filled_ok}
-use Rattle.schedule.specs.declared.Left.{Left}
-use Rattle.schedule.specs.declared.Left.TheVariants.{Nothing}
+use Rattle.frame_calls.specs.declared.FramePreview.{FramePreview}
 use Rattle.schedule.specs.Standing.{Stands, FrameOn}
 use Rattle.schedule.proofs.Standing.{stays_on, noted-on, other-stands}
 use Rattle.frame.specs.declared.Record.{Record}
@@ -48,7 +48,7 @@ module _ (frame frame' : List ℕ) (i : ℕ) (s : List ℕ) (at next : ℕ) (t f
   pub record Opens : Type 0 where
     pub fine : FrameOk frame'
     pub on : FrameOn frame frame'
-    pub stands : (slots : List ℕ) → StandsIf frame' i t f cache' slots Nothing next
+    pub stands : (slots : List ℕ) → StandsIf frame' i t f cache' slots None next
     pub ahead : at ≤ next
     pub within : next ≤ length s
 
@@ -88,7 +88,7 @@ module _ (frame frame' : List ℕ) (i : ℕ) (s : List ℕ) (at next : ℕ) (t f
           }
 
 -- ---- a formula that made no call
-pub other-if : (frame frame' : List ℕ) (i : ℕ) (t f cache slots : List ℕ) (left : Left) (n m : ℕ) → FrameOn frame frame' → n ≤ m → StandsIf frame i t f cache slots left n → StandsIf frame' i t f cache slots left m
+pub other-if : (frame frame' : List ℕ) (i : ℕ) (t f cache slots : List ℕ) (left : Option FramePreview) (n m : ℕ) → FrameOn frame frame' → n ≤ m → StandsIf frame i t f cache slots left n → StandsIf frame' i t f cache slots left m
 other-if frame frame' i t f cache slots left n m o l h = λ there. let k : i < number_of frame = omega (arith, o.number, there) in other-stands frame frame' i t f cache slots left n m o k l (h k)
 
 -- both are open
@@ -101,18 +101,18 @@ both-open frame frame₁ frame₂ s at next t₁ f₁ cache₁ cache₁' t₂ f�
     record {
       ok = b.fine;
       few = omega (arith, b.on.number, a.on.number, start.few);
-      one = λ slots. other-if frame₁ frame₂ 0 t₁ f₁ cache₁' slots Nothing next end b.on b.ahead (a.stands slots);
+      one = λ slots. other-if frame₁ frame₂ 0 t₁ f₁ cache₁' slots None next end b.on b.ahead (a.stands slots);
       two = b.stands;
       within = b.within;
     }
 
 -- ---- between the calls
 pub goes_first : (frame t₁ f₁ cache₁ slots₁ t₂ f₂ cache₂ slots₂ s : List ℕ) (at : ℕ) → BothOpen frame t₁ f₁ cache₁ t₂ f₂ cache₂ s at
-    → Goes frame t₁ f₁ cache₁ slots₁ t₂ f₂ cache₂ slots₂ s (record { at = at; calls = 0; one = Nothing; two = Nothing })
+    → Goes frame t₁ f₁ cache₁ slots₁ t₂ f₂ cache₂ slots₂ s (record { at = at; calls = 0; one = None; two = None })
 goes_first frame t₁ f₁ cache₁ slots₁ t₂ f₂ cache₂ slots₂ s at b =
     record { ok = b.ok; few = b.few; own = b.one slots₁; other = b.two slots₂; counted = omega arith; within = b.within }
 
-module _ (frame s : List ℕ) (at calls : ℕ) (i : ℕ) (t f cache slots : List ℕ) (left : Left) (j : ℕ) (t' f' cache' slots' : List ℕ) (left' : Left)
+module _ (frame s : List ℕ) (at calls : ℕ) (i : ℕ) (t f cache slots : List ℕ) (left : Option FramePreview) (j : ℕ) (t' f' cache' slots' : List ℕ) (left' : Option FramePreview)
     (g : Both frame s at calls i t f cache slots left j t' f' cache' slots' left') where
   -- either of the two can make the next call
   pub exchanged : Both frame s at calls j t' f' cache' slots' left' i t f cache slots left
@@ -123,7 +123,7 @@ module _ (frame s : List ℕ) (at calls : ℕ) (i : ℕ) (t f cache slots : List
   own-stands next over there = other-if frame frame i t f cache slots left at next (stays_on frame) (omega arith) g.own there
 
   -- after its call both stand
-  pub called : (next : ℕ) → at < next → (frame'' cache'' slots'' : List ℕ) (left'' : Left) (at'' : ℕ)
+  pub called : (next : ℕ) → at < next → (frame'' cache'' slots'' : List ℕ) (left'' : Option FramePreview) (at'' : ℕ)
       → FrameOk frame'' × FrameOn frame frame'' × Stands frame'' i t f cache'' slots'' left'' at'' × (next ≤ at'') × (at'' ≤ length s)
       → Both frame'' s at'' (calls + 1) i t f cache'' slots'' left'' j t' f' cache' slots' left' × (at < at'')
   called next over frame'' cache'' slots'' left'' at'' c =

@@ -16,12 +16,13 @@ ghost use Rattle.frame.specs.Opening.{FrameAt, SharesAt, part_of, formula_of, Fo
 ghost use Rattle.frame.specs.Running.{BothOpen, AllAt, Goes, Within};
 
 use calls::Opened;
+use frame_calls::FramePreview;
 use frame_table::{Frame, FrameOpened};
 use function::Function;
 use number::Number;
 use reading::Next;
 use reginfo::RegInfo;
-use schedule::{Left, Turn};
+use schedule::Turn;
 use slots::{EmergencySpillSlotCache, Slots};
 
 // How far a schedule's calls have come: where the next one stands, how many there were, and what is left to take of each formula.
@@ -29,8 +30,8 @@ use slots::{EmergencySpillSlotCache, Slots};
 struct Progress {
     at: usize,
     calls: usize,
-    one: Left,
-    two: Left,
+    one: Option<FramePreview>,
+    two: Option<FramePreview>,
 }
 
 // A schedule's length; or that the stream ends before it, or in the middle of it. One that is too long is counted as the latter.
@@ -39,18 +40,6 @@ enum Record {
     Is(usize),
     End,
     Cut,
-}
-
-fn byte(x: u8) -> usize
-    ensures { (result ≡ x) × (result < 256) }
-{
-    x as usize
-}
-
-fn long(x: u32) -> usize
-    ensures { result ≡ x }
-{
-    x as usize
 }
 
 // A frame of these shares: 0, which is no refusal, for more than two formulas, for which there are no tables here.
@@ -78,7 +67,7 @@ fn open_shares(s: &[u8], frame: &mut Frame) -> Next
         Number::Is(limit, at) => match schedule::read_list(s, at, &mut shares) {
             Number::Refused(k) => Next::Refused(k),
             Number::Is(n, next) => {
-                let m = long(n);
+                let m = n as usize;
                 open_few(frame, limit, &shares[..m], next)
             }
         },
@@ -128,7 +117,7 @@ fn open_formula(
         Number::Is(kept_evictions, then) => match number::read(s, then) {
             Number::Refused(k) => Next::Refused(k),
             Number::Is(n, next) => {
-                open_part(frame, i, kept_evictions, long(n), s, next, t, f, cache)
+                open_part(frame, i, kept_evictions, n as usize, s, next, t, f, cache)
             }
         },
     }
@@ -194,7 +183,7 @@ fn say_refused(k: u8) {
     if k == 0 {
         io::write_all(1, b"more formulas than the two that this program takes\n");
     } else {
-        say(b"refused ", byte(k));
+        say(b"refused ", usize::from(k));
     }
 }
 
@@ -207,7 +196,7 @@ fn call(
     f: &Function,
     cache: &mut EmergencySpillSlotCache,
     slots: &mut Slots,
-    left: Left,
+    left: Option<FramePreview>,
     s: &[u8],
     at: usize,
     out: &mut [u8],
@@ -227,7 +216,7 @@ fn call(
 fn refuse(k: u8, s: &[u8], p: Progress) -> Progress
     ensures { (result.at ≡ length s.now) × (result.calls ≡ p.calls) × (result.one ≡ p.one) × (result.two ≡ p.two) }
 {
-    say(b"refused ", byte(k));
+    say(b"refused ", usize::from(k));
     let one = p.one;
     let two = p.two;
     Progress {
@@ -308,9 +297,10 @@ fn run(
     let mut p = Progress {
         at: from,
         calls: 0,
-        one: Left::Nothing,
-        two: Left::Nothing,
+        one: None,
+        two: None,
     };
+    // Kept a `while`: the cursor goes on by each call's length.
     while p.at < s.len() {
         p = next_call(
             p,
@@ -374,7 +364,7 @@ fn read_schedule(buf: &mut [u8]) -> Record
     if got < 2 {
         return Record::Cut;
     }
-    let n = byte(head[0]) + 256 * byte(head[1]);
+    let n = head[0] as usize + 256 * (head[1] as usize);
     if buf.len() < n {
         return Record::Cut;
     }
@@ -404,11 +394,9 @@ fn answer_next(k: usize) -> bool
 }
 
 fn main() {
-    let mut k: usize = 0;
-    while k < 100000 {
+    for k in 0..100000 {
         if !answer_next(k) {
             return;
         }
-        k += 1;
     }
 }

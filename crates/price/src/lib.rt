@@ -60,6 +60,7 @@ fn price_in(p: Prices, word: u64) -> u64
     ensures { result ≡ price_in p word }
 {
     let kind = word % 8;
+    // The word's kinds are the format's numbers, each with its own price: a match says it plainest.
     match kind {
         1 => p.moves as u64,
         2 => p.remats as u64,
@@ -75,10 +76,8 @@ pub fn total(p: Prices, list: &[u64]) -> u64
     ensures { result ≡ total_of p list.now }
 {
     let mut sum = 0;
-    let mut i = 0;
-    while i < list.len() {
+    for i in 0..list.len() {
         sum += price_in(p, list[i]);
-        i += 1;
     }
     sum
 }

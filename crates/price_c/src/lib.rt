@@ -11,7 +11,6 @@ ghost use Rattle.price_c.specs.Chosen.{choice_number};
 ghost use Rattle.price_c.specs.Priced.{outside, few_edits, PricedAs};
 
 use cheaper::Choice;
-use edges::Found;
 use price::{EdgePrice, Prices};
 
 // Whether the run count or a price is outside its range.
@@ -67,8 +66,8 @@ pub extern "C" fn parallel_moves_price_5(
         return 19;
     }
     match edges::find(words, patch) {
-        Found::Nothing => 2,
-        Found::At(from, count) => {
+        None => 2,
+        Some((from, count)) => {
             let behind = &words[from..];
             put_price(p, &behind[..count], runs, total, runs_as_double, product)
         }

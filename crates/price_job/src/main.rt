@@ -23,7 +23,6 @@ use slots::{EmergencySpillSlotCache, Slots};
 use small_set::RegUnitSet;
 use sparse::SparseMap;
 use std::rt::Env;
-use streams::Got;
 use visits::States;
 
 // Whether there are no run counts, or one for each patch.
@@ -154,15 +153,13 @@ fn read_runs<E: Env>(rt: &E, runs: &mut [u64]) -> usize
     ensures { (result ≤ length runs.new) × (result ≡ length (take result runs.new)) }
 {
     let given = arguments::count(rt);
-    let mut n = 0;
-    while n < runs.len() {
+    for n in 0..runs.len() {
         if given <= n + 6 {
             return n;
         }
         runs[n] = number_at(rt, n + 6);
-        n += 1;
     }
-    n
+    runs.len()
 }
 
 // What the program expects, where its words, its name counted, are too few or too many.
@@ -210,8 +207,8 @@ fn main(rt: HostRuntime) {
     let given = read_runs(&rt, &mut runs);
     expect(arguments::count(&rt));
     let n = match streams::read_all(&mut rt.stdin(), &mut job) {
-        Got::Bytes(n) => n,
-        Got::Failed(error) => {
+        Ok(n) => n,
+        Err(error) => {
             let _ = eprintln!(rt; "price_job: standard input cannot be read: {error}");
             return;
         }

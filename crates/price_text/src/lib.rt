@@ -8,7 +8,6 @@ ghost use Rattle.print.specs.Put.{Room, Put};
 ghost use Rattle.answer_text.specs.Lines.{refusal_text};
 ghost use Rattle.price_text.specs.Lines.{total_text, runs_text, line_end, stopped, edge_text, edges_text};
 
-use edges::Count;
 use price::{EdgePrice, Prices};
 
 // Which patch, how many edits, what they cost.
@@ -119,8 +118,9 @@ pub fn put_edges(out: &mut [u8], p: Prices, runs: &[u64], words: &[u64], refusal
     let mut n = 0;
     let mut i = 0;
     let mut at = 0;
+    // Kept a `while`: it goes on by each patch's length, and counts nothing.
     while at < words.len() {
-        let Count::Edits(count) = edges::count_at(words, at) else {
+        let Some(count) = edges::count_at(words, at) else {
             return put_refusal(out, n, refusal);
         };
         if stops(runs, i) {

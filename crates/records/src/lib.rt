@@ -18,18 +18,15 @@ pub enum Record {
     Cut,
 }
 
-fn byte(x: u8) -> usize
-    ensures { (result ≡ x) × (result < 256) }
-{
-    x as usize
-}
-
 // Four bytes as a number, the lowest first.
 fn length_at(s: &[u8], at: usize) -> usize
     requires { at + 4 ≤ length s.now }
     ensures { (result ≡ length_at s.now at) × (result < 4294967296) }
 {
-    byte(s[at]) + byte(s[at + 1]) * 256 + byte(s[at + 2]) * 65536 + byte(s[at + 3]) * 16777216
+    usize::from(s[at])
+        + usize::from(s[at + 1]) * 256
+        + usize::from(s[at + 2]) * 65536
+        + usize::from(s[at + 3]) * 16777216
 }
 
 // Whether the two are the same, byte for byte.
@@ -39,12 +36,10 @@ pub fn same(a: &[u8], b: &[u8]) -> bool
     if a.len() != b.len() {
         return false;
     }
-    let mut i = 0;
-    while i < a.len() {
+    for i in 0..a.len() {
         if a[i] != b[i] {
             return false;
         }
-        i += 1;
     }
     true
 }

@@ -20,22 +20,7 @@ use slots::{EmergencySpillSlotCache, Slots};
 use small_set::RegUnitSet;
 use sparse::SparseMap;
 use std::io;
-use streams::Got;
 use visits::States;
-
-// How a job's text stands after a write, or why it failed.
-#[derive(Drop)]
-enum Write {
-    On(Progress),
-    Failed(io::Error),
-}
-
-// How many bytes of a job's text were written, nothing being left, or why a write failed.
-#[derive(Drop)]
-enum Written {
-    All(usize),
-    Failed(io::Error),
-}
 
 // The number of kept evictions that an argument gives, 0 if it is neither `1` nor `2`.
 fn setting_of(arg: &[u8]) -> u32
@@ -67,27 +52,25 @@ fn setting_from(count: usize, arg: &[u8]) -> u32
     0
 }
 
-// Writes what the buffer holds, which is what follows in the text of the job s with this setting.
+// Writes what the buffer holds, which is what follows in the text of the job s with this setting: how the text stands then.
 fn write_piece<W: io::Write>(
     to: &mut W,
     kept_evictions: u32,
     s: &[u8],
     out: &[u8],
     p: Progress,
-) -> Write
+) -> io::Result<Progress>
     requires { Piece kept_evictions s.now out.now p }
     ensures emptied { WroteOn p result }
     ensures written { PieceOn (W.contents to.old) (W.contents to.new) out.now p result }
 {
     let n = p.held;
-    match streams::write_all(to, &out[..n]) {
-        Ok(()) => Write::On(job_text::emptied(p)),
-        Err(error) => Write::Failed(error),
-    }
+    streams::write_all(to, &out[..n])?;
+    Ok(job_text::emptied(p))
 }
 
 // Writes what is left of the text of the job s with this setting: whenever the next patch may not fit behind what the buffer holds, and at the end. A
-// text of at most 65,536 bytes is one write.
+// text of at most 65,536 bytes is one write. Answers how many bytes of the text are written.
 fn write_text<W: io::Write>(
     to: &mut W,
     kept_evictions: u32,
@@ -108,13 +91,14 @@ fn write_text<W: io::Write>(
     marks: &mut States,
     c: &mut Carried,
     out: &mut [u8],
-) -> Written
+) -> io::Result<usize>
     requires { Stands kept_evictions t.now f.now s.now cache.old out.old from × (length out.old ≡ 86016) }
     ensures all_written { AllWritten kept_evictions s.now result }
     ensures written { TextOn (W.contents to.old) (W.contents to.new) kept_evictions from.written s.now result }
     ensures anything { Anything cache.new × Anything list.new × Anything free.new × Anything e.new × Anything w.new × Anything available.new × Anything sources.new × Anything edits.new × Anything slots.new × Anything d.new × Anything marks.new × Anything c.new × Anything out.new }
 {
     let mut p = from;
+    // Kept a `while`: the text says when it has ended.
     while !p.ended {
         if p.held <= 65536 {
             p = job_text::next(
@@ -123,19 +107,10 @@ fn write_text<W: io::Write>(
             );
             continue;
         }
-        match write_piece(to, kept_evictions, s, out, p) {
-            Write::On(q) => {
-                p = q;
-            }
-            Write::Failed(error) => {
-                return Written::Failed(error);
-            }
-        }
+        p = write_piece(to, kept_evictions, s, out, p)?;
     }
-    match write_piece(to, kept_evictions, s, out, p) {
-        Write::On(q) => Written::All(q.written),
-        Write::Failed(error) => Written::Failed(error),
-    }
+    let q = write_piece(to, kept_evictions, s, out, p)?;
+    Ok(q.written)
 }
 
 // Answers the job s with this setting: all its text is written, or a write failed.
@@ -158,7 +133,7 @@ fn answer<W: io::Write>(
     marks: &mut States,
     c: &mut Carried,
     out: &mut [u8],
-) -> Written
+) -> io::Result<usize>
     requires { length out.old ≡ 86016 }
     ensures all_written { AllWritten kept_evictions s.now result }
     ensures written { TextOn (W.contents to.old) (W.contents to.new) kept_evictions 0 s.now result }
@@ -209,13 +184,13 @@ fn main(rt: HostRuntime) {
     let length = arguments::word(&rt, 1, &mut arg);
     let kept_evictions = setting_from(arguments::count(&rt), &arg[..length]);
     let n = match streams::read_all(&mut rt.stdin(), &mut job) {
-        Got::Bytes(n) => n,
-        Got::Failed(error) => {
+        Ok(n) => n,
+        Err(error) => {
             let _ = eprintln!(rt; "resolve: standard input cannot be read: {error}");
             return;
         }
     };
-    match answer(
+    if let Err(error) = answer(
         &mut rt.stdout(),
         kept_evictions,
         &job[..n],
@@ -235,9 +210,6 @@ fn main(rt: HostRuntime) {
         &mut c,
         &mut out,
     ) {
-        Written::All(_) => {}
-        Written::Failed(error) => {
-            let _ = eprintln!(rt; "resolve: standard output cannot be written: {error}");
-        }
+        let _ = eprintln!(rt; "resolve: standard output cannot be written: {error}");
     }
 }

@@ -6,11 +6,11 @@ use mathlib.Core.List.{List, [], ◌∷◌, ◌++◌, append_assoc, append-nil}
 use mathlib.Core.Logic.{inl, inr}
 use native.Mathlib.Omega.{arith}
 use native.Mathlib.Numerals.{add-one}
-use lib.Dec.{eqb, leb}
-use lib.ListN.{length, get_or, take, drop, set, length-drop, length-set, drop_of_length-le}
+use lib.ListN.{length, take, drop, set, length-drop, length-set, drop_of_length-le}
 use lib.Seq.{take_all, take-suc-set, take_at, get_or-drop}
 use borrow.Author.Tests.{le-leb, lt-leb}
-use Rattle.entity.specs.Logic.{pick, and, or}
+use Rattle.std.specs.Prelude.{Option, Some, None}
+use Rattle.entity.specs.Logic.{pick}
 use Rattle.reginfo.specs.Table.{reg_info_of}
 use Rattle.function.specs.Known.{Checked}
 use Rattle.function.specs.Table.{function_of}
@@ -30,8 +30,6 @@ use Rattle.job_numbers.specs.Numbers.{Written, bytes_of, wrote, not_written, wri
 use Rattle.job_bytes.proofs.Putting.{bytes-none, bytes_one, bytes-append}
 use Rattle.job_writer.specs.declared.Written as code
 use Rattle.job_writer.specs.Steps.{WrittenAs}
-use Rattle.rewrite.specs.declared.Decoded.{Decoded}
-use Rattle.rewrite.specs.declared.Decoded.TheVariants.{Numbers, Not}
 use Rattle.rewrite.specs.declared.Outcome.{Outcome}
 use Rattle.rewrite.specs.declared.Outcome.TheVariants.{Same, Refused, NoNumbers, Differs, End}
 use Rattle.rewrite.specs.Rewritten.{DecodedAs, tells_of, recorded_from, recorded_in, agreed, HeldAs, tables_numbers, FromTables, BothAre, Rewritten}
@@ -47,7 +45,7 @@ pub begun : (s numbers : List ℕ) → length numbers ≡ 16384 → Decoding s n
 begun s numbers h = record { long = h; few = omega arith; within = omega arith; is = rw bytes-none }
 
 module _ (s numbers : List ℕ) (at n : ℕ) (d : Decoding s numbers at n) (r : Number) (a : NumberAt s at r) where
-  pub no_number : (k : ℕ) → r ≡ N.Refused k → DecodedAs s numbers Not
+  pub no_number : (k : ℕ) → r ≡ N.Refused k → DecodedAs s numbers None
   no_number k e =
       let x : number (drop at s) ≡ refused k = sym a.reads ∙ ap (read_of s) e in
       (take n numbers, at, d.is, x ∙ ap refused (one-refusal (drop at s) k x))
@@ -73,12 +71,12 @@ module _ (s numbers : List ℕ) (at n : ℕ) (d : Decoding s numbers at n) (r : 
               d.is;
         }
 
-pub all-numbers : (s numbers : List ℕ) (at n : ℕ) → length s ≤ 16384 → Decoding s numbers at n → length s ≤ at → DecodedAs s numbers (Numbers n)
+pub all-numbers : (s numbers : List ℕ) (at n : ℕ) → length s ≤ 16384 → Decoding s numbers at n → length s ≤ at → DecodedAs s numbers (Some n)
 all-numbers s numbers at n l d h =
     let z : drop at s ≡ [] = drop_of_length-le s {i = at} h in
     (omega (arith, d.few, d.within, d.long), d.long, sym (append-nil (bytes_of (take n numbers))) ∙ rw z at d.is)
 
-pub decoded : (s numbers : List ℕ) (r : Decoded) (n : ℕ) → DecodedAs s numbers r → r ≡ Numbers n
+pub decoded : (s numbers : List ℕ) (r : Option ℕ) (n : ℕ) → DecodedAs s numbers r → r ≡ Some n
     → (n ≤ length numbers) × (length numbers ≡ 16384) × (bytes_of (take n numbers) ≡ s)
 decoded s numbers r n h e = subst (DecodedAs s numbers) e h
 
@@ -147,7 +145,7 @@ module _ (s t f : List ℕ) (told : ℕ) where
 pub rest_all : (s : List ℕ) (next : ℕ) → take (length s - next) (drop next s) ≡ drop next s
 rest_all s next = take_all (length s - next) (drop next s) (rw (length-drop next s) (omega arith))
 
-pub no-numbers : (job text numbers : List ℕ) (r : Decoded) → DecodedAs job numbers r → r ≡ Not → Rewritten job text NoNumbers
+pub no-numbers : (job text numbers : List ℕ) (r : Option ℕ) → DecodedAs job numbers r → r ≡ None → Rewritten job text NoNumbers
 no-numbers job text numbers r h e = rw e at h
 
 pub rewritten : (job text ns : List ℕ) (first second r : Outcome) → bytes_of ns ≡ job → HeldAs job (written ns 16384) (recorded_in text) first

@@ -1,5 +1,5 @@
 -- What it says of a job that it was written anew.
-use Rattle.std.specs.Prelude.{ℕ, zero, suc, ◌+◌, ◌-◌, ◌≤◌, ◌≡◌, Bool, true, List, ◌++◌, ◌⊎◌, eqb, leb, length, take, drop}
+use Rattle.std.specs.Prelude.{ℕ, zero, suc, ◌+◌, ◌-◌, ◌≤◌, ◌≡◌, Bool, true, Option, Some, None, List, ◌++◌, ◌⊎◌, eqb, leb, length, take, drop}
 use Rattle.entity.specs.Logic.{pick, and, or}
 use Rattle.reginfo.specs.Table.{reg_info_of}
 use Rattle.function.specs.Table.{function_of}
@@ -9,15 +9,13 @@ use Rattle.print.specs.Text.{refused_line}
 use Rattle.records.specs.Bytes.{same_list}
 use Rattle.job_rules.specs.Job.{beginning}
 use Rattle.job_numbers.specs.Numbers.{Written, target_numbers, function_numbers, bytes_of, wrote, not_written, written}
-use Rattle.rewrite.specs.declared.Decoded.{Decoded}
-use Rattle.rewrite.specs.declared.Decoded.TheVariants.{Numbers, Not}
 use Rattle.rewrite.specs.declared.Outcome.{Outcome}
 use Rattle.rewrite.specs.declared.Outcome.TheVariants.{Same, Refused, NoNumbers, Differs, End}
 
 -- the bytes are those of the first n numbers; or behind those of some numbers there is none
-abbrev pub DecodedAs : (s numbers : List ℕ) → Decoded → Type 0
-DecodedAs s numbers (Numbers n) = (n ≤ length numbers) × (length numbers ≡ 16384) × (bytes_of (take n numbers) ≡ s)
-DecodedAs s numbers Not = (ns : List ℕ) × (at : ℕ) × (bytes_of ns ++ drop at s ≡ s) × (number (drop at s) ≡ refused 1)
+abbrev pub DecodedAs : (s numbers : List ℕ) → Option ℕ → Type 0
+DecodedAs s numbers (Some n) = (n ≤ length numbers) × (length numbers ≡ 16384) × (bytes_of (take n numbers) ≡ s)
+DecodedAs s numbers None = (ns : List ℕ) × (at : ℕ) × (bytes_of ns ++ drop at s ≡ s) × (number (drop at s) ≡ refused 1)
 
 -- the text ends with the line of refusal k
 abbrev pub tells_of : List ℕ → ℕ → Bool

@@ -19,14 +19,8 @@ use reading::Next;
 use records::Record;
 use reginfo::RegInfo;
 
-// How many numbers the bytes are, or that they are not all numbers.
-#[derive(Drop)]
-enum Decoded {
-    Numbers(usize),
-    Not,
-}
-
 // What became of a job: its own bytes, the recorded refusal, no numbers, or anything else; or there is none.
+// Ends of equal rank: none is an error that a caller would pass on.
 #[derive(Drop)]
 enum Outcome {
     Same,
@@ -36,24 +30,17 @@ enum Outcome {
     End,
 }
 
-// Does nothing: a call tells how many numbers are passed.
-fn told(numbers: [u32; 16384]) -> bool
-    ensures { length numbers ≡ 16384 }
-{
-    true
-}
-
-// The numbers that the bytes are, put at the front of the lent ones.
-fn decode(s: &[u8], numbers: &mut [u32; 16384]) -> Decoded
+// The numbers that the bytes are, put at the front of the lent ones: how many they are; nothing, if they are not all numbers.
+fn decode(s: &[u8], numbers: &mut [u32; 16384]) -> Option<usize>
     requires { length s.now ≤ 16384 }
     ensures { DecodedAs s.now numbers.new result }
 {
-    told(*numbers);
     let mut at = 0;
     let mut n = 0;
+    // Kept a `while`: the cursor goes on by each number's length.
     while at < s.len() {
         match number::read(s, at) {
-            Number::Refused(_) => return Decoded::Not,
+            Number::Refused(_) => return None,
             Number::Is(x, next) => {
                 numbers[n] = x;
                 n += 1;
@@ -61,7 +48,7 @@ fn decode(s: &[u8], numbers: &mut [u32; 16384]) -> Decoded
             }
         }
     }
-    Decoded::Numbers(n)
+    Some(n)
 }
 
 // Whether the text's last line is that of refusal k.
@@ -81,12 +68,10 @@ fn tells(text: &[u8], k: u8) -> bool
 fn recorded(text: &[u8]) -> u8
     ensures { result ≡ recorded_in text.now }
 {
-    let mut k: u8 = 1;
-    while k < 23 {
+    for k in 1..23 {
         if tells(text, k) {
             return k;
         }
-        k += 1;
     }
     0
 }
@@ -203,8 +188,8 @@ fn compare_opened(s: &[u8], recorded: u8) -> Outcome
             Outcome::Differs
         }
         Next::At(next) => match decode(&s[next..], &mut numbers) {
-            Decoded::Not => Outcome::Differs,
-            Decoded::Numbers(n) => compare_tables(s, recorded, &t, &f, &numbers[..n]),
+            None => Outcome::Differs,
+            Some(n) => compare_tables(s, recorded, &t, &f, &numbers[..n]),
         },
     }
 }
@@ -233,8 +218,8 @@ fn rewrite(s: &[u8], text: &[u8]) -> Outcome
 {
     let mut numbers = [0u32; 16384];
     match decode(s, &mut numbers) {
-        Decoded::Not => Outcome::NoNumbers,
-        Decoded::Numbers(n) => {
+        None => Outcome::NoNumbers,
+        Some(n) => {
             let k = recorded(text);
             both(compare(s, k, &numbers[..n]), compare_opened(s, k))
         }
@@ -266,12 +251,11 @@ fn tell(same: u64, refused: u64, others: u64, differ: u64) {
 }
 
 fn main() {
-    let mut k: u64 = 0;
     let mut same: u64 = 0;
     let mut refused: u64 = 0;
     let mut others: u64 = 0;
     let mut differ: u64 = 0;
-    while k < 100000 {
+    for k in 0..100000 {
         match rewrite_next(k) {
             Outcome::Same => same += 1,
             Outcome::Refused => refused += 1,
@@ -285,7 +269,6 @@ fn main() {
                 return;
             }
         }
-        k += 1;
     }
-    records::say(b"stopped after ", k, b" jobs\n");
+    records::say(b"stopped after ", 100000, b" jobs\n");
 }

@@ -36,12 +36,10 @@ fn show_next(k: u64) -> bool
 }
 
 fn main() {
-    let mut k: u64 = 0;
-    while k < 100000 {
+    for k in 0..100000 {
         if !show_next(k) {
             return;
         }
-        k += 1;
     }
-    records::say(b"stopped after ", k, b" trials\n");
+    records::say(b"stopped after ", 100000, b" trials\n");
 }

@@ -54,26 +54,24 @@ module _ (one two : List ℕ) where
       ∙ sym (append_assoc (refusal_text i (get_or one (7 + i) 0) (get_or two (7 + i) 0)) (refusals_text one two (i + 1) j) (refusal_text (i + suc j) (get_or one (7 + (i + suc j)) 0) (get_or two (7 + (i + suc j)) 0)))
 
   -- the rows of the numbers below j are put
-  pub record Refusing (out₀ : List ℕ) (n : ℕ) (out : List ℕ) (at j left : ℕ) : Type 0 where
+  pub record Refusing (out₀ : List ℕ) (n : ℕ) (out : List ℕ) (at j : ℕ) : Type 0 where
     pub put : Put out₀ out n (refusals_text one two 0 j) at
-    pub all : j + left ≡ 256
     pub low : at ≤ n + 53 * j
 
-  pub refusing-start : (out : List ℕ) (n : ℕ) → n ≤ length out → Refusing out n out n 0 256
+  pub refusing-start : (out : List ℕ) (n : ℕ) → n ≤ length out → Refusing out n out n 0
   unfolding refusals_text
-  refusing-start out n h = record { put = nothing_put (record { fits = omega arith }); all = refl; low = omega arith }
+  refusing-start out n h = record { put = nothing_put (record { fits = omega arith }); low = omega arith }
 
-  pub refusing-step : (out₀ out out' : List ℕ) (n at j left r : ℕ) → Refusing out₀ n out at j left → 0 < left → Put out out' at (refusal_text j (get_or one (7 + j) 0) (get_or two (7 + j) 0)) r × (r ≤ at + 53)
-      → Refusing out₀ n out' r (j + 1) (left - 1)
-  refusing-step out₀ out out' n at j left r g h p =
+  pub refusing-step : (out₀ out out' : List ℕ) (n at j r : ℕ) → Refusing out₀ n out at j → Put out out' at (refusal_text j (get_or one (7 + j) 0) (get_or two (7 + j) 0)) r × (r ≤ at + 53)
+      → Refusing out₀ n out' r (j + 1)
+  refusing-step out₀ out out' n at j r g p =
       let e : suc j ≡ j + 1 = omega arith in
       let z : 0 + j ≡ j = omega arith in
       let m : refusals_text one two 0 (suc j) ≡ refusals_text one two 0 j ++ refusal_text j (get_or one (7 + j) 0) (get_or two (7 + j) 0) = refusals-more 0 j ∙ ap (λ (k : ℕ). refusals_text one two 0 j ++ refusal_text k (get_or one (7 + k) 0) (get_or two (7 + k) 0)) z in
       record {
         put = subst (λ (k : ℕ). Put out₀ out' n (refusals_text one two 0 k) r) e (subst (λ (l : List ℕ). Put out₀ out' n l r) (sym m) (then-put g.put p.0));
-        all = omega (arith, g.all);
         low = omega (arith, g.low, p.1);
       }
 
-  pub refusing-end : (out₀ out : List ℕ) (n at j left : ℕ) → Refusing out₀ n out at j left → left ≤ 0 → Put out₀ out n (refusals_text one two 0 256) at
-  refusing-end out₀ out n at j left g h = let e : j ≡ 256 = omega (arith, g.all) in subst (λ (k : ℕ). Put out₀ out n (refusals_text one two 0 k) at) e g.put
+  pub refusing-end : (out₀ out : List ℕ) (n at j : ℕ) → Refusing out₀ n out at j → j ≡ 256 → Put out₀ out n (refusals_text one two 0 256) at
+  refusing-end out₀ out n at j g e = subst (λ (k : ℕ). Put out₀ out n (refusals_text one two 0 k) at) e g.put

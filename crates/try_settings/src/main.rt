@@ -25,7 +25,6 @@ use slots::{EmergencySpillSlotCache, Slots};
 use small_set::RegUnitSet;
 use sparse::SparseMap;
 use std::rt::Env;
-use streams::Got;
 use trying::Tally;
 use visits::States;
 
@@ -148,12 +147,8 @@ fn put_refusals(out: &mut [u8], n: usize, one: &Tally, two: &Tally) -> usize
     ensures { Put out.old out.new n (refusals_text one.now two.now 0 256) result }
 {
     let mut at = n;
-    let mut j: usize = 0;
-    let mut left: usize = 256;
-    while 0 < left {
+    for j in 0..256 {
         at = put_refusal(out, at, j, one[7 + j], two[7 + j]);
-        j += 1;
-        left -= 1;
     }
     at
 }
@@ -328,8 +323,8 @@ fn main(rt: HostRuntime) {
         reloads: arguments::narrow(number_at(&rt, 6)),
     };
     let n = match streams::read_all(&mut rt.stdin(), &mut job) {
-        Got::Bytes(n) => n,
-        Got::Failed(error) => {
+        Ok(n) => n,
+        Err(error) => {
             let _ = eprintln!(rt; "try_settings: standard input cannot be read: {error}");
             return;
         }

@@ -1,6 +1,5 @@
 -- `next_number` meets its contract: one more after a head.
 use mathlib.Core.Path.{sym, ◌∙◌}
-use borrow.Author.Rules.{rules}
 use Rattle.answer_text.proofs.next_number.Goals as goal
 
 pub returns-then-is_head : goal.returns-then-is_head

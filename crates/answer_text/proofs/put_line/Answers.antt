@@ -1,5 +1,4 @@
 -- `put_line` meets its contract: whether the word is a head decides.
-use borrow.Author.Rules.{rules}
 use Rattle.answer_text.proofs.Lines.{head-line, edit-line}
 use Rattle.answer_text.proofs.put_line.Goals as goal
 

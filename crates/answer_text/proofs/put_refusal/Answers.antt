@@ -14,18 +14,18 @@ put_refused-m-requires c = refusal-room c.args.refusal (search rules) (search ru
 pub slice_bounds-put_fitting-end : goal.slice_bounds-put_fitting-end
 slice_bounds-put_fitting-end c = let p = c.put_refused-m in sym (length-take-le p.result p.new.out (within p.ensures))
 
-pub returns-in-To : goal.returns-in-To
-returns-in-To c =
+pub returns-in-Some : goal.returns-in-Some
+returns-in-Some c =
     let f = c in
     let r = f in
     let i = r in
     rw (refusal-line i.args.refusal i.if-refusal-eq0.false, ← front r.put_refused-m.ensures)
-    (refusal-put f.put_fitting.ensures c.in-To.is)
+    (refusal-put f.put_fitting.ensures c.in-Some.is)
 
-pub returns-in-Short : goal.returns-in-Short
-returns-in-Short c =
+pub returns-in-None : goal.returns-in-None
+returns-in-None c =
     let f = c in
     let r = f in
     let i = r in
     rw (refusal-line i.args.refusal i.if-refusal-eq0.false, ← front r.put_refused-m.ensures)
-    (refusal-short f.put_fitting.ensures c.in-Short.is)
+    (refusal-short f.put_fitting.ensures c.in-None.is)

@@ -1,5 +1,4 @@
 -- `narrow` meets its contract.
-use borrow.Author.Rules.{rules}
 use borrow.Author.Tests.{lt-ltb, le-ltb}
 use Rattle.arguments.proofs.narrow.Goals as goal
 

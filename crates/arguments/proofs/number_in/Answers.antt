@@ -1,20 +1,7 @@
-use Prim.Native.Nat.{◌-◌, ◌≤◌}
-use mathlib.Core.Path.{◌≡◌, refl, sym, ◌∙◌}
+use mathlib.Core.Path.{sym, ◌∙◌}
 use native.Mathlib.Omega.{arith}
-use borrow.Author.Rules.{rules}
-use lib.ListN.{length, drop}
-use Rattle.arguments.specs.Number.{number_from}
-use Rattle.arguments.proofs.Numbers.{one-digit, no_digit, nothing-in, some_in}
+use Rattle.arguments.proofs.Numbers.{one-digit, no_digit, some_in}
 use Rattle.arguments.proofs.number_in.Goals as goal
-
-pub returns-then-arg-eq0 : goal.returns-then-arg-eq0
-returns-then-arg-eq0 c = sym (nothing-in c.args.arg.now c.if-arg-eq0.true)
-
-pub loop-i-init : goal.loop-i-init
-loop-i-init c = (refl, omega arith, omega arith)
-
-pub step-n-requires : goal.step-n-requires
-step-n-requires c = c.loop-i.invariant.1
 
 pub loop-i-preserved : goal.loop-i-preserved
 loop-i-preserved c =

@@ -1,6 +1,5 @@
 -- `count_at` meets its contract: the tests of a head, in their order.
 use mathlib.Core.Path.{sym, ap}
-use borrow.Author.Rules.{rules}
 use borrow.Author.Tests.{eq-eqb, ne_eqb}
 use Rattle.edges.specs.Patches.{counted}
 use Rattle.edges.proofs.Laws.{no_word, no-head, too_many, too_far, is-headed}

@@ -1,5 +1,4 @@
 -- What was opened is what the calls begin with.
-use borrow.Author.Rules.{rules}
 use Rattle.frame.proofs.answer.Goals as goal
 
 pub run-requires : goal.run-requires

@@ -5,7 +5,6 @@ use lib.Seq.{length-take-le}
 use mathlib.Core.Path.{sym}
 use native.Mathlib.Omega.{arith}
 use Rattle.frame.proofs.Running.{read-within}
-use borrow.Author.Rules.{rules}
 use Rattle.frame.proofs.answer_next.Goals as goal
 
 pub slice_bounds-buf-end : goal.slice_bounds-buf-end

@@ -3,7 +3,6 @@ use Prim.Native.Nat.{ℕ, ◌+◌}
 use lib.ListN.{length-replicate}
 use native.Mathlib.Omega.{arith}
 use Rattle.frame.proofs.Running.{exchanged, own-stands, called, ended, named}
-use borrow.Author.Rules.{rules}
 use Rattle.frame.proofs.next_call.Goals as goal
 
 pub call-r-requires : goal.call-r-requires

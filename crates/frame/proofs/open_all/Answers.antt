@@ -1,6 +1,5 @@
 -- The first formula stands beside the opening of the second.
 use Rattle.frame.proofs.Running.{frame-open, opens, both-open}
-use borrow.Author.Rules.{rules}
 use Rattle.frame.proofs.open_all.Goals as goal
 
 pub open_if_there-requires : goal.open_if_there-requires

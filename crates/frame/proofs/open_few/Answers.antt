@@ -1,6 +1,5 @@
 -- By what the frame answers, and by the number of shares.
 use Rattle.frame.proofs.Opening.{refused-frame, many-formulas, few-formulas}
-use borrow.Author.Rules.{rules}
 use Rattle.frame.proofs.open_few.Goals as goal
 
 pub returns-then-shares-gt2 : goal.returns-then-shares-gt2

@@ -1,14 +1,7 @@
 -- The setting, then the length, then the opening.
-use Rattle.frame.proofs.Opening.{within-bytes, no-setting, no_length, a-formula}
-use borrow.Author.Rules.{rules}
+use Rattle.frame.proofs.Opening.{no-setting, no_length, a-formula}
+use mathlib.Core.Path.{refl}
 use Rattle.frame.proofs.open_formula.Goals as goal
-
-pub open_part-requires : goal.open_part-requires
-open_part-requires c =
-    let a = c.args in
-    let r = c.read in
-    let q = c.read-in-Is in
-    (c.requires, within-bytes a.frame.now a.frame.now a.i a.s.now a.at a.t.now a.f.now a.cache.now a.cache.now r.result r.ensures _ _ c.in-Is.is q.result q.ensures _ _ c.in-Is-read.is)
 
 pub returns-in-Refused : goal.returns-in-Refused
 returns-in-Refused c =
@@ -29,4 +22,4 @@ returns-in-Is-read c =
     let r = c.read in
     let q = c.read-in-Is in
     let o = c.open_part in
-    a-formula a.frame.now o.new.frame a.i a.s.now a.at o.new.t o.new.f a.cache.now o.new.cache r.result r.ensures _ _ c.in-Is.is q.result q.ensures _ _ c.in-Is-read.is _ c.long.ensures o.result o.ensures
+    a-formula a.frame.now o.new.frame a.i a.s.now a.at o.new.t o.new.f a.cache.now o.new.cache r.result r.ensures _ _ c.in-Is.is q.result q.ensures _ _ c.in-Is-read.is _ refl o.result o.ensures

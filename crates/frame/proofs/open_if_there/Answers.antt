@@ -1,7 +1,6 @@
 -- By the number of formulas.
 use Rattle.reading.specs.declared.Next.TheVariants as X
 use Rattle.frame.proofs.Opening.{there-is, there-is-none}
-use borrow.Author.Rules.{rules}
 use Rattle.frame.proofs.open_if_there.Goals as goal
 
 pub returns-then-i-number : goal.returns-then-i-number

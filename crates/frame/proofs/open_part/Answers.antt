@@ -1,6 +1,5 @@
 -- The bytes from the offset on, as many as were counted.
 use Rattle.frame.proofs.Opening.{too_short, not-open, is_open}
-use borrow.Author.Rules.{rules}
 use Rattle.frame.proofs.open_part.Goals as goal
 
 pub returns-then-s-at : goal.returns-then-s-at

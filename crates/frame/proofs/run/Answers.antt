@@ -1,8 +1,4 @@
-use borrow.Author.Rules.{rules}
-use lib.ListN.{length}
-use Prim.Native.Nat.{◌-◌}
 use native.Mathlib.Omega.{arith}
-use Rattle.frame.specs.Running.{Goes}
 use Rattle.frame.proofs.Running.{goes_first}
 use Rattle.frame.proofs.run.Goals as goal
 

@@ -1,10 +1,7 @@
 -- Between the calls both formulas stand.
-use borrow.Author.Rules.{rules}
 use lib.ListN.{length}
 use Prim.Native.Nat.{◌-◌}
-use native.Mathlib.Omega.{arith}
 use Rattle.frame.specs.Running.{Goes}
-use Rattle.frame.proofs.Running.{goes_first}
 use Rattle.frame.proofs.run.Given as goal
 
 abbrev pub invariant-loop-p : goal.invariant-loop-p

@@ -7,9 +7,6 @@ use Rattle.price.specs.Price.{total_of}
 use Rattle.price.proofs.Laws.{price-small, one_more, none_left}
 use Rattle.price.proofs.total.Goals as goal
 
-pub loop-i-init : goal.loop-i-init
-loop-i-init c = (refl, omega arith, omega arith)
-
 pub overflow_add-sum : goal.overflow_add-sum
 overflow_add-sum c =
     let s = c in

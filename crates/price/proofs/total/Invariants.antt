@@ -9,6 +9,3 @@ use Rattle.price.proofs.total.Given as goal
 
 abbrev pub invariant-loop-i : goal.invariant-loop-i
 invariant-loop-i l = (l.sum + total_of l.p (drop l.i l.list) ≡ l.initial.sum + total_of l.p (drop l.initial.i l.list)) × (l.sum ≤ 65535 * l.i) × (l.i ≤ length l.list)
-
-abbrev pub decreases-loop-i : goal.decreases-loop-i
-decreases-loop-i l = length l.list - l.i

@@ -1,6 +1,5 @@
 -- `is_outside` meets its contract.
 use mathlib.Core.Path.{ap}
-use borrow.Author.Rules.{rules}
 use borrow.Author.Tests.{le-leb, lt-leb}
 use Rattle.entity.specs.Logic.{no}
 use Rattle.price_c.proofs.is_outside.Goals as goal

@@ -1,6 +1,5 @@
 -- Meets its contract: what was chosen decides.
 use mathlib.Core.Path.{sym, ap, ◌∙◌}
-use borrow.Author.Rules.{rules}
 use Rattle.price_c.specs.Chosen.{choice_number}
 use Rattle.price_c.proofs.parallel_moves_cheaper_5.Goals as goal
 

@@ -1,6 +1,5 @@
 -- Meets its contract: the numbers in their order.
 use mathlib.Core.Path.{sym, ◌∙◌}
-use borrow.Author.Rules.{rules}
 use borrow.Author.Tests.{lt-ltb, le-ltb}
 use lib.ListN.{length}
 use Rattle.price.specs.Price.{prices_in}

@@ -1,7 +1,6 @@
 -- `put_price` meets its contract: a run count in its range is not refused.
 use mathlib.Core.Path.{refl}
 use native.Mathlib.Omega.{arith}
-use borrow.Author.Rules.{rules}
 use Rattle.price_c.proofs.Laws.{within}
 use Rattle.price_c.proofs.put_price.Goals as goal
 

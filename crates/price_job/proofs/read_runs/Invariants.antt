@@ -8,7 +8,4 @@ use borrow.Author.Rules.{rules}
 use Rattle.price_job.proofs.read_runs.Given as goal
 
 abbrev pub invariant-loop-n : goal.invariant-loop-n
-invariant-loop-n g l = (l.n ≤ length l.runs) × (length l.runs ≡ length l.initial.runs)
-
-abbrev pub decreases-loop-n : goal.decreases-loop-n
-decreases-loop-n g l = length l.initial.runs - l.n
+invariant-loop-n g l = length l.runs ≡ length l.initial.runs

@@ -1,5 +1,4 @@
 -- `put_edge` meets its contract: the total, then the end of the line.
-use borrow.Author.Rules.{rules}
 use Rattle.print.proofs.Putting.{front-room, next-room, then-put}
 use Rattle.price_text.proofs.put_edge.Goals as goal
 

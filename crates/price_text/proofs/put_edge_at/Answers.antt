@@ -1,5 +1,4 @@
 -- `put_edge_at` meets its contract.
-use borrow.Author.Rules.{rules}
 use Rattle.edges.proofs.Laws.{part-is, part-long, part-few}
 use Rattle.price_text.proofs.put_edge_at.Goals as goal
 

@@ -1,5 +1,4 @@
 -- `put_end` meets its contract: with a run count, or without any.
-use borrow.Author.Rules.{rules}
 use borrow.Author.Tests.{le-ltb, lt-ltb}
 use Rattle.price_text.proofs.Laws.{in-its-range}
 use Rattle.price_text.proofs.put_end.Goals as goal

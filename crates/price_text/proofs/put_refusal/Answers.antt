@@ -1,5 +1,4 @@
 -- `put_refusal` meets its contract.
-use borrow.Author.Rules.{rules}
 use Rattle.print.proofs.Putting.{nothing_put}
 use Rattle.answer_text.proofs.Lines.{refusal-line}
 use Rattle.price_text.proofs.put_refusal.Goals as goal

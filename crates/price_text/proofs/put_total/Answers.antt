@@ -1,5 +1,4 @@
 -- `put_total` meets its contract: the words one after the other.
-use borrow.Author.Rules.{rules}
 use Rattle.print.proofs.Putting.{front-room, next-room, then-put}
 use Rattle.price_text.proofs.put_total.Goals as goal
 

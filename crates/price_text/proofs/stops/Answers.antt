@@ -1,5 +1,4 @@
 -- `stops` meets its contract.
-use borrow.Author.Rules.{rules}
 use borrow.Author.Tests.{le-ltb, lt-ltb}
 use Rattle.price_text.proofs.stops.Goals as goal
 

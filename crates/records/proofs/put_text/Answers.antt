@@ -3,7 +3,6 @@ use lib.ListN.{replicate, length-replicate}
 use mathlib.Core.Path.{sym}
 use lib.Seq.{length-take-le}
 use Rattle.records.proofs.Telling.{answered, refused, within, told}
-use borrow.Author.Rules.{rules}
 use Rattle.records.proofs.put_text.Goals as goal
 
 pub slice_bounds-words-end : goal.slice_bounds-words-end

@@ -1,5 +1,4 @@
 use borrow.Author.Tests.{not-false}
-use borrow.Author.Rules.{rules}
 use Rattle.records.proofs.read_record.Goals as goal
 
 pub returns-then-read_part : goal.returns-then-read_part

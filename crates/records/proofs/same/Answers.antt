@@ -1,9 +1,5 @@
 use native.Mathlib.Omega.{arith}
-use Prim.Native.Nat.{◌-◌, ◌≤◌}
-use mathlib.Core.Path.{◌≡◌, refl}
-use lib.ListN.{length, drop}
-use borrow.Author.Rules.{rules}
-use Rattle.records.specs.Bytes.{same_list}
+use mathlib.Core.Path.{refl}
 use Rattle.records.proofs.Comparing.{lengths_differ, all_same, one_more, one-differs}
 use Rattle.records.proofs.same.Goals as goal
 

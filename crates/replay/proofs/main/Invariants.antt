@@ -7,6 +7,3 @@ use Rattle.replay.proofs.main.Given as goal
 
 abbrev pub invariant-loop-k : goal.invariant-loop-k
 invariant-loop-k l = (l.same ≤ l.k) × (l.differ ≤ l.k)
-
-abbrev pub decreases-loop-k : goal.decreases-loop-k
-decreases-loop-k l = 100000 - l.k

@@ -1,3 +1,4 @@
+use Rattle.std.proofs.lemmas.Result.{err_from_is_err_and}
 use Rattle.resolve.proofs.Writing.{part, less, not_yet, by-now, part-all, then-piece, then-some}
 use Rattle.std.specs.Io.KnownBytes.{Appends}
 use Rattle.std.proofs.KnownBytes.{Appends-nil}
@@ -54,33 +55,34 @@ write_piece-requires g c =
     let l = c.loop-p in
     piece a.kept_evictions a.t.now a.f.now a.s.now l.cache l.out l.p l.invariant.0
 
-pub returns-in-Failed : goal.returns-in-Failed
-returns-in-Failed g c =
+pub returns-in_err-p : goal.returns-in_err-p
+returns-in_err-p g c =
     let a = c.args in
     let l = c.loop-p in
     let next = piece a.kept_evictions a.t.now a.f.now a.s.now l.cache l.out l.p l.invariant.0 in
+    let r = err_from_is_err_and c.from_residual.result c.from_residual.ensures.1 in
     record {
-      all_written = tt;
-      written = then-some _ _ _ a.from.written l.p.written l.p.held (job_text (job a.kept_evictions a.s.now)) l.out l.invariant.2 next.within next.room next.next l.invariant.3
-          (rw c.in-Failed.is at c.write_piece.ensures.written);
+      all_written = rw r.1 tt;
+      written = rw r.1 (then-some _ _ _ a.from.written l.p.written l.p.held (job_text (job a.kept_evictions a.s.now)) l.out l.invariant.2 next.within next.room next.next l.invariant.3
+          (rw c.in_err-p.was at c.write_piece.ensures.written));
       anything = (tt, tt, tt, tt, tt, tt, tt, tt, tt, tt, tt, tt, tt);
     }
 
 pub loop-p-smaller : goal.loop-p-smaller
 loop-p-smaller g c =
-    let e = rw c.in-On.is at c.write_piece.ensures.emptied in
+    let e = rw c.in_ok-p.was at c.write_piece.ensures.emptied in
     rw e (omega (arith, c.if-p-le65536.false))
 
 pub loop-p-preserved : goal.loop-p-preserved
 loop-p-preserved g c =
     let a = c.args in
     let l = c.loop-p in
-    let e = rw c.in-On.is at c.write_piece.ensures.emptied in (
+    let e = rw c.in_ok-p.was at c.write_piece.ensures.emptied in (
       rw e (written_stands a.kept_evictions a.t.now a.f.now a.s.now l.cache l.out l.p l.invariant.0),
       l.invariant.1,
       rw e (omega (arith, l.invariant.2)),
       rw e (then-piece _ _ _ a.from.written l.p.written l.p.held (job_text (job a.kept_evictions a.s.now)) l.out l.invariant.2
-          (piece a.kept_evictions a.t.now a.f.now a.s.now l.cache l.out l.p l.invariant.0).next l.invariant.3 (rw c.in-On.is at c.write_piece.ensures.written)),
+          (piece a.kept_evictions a.t.now a.f.now a.s.now l.cache l.out l.p l.invariant.0).next l.invariant.3 (rw c.in_ok-p.was at c.write_piece.ensures.written)),
     )
 
 pub write_piece-requires-2 : goal.write_piece-requires-2
@@ -89,11 +91,11 @@ write_piece-requires-2 g c =
     let l = c.loop-p in
     piece a.kept_evictions a.t.now a.f.now a.s.now l.cache l.out l.p l.invariant.0
 
-pub returns-in-On-write_piece : goal.returns-in-On-write_piece
-returns-in-On-write_piece g c =
+pub returns : goal.returns
+returns g c =
     let a = c.args in
     let l = c.loop-p in
-    let e = rw c.in-On-write_piece.is at c.write_piece-2.ensures.emptied in
+    let e = rw c.in_ok-q.was at c.write_piece-2.ensures.emptied in
     let next = piece a.kept_evictions a.t.now a.f.now a.s.now l.cache l.out l.p l.invariant.0 in
     let full = all-written a.kept_evictions a.t.now a.f.now a.s.now l.cache l.out (written_out l.p) (written_stands a.kept_evictions a.t.now a.f.now a.s.now l.cache l.out l.p l.invariant.0)
     (by-now _ c.loop-p-test.false) refl in
@@ -101,18 +103,19 @@ returns-in-On-write_piece g c =
       all_written = ap (λ (p : Progress). p.written) e ∙ full;
       written = subst (Appends _ _) (part-all a.from.written (l.p.written + l.p.held) (job_text (job a.kept_evictions a.s.now)) full)
           (then-piece _ _ _ a.from.written l.p.written l.p.held (job_text (job a.kept_evictions a.s.now)) l.out l.invariant.2 next.next l.invariant.3
-          (rw c.in-On-write_piece.is at c.write_piece-2.ensures.written));
+          (rw c.in_ok-q.was at c.write_piece-2.ensures.written));
       anything = (tt, tt, tt, tt, tt, tt, tt, tt, tt, tt, tt, tt, tt);
     }
 
-pub returns-in-Failed-write_piece : goal.returns-in-Failed-write_piece
-returns-in-Failed-write_piece g c =
+pub returns-in_err-q : goal.returns-in_err-q
+returns-in_err-q g c =
     let a = c.args in
     let l = c.loop-p in
     let next = piece a.kept_evictions a.t.now a.f.now a.s.now l.cache l.out l.p l.invariant.0 in
+    let r = err_from_is_err_and c.from_residual-in_err-q.result c.from_residual-in_err-q.ensures.1 in
     record {
-      all_written = tt;
-      written = then-some _ _ _ a.from.written l.p.written l.p.held (job_text (job a.kept_evictions a.s.now)) l.out l.invariant.2 next.within next.room next.next l.invariant.3
-          (rw c.in-Failed-write_piece.is at c.write_piece-2.ensures.written);
+      all_written = rw r.1 tt;
+      written = rw r.1 (then-some _ _ _ a.from.written l.p.written l.p.held (job_text (job a.kept_evictions a.s.now)) l.out l.invariant.2 next.within next.room next.next l.invariant.3
+          (rw c.in_err-q.was at c.write_piece-2.ensures.written));
       anything = (tt, tt, tt, tt, tt, tt, tt, tt, tt, tt, tt, tt, tt);
     }

@@ -1,6 +1,5 @@
 -- `agrees` meets its contract: case by case.
 use borrow.Author.Tests.{eq-eqb, ne_eqb}
-use borrow.Author.Rules.{rules}
 use Rattle.rewrite.proofs.agrees.Goals as goal
 
 pub returns-then-told-eq17 : goal.returns-then-told-eq17

@@ -1,11 +1,9 @@
 -- `compare` meets its contract: what was written, held against the job.
 use Prim.Native.Nat.{ℕ}
-use mathlib.Core.Path.{◌≡◌}
 use native.Mathlib.Omega.{arith}
 use lib.ListN.{length-replicate}
 use Rattle.job_numbers.specs.Numbers.{written}
 use Rattle.rewrite.proofs.Rewriting.{written_as}
-use borrow.Author.Rules.{rules}
 use Rattle.rewrite.proofs.compare.Goals as goal
 
 pub held-requires : goal.held-requires

@@ -1,12 +1,10 @@
 -- `compare_tables` meets its contract: what was written, held against the job.
 use Prim.Native.Nat.{ℕ}
-use mathlib.Core.Path.{◌≡◌}
 use native.Mathlib.Omega.{arith}
 use lib.ListN.{length-replicate}
 use Rattle.job_numbers.specs.Numbers.{written}
 use Rattle.rewrite.specs.Rewritten.{tables_numbers}
 use Rattle.rewrite.proofs.Rewriting.{written_as}
-use borrow.Author.Rules.{rules}
 use Rattle.rewrite.proofs.compare_tables.Goals as goal
 
 pub write_tables-r-requires : goal.write_tables-r-requires

@@ -1,9 +1,7 @@
 -- `decode` meets its contract: number by number.
 use Prim.Native.Nat.{◌-◌}
-use native.Mathlib.Omega.{arith}
 use lib.ListN.{length}
-use Rattle.rewrite.proofs.Rewriting.{Decoding, begun, no_number, ahead, one_number, all-numbers}
-use borrow.Author.Rules.{rules}
+use Rattle.rewrite.proofs.Rewriting.{Decoding}
 use Rattle.rewrite.proofs.decode.Given as goal
 
 abbrev pub invariant-loop-at : goal.invariant-loop-at

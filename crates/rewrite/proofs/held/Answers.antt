@@ -1,10 +1,8 @@
 -- `held` meets its contract: what is written is the job, or is refused.
-use mathlib.Core.Path.{◌≡◌, sym, ◌∙◌}
-use native.Mathlib.Omega.{arith}
+use mathlib.Core.Path.{sym, ◌∙◌}
 use lib.Seq.{length-take-le}
 use Rattle.entity.proofs.Laws.{no_false}
 use Rattle.rewrite.proofs.Rewriting.{refused_as, written_as, same-job}
-use borrow.Author.Rules.{rules}
 use Rattle.rewrite.proofs.held.Goals as goal
 
 pub returns-then-agrees : goal.returns-then-agrees

@@ -1,12 +1,6 @@
 -- `main` meets its contract: no count is above that of the records.
-use Prim.Native.Nat.{◌-◌, ◌≤◌}
-use mathlib.Core.Logic.{⊎_elim}
-use native.Mathlib.Omega.{arith}
-use borrow.Author.Rules.{rules}
+use Prim.Native.Nat.{◌≤◌}
 use Rattle.rewrite.proofs.main.Given as goal
 
 abbrev pub invariant-loop-k : goal.invariant-loop-k
 invariant-loop-k l = (l.same ≤ l.k) × (l.refused ≤ l.k) × (l.others ≤ l.k) × (l.differ ≤ l.k)
-
-abbrev pub decreases-loop-k : goal.decreases-loop-k
-decreases-loop-k l = 100000 - l.k

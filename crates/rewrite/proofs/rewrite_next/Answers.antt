@@ -5,7 +5,6 @@ use native.Mathlib.Omega.{arith}
 use lib.ListN.{length-replicate}
 use lib.Seq.{length-take-le}
 use Rattle.records.proofs.Showing.{within}
-use borrow.Author.Rules.{rules}
 use Rattle.rewrite.proofs.rewrite_next.Goals as goal
 
 pub slice_bounds-job-end : goal.slice_bounds-job-end

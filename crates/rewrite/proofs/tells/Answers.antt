@@ -1,6 +1,5 @@
 -- `tells` meets its contract: the last bytes of the text are held against the line.
 use mathlib.Core.Path.{sym}
-use native.Mathlib.Omega.{arith}
 use lib.Seq.{length-take-le}
 use Rattle.answer_text.proofs.Lines.{refusal-room, at_front, front, within}
 use Rattle.rewrite.proofs.Rewriting.{not-told, last_line}

@@ -18,11 +18,11 @@ slice_range-put_mid a k n xs ys within fits =
     let after = post_of a k xs in
     ap (take ((a + n) - a)) (drop_at (take a xs) (ys ++ after) a (length-take-le a xs within)) ∙ ap (λ m. take m (ys ++ after)) same ∙ take-append-le n ys after fits
 
-pub loop-done-preserved-in-Bytes : goal.loop-done-preserved-in-Bytes
-loop-done-preserved-in-Bytes g c =
+pub loop-done-preserved-in-Ok : goal.loop-done-preserved-in-Ok
+loop-done-preserved-in-Ok g c =
     let l = c.loop-done in
-    let n = c.in-Bytes.n in
+    let n = c.in-Ok.n in
     let room = length l.buf - l.done in
-    let part = slice_range-put_mid l.done room n l.buf c.read_some.new.buf l.invariant.0 (search rules) in
-    let joined = take_split l.done n l.buf (put_mid l.done room l.buf c.read_some.new.buf) (take-put_mid_below _ _ _ _ _ (le_refl _) l.invariant.0) in
-    (search rules, search rules, subst (Consumes _ _) (ap (λ b. take l.done l.buf ++ b) (sym part) ∙ joined) (Consumes-trans _ _ _ _ _ l.invariant.2 c.in-Bytes.ensures.bytes))
+    let part = slice_range-put_mid l.done room n l.buf c.read.new.buf l.invariant.0 (search rules) in
+    let joined = take_split l.done n l.buf (put_mid l.done room l.buf c.read.new.buf) (take-put_mid_below _ _ _ _ _ (le_refl _) l.invariant.0) in
+    (search rules, search rules, subst (Consumes _ _) (ap (λ b. take l.done l.buf ++ b) (sym part) ∙ joined) (Consumes-trans _ _ _ _ _ l.invariant.2 c.in-Ok.ensures.bytes.0))
