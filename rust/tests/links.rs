@@ -21,7 +21,11 @@ const PAPERS: &[&str] = &[
 ];
 
 /// Papers that tell what was, too: of these the links are tested, and not the names.
-const HISTORY: &[&str] = &["docs/CHANGES.md", "docs/DIFFERENCES.md"];
+const HISTORY: &[&str] = &[
+    "docs/CHANGES.md",
+    "docs/DESIGN-PASS.md",
+    "docs/DIFFERENCES.md",
+];
 
 /// Papers of which every quoted name is one of a source.
 const NAMING: &[&str] = &["docs/DECISIONS.md", "docs/RULES.md", "docs/STATEMENTS.md"];
