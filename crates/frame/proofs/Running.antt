@@ -25,10 +25,8 @@ use Rattle.frame_table.proofs.Held.{filled_ok}
 use Rattle.frame_calls.specs.declared.FramePreview.{FramePreview}
 use Rattle.schedule.specs.Standing.{Stands, FrameOn}
 use Rattle.schedule.proofs.Standing.{stays_on, noted-on, other-stands}
-use Rattle.frame.specs.declared.Record.{Record}
-use Rattle.frame.specs.declared.Record.TheVariants.{Is}
 use Rattle.frame.specs.Opening.{SharesAt, formula_of, FormulaAt, IfThere}
-use Rattle.frame.specs.Running.{StandsIf, BothOpen, AllAt, Both, Goes, Within}
+use Rattle.frame.specs.Running.{StandsIf, BothOpen, AllAt, Both, Goes}
 
 -- ---- opened
 pub record FrameOpen (s frame : List ℕ) (at : ℕ) : Type 0 where
@@ -152,9 +150,6 @@ module _ (frame s : List ℕ) (at calls : ℕ) (i : ℕ) (t f cache slots : List
     },
     omega (arith, e),
   )
-
-pub read-within : (buf : List ℕ) (r : Record) (n : ℕ) → Within buf r → r ≡ Is n → n ≤ length buf
-read-within buf r n h e = let a : Within buf (Is n) = rw e at h in a
 
 -- the formula that a call names
 pub record Names (s : List ℕ) (at n formula next : ℕ) : Type 0 where

@@ -1,5 +1,5 @@
 -- 02 l, a schedule: what stands between its calls.
-use Rattle.std.specs.Prelude.{ℕ, ◌<◌, ◌≤◌, List, length, Option, None}
+use Rattle.std.specs.Prelude.{ℕ, ◌<◌, ◌≤◌, List, length, Option, Some, None, Result, Ok, Err}
 use Rattle.reading.specs.declared.Next.{Next}
 use Rattle.reading.specs.declared.Next.TheVariants as X
 use Rattle.frame_table.specs.Table.{number_of}
@@ -7,8 +7,7 @@ use Rattle.frame_table.specs.Held.{FrameOk}
 use Rattle.frame_calls.specs.declared.FramePreview.{FramePreview}
 use Rattle.schedule.specs.Standing.{Stands}
 use Rattle.frame.specs.declared.Progress.{Progress}
-use Rattle.frame.specs.declared.Record.{Record}
-use Rattle.frame.specs.declared.Record.TheVariants.{Is, End, Cut}
+use Rattle.frame.specs.declared.Cut.{Cut}
 
 -- formula i stands, if there is one
 abbrev pub StandsIf : (frame : List ℕ) (i : ℕ) (t f cache slots : List ℕ) → Option FramePreview → ℕ → Type 0
@@ -40,7 +39,7 @@ Goes frame t₁ f₁ cache₁ slots₁ t₂ f₂ cache₂ slots₂ s p =
     Both frame s p.at p.calls 0 t₁ f₁ cache₁ slots₁ p.one 1 t₂ f₂ cache₂ slots₂ p.two
 
 -- a schedule that was read lies within the lent bytes
-abbrev pub Within : (buf : List ℕ) → Record → Type 0
-Within buf (Is n) = n ≤ length buf
-Within buf End = Unit {0}
-Within buf Cut = Unit {0}
+abbrev pub Within : (buf : List ℕ) → Result (Option ℕ) Cut → Type 0
+Within buf (Ok (Some n)) = n ≤ length buf
+Within buf (Ok None) = Unit {0}
+Within buf (Err _) = Unit {0}

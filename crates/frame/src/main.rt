@@ -34,13 +34,9 @@ struct Progress {
     two: Option<FramePreview>,
 }
 
-// A schedule's length; or that the stream ends before it, or in the middle of it. One that is too long is counted as the latter.
-#[derive(Drop)]
-enum Record {
-    Is(usize),
-    End,
-    Cut,
-}
+// Why there is no schedule: the stream ends in the middle of it, or it is longer than the bytes that are lent for it.
+#[derive(Clone, Copy, PartialEq, Eq)]
+struct Cut;
 
 // A frame of these shares: 0, which is no refusal, for more than two formulas, for which there are no tables here.
 fn open_few(frame: &mut Frame, limit: u32, shares: &[u32], next: usize) -> Next
@@ -352,26 +348,26 @@ fn answer(s: &[u8]) {
     }
 }
 
-// The next schedule of standard input.
-fn read_schedule(buf: &mut [u8]) -> Record
+// The length of the next schedule of standard input; nothing, if the stream ends before it.
+fn read_schedule(buf: &mut [u8]) -> Result<Option<usize>, Cut>
     ensures { Within buf.new result }
 {
     let mut head = [0u8; 2];
     let got = io::read_full(0, &mut head);
     if got == 0 {
-        return Record::End;
+        return Ok(None);
     }
     if got < 2 {
-        return Record::Cut;
+        return Err(Cut);
     }
     let n = head[0] as usize + 256 * (head[1] as usize);
     if buf.len() < n {
-        return Record::Cut;
+        return Err(Cut);
     }
-    if io::read_full(0, &mut buf[..n]) == n {
-        return Record::Is(n);
+    if io::read_full(0, &mut buf[..n]) < n {
+        return Err(Cut);
     }
-    Record::Cut
+    Ok(Some(n))
 }
 
 // The schedule after the first k: whether there is one.
@@ -380,12 +376,12 @@ fn answer_next(k: usize) -> bool
 {
     let mut buf = [0u8; 4000];
     match read_schedule(&mut buf) {
-        Record::End => false,
-        Record::Cut => {
+        Ok(None) => false,
+        Err(Cut) => {
             io::write_all(1, b"a schedule is cut off or too long\n");
             false
         }
-        Record::Is(n) => {
+        Ok(Some(n)) => {
             say(b"frame ", k + 1);
             answer(&buf[..n]);
             true

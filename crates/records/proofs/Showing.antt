@@ -1,6 +1,6 @@
 -- A text that was printed: it stands at the front of the lent bytes.
 use Prim.Native.Nat.{ℕ, ◌≤◌}
-use mathlib.Core.Path.{◌≡◌, refl, subst}
+use mathlib.Core.Path.{◌≡◌, refl}
 use mathlib.Core.Bool.{Bool, true, false}
 use mathlib.Core.List.{List}
 use native.Mathlib.Omega.{arith}
@@ -9,9 +9,6 @@ use lib.Dec.{ltb}
 use lib.ListN.{length, take, drop}
 use lib.Seq.{take_at}
 use Rattle.answer_text.specs.Lines.{Printed}
-use Rattle.records.specs.declared.Record.{Record}
-use Rattle.records.specs.declared.Record.TheVariants.{Is}
-use Rattle.records.specs.Told.{Within}
 
 pub shown : (out out' text : List ℕ) (n : ℕ) → Printed out out' text n → (n ≡ 0 → ⊥) → (n ≤ length out) × (take n out' ≡ text)
 shown out out' text n p there = go (ltb (length out) (length text)) refl
@@ -22,7 +19,3 @@ shown out out' text n p there = go (ltb (length out) (length text)) refl
         let few : length text ≤ length out = ltb-false _ _ h in
         let f = p.fits few in
         (omega (arith, few, f.0), rw (f.1, f.0) (take_at text (drop (length text) out) (length text) refl))
-
--- a record that was read lies within the lent bytes
-pub within : (job text : List ℕ) (r : Record) (kept n m : ℕ) → Within job text r → r ≡ Is kept n m → (n ≤ length job) × (m ≤ length text)
-within job text r kept n m w e = subst (λ (x : Record). Within job text x) e w

@@ -2,21 +2,16 @@
 // of kept evictions, which may be any, the job's length and the text's, four bytes each, the lowest first, the job, and the text.
 #![tactic(auto)]
 
-ghost use Rattle.std.specs.Prelude.{◌≡◌, ◌+◌, ◌<◌, ◌≤◌, true, length};
+ghost use Rattle.std.specs.Prelude.{OnOk, ◌≡◌, ◌+◌, ◌<◌, ◌≤◌, length};
 ghost use Rattle.answer_text.specs.Lines.{Printed};
 ghost use Rattle.records.specs.Bytes.{length_at, same_list};
 ghost use Rattle.records.specs.Told.{Within, text_of};
 
 use answer::Whole;
 
-// A record's number of kept evictions and the lengths of its job and text; or that the stream ends before the record, or in the middle of it. A
-// length past the lent bytes is counted as the latter.
-#[derive(Drop)]
-pub enum Record {
-    Is(u32, usize, usize),
-    End,
-    Cut,
-}
+// Why there is no record: the stream ends in the middle of it, or it is longer than the bytes that are lent for it.
+#[derive(Clone, Copy, PartialEq, Eq)]
+pub struct Cut;
 
 // Four bytes as a number, the lowest first.
 fn length_at(s: &[u8], at: usize) -> usize
@@ -45,37 +40,36 @@ pub fn same(a: &[u8], b: &[u8]) -> bool
 }
 
 // The next n bytes of standard input, if they fit and are there.
-fn read_part(buf: &mut [u8], n: usize) -> bool
-    ensures { result ≡ true → n ≤ length buf.new }
+fn read_part(buf: &mut [u8], n: usize) -> Result<(), Cut>
+    ensures { OnOk result (n ≤ length buf.new) }
 {
     if buf.len() < n {
-        return false;
+        return Err(Cut);
     }
-    io::read_full(0, &mut buf[..n]) == n
+    if io::read_full(0, &mut buf[..n]) < n {
+        return Err(Cut);
+    }
+    Ok(())
 }
 
-// The next record of standard input.
-pub fn read_record(job: &mut [u8], text: &mut [u8]) -> Record
+// The next record of standard input: its number of kept evictions and the lengths of its job and text; nothing, if the stream ends before it.
+pub fn read_record(job: &mut [u8], text: &mut [u8]) -> Result<Option<(u32, usize, usize)>, Cut>
     ensures { Within job.new text.new result }
 {
     let mut head = [0u8; 12];
     let got = io::read_full(0, &mut head);
     if got == 0 {
-        return Record::End;
+        return Ok(None);
     }
     if got < 12 {
-        return Record::Cut;
+        return Err(Cut);
     }
     let kept_evictions = length_at(&head, 0) as u32;
     let n = length_at(&head, 4);
     let m = length_at(&head, 8);
-    if !read_part(job, n) {
-        return Record::Cut;
-    }
-    if read_part(text, m) {
-        return Record::Is(kept_evictions, n, m);
-    }
-    Record::Cut
+    read_part(job, n)?;
+    read_part(text, m)?;
+    Ok(Some((kept_evictions, n, m)))
 }
 
 // The text of the answer of a job with so many kept evictions, put at the front of the lent bytes. Answers its length; or 0 where it does not fit,

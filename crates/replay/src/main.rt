@@ -4,7 +4,7 @@
 ghost use Rattle.std.specs.Prelude.{◌<◌, ◌≡◌};
 ghost use Rattle.replay.specs.Replayed.{is_replayed};
 
-use records::Record;
+use records::Cut;
 
 // Whether the text of the job's answer is the recorded one, and has room.
 fn replayed(kept_evictions: u32, job: &[u8], text: &[u8]) -> bool
@@ -34,12 +34,12 @@ fn replay_next(k: u64) -> Outcome
     let mut job = [0u8; 16384];
     let mut text = [0u8; 65536];
     match records::read_record(&mut job, &mut text) {
-        Record::End => Outcome::End,
-        Record::Cut => {
+        Ok(None) => Outcome::End,
+        Err(Cut) => {
             records::say(b"record ", k + 1, b" is cut off or too long\n");
             Outcome::End
         }
-        Record::Is(kept_evictions, n, m) => {
+        Ok(Some((kept_evictions, n, m))) => {
             if replayed(kept_evictions, &job[..n], &text[..m]) {
                 return Outcome::Same;
             }

@@ -16,7 +16,7 @@ use function::Function;
 use job_writer::Written;
 use number::Number;
 use reading::Next;
-use records::Record;
+use records::Cut;
 use reginfo::RegInfo;
 
 // What became of a job: its own bytes, the recorded refusal, no numbers, or anything else; or there is none.
@@ -233,12 +233,12 @@ fn rewrite_next(k: u64) -> Outcome
     let mut job = [0u8; 16384];
     let mut text = [0u8; 65536];
     match records::read_record(&mut job, &mut text) {
-        Record::End => Outcome::End,
-        Record::Cut => {
+        Ok(None) => Outcome::End,
+        Err(Cut) => {
             records::say(b"record ", k + 1, b" is cut off or too long\n");
             Outcome::Differs
         }
-        Record::Is(_, n, m) => rewrite(&job[..n], &text[..m]),
+        Ok(Some((_, n, m))) => rewrite(&job[..n], &text[..m]),
     }
 }
 

@@ -4,7 +4,7 @@
 
 ghost use Rattle.std.specs.Prelude.{◌<◌};
 
-use records::Record;
+use records::Cut;
 
 // The text of the job's answer.
 fn show(kept_evictions: u32, job: &[u8]) {
@@ -24,9 +24,9 @@ fn show_next(k: u64) -> bool
     let mut job = [0u8; 16384];
     let mut text = [0u8; 65536];
     match records::read_record(&mut job, &mut text) {
-        Record::End => {}
-        Record::Cut => records::say(b"record ", k + 1, b" is cut off or too long\n"),
-        Record::Is(kept_evictions, n, _) => {
+        Ok(None) => {}
+        Err(Cut) => records::say(b"record ", k + 1, b" is cut off or too long\n"),
+        Ok(Some((kept_evictions, n, _))) => {
             records::say(b"-- trial ", k + 1, b"\n");
             show(kept_evictions, &job[..n]);
             return true;

@@ -6,7 +6,6 @@ use lib.Seq.{length-take-le}
 use Rattle.records.specs.Told.{text_of}
 use Rattle.records.proofs.Showing.{shown}
 use Rattle.replay.proofs.Replaying.{not-told, compared}
-use borrow.Author.Rules.{rules}
 use Rattle.replay.proofs.replayed.Goals as goal
 
 pub returns-then-n-eq0 : goal.returns-then-n-eq0

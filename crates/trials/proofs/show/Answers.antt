@@ -1,11 +1,9 @@
 use native.Mathlib.Omega.{arith}
 use Prim.Native.Nat.{ℕ}
-use mathlib.Core.Path.{sym}
 use lib.ListN.{length-replicate}
 use lib.Seq.{length-take-le}
 use Rattle.records.specs.Told.{text_of}
 use Rattle.records.proofs.Showing.{shown}
-use borrow.Author.Rules.{rules}
 use Rattle.trials.proofs.show.Goals as goal
 
 pub slice_bounds-out-end : goal.slice_bounds-out-end
