@@ -116,12 +116,9 @@ fn put_class(work: &mut Work, at: usize, t: &RegInfo, c: usize) -> Option<usize>
 }
 
 // The first n rows, one behind the other, each as `put` puts it.
-fn put_rows<F: Fn(&mut Work, usize, usize) -> Option<usize>>(
-    work: &mut Work,
-    at: usize,
-    n: u16,
-    put: F,
-) -> Option<usize>
+fn put_rows<F>(work: &mut Work, at: usize, n: u16, put: F) -> Option<usize>
+where
+    F: Fn(&mut Work, usize, usize) -> Option<usize>,
     requires { (w : _) (q i : _) → i < n → F.pre put w q i }
     ensures { (row : ℕ → List ℕ) → ((w : _) (q i : _) (r : _) (w′ : _) → i < n → F.post put w q i r w′ → Puts w.now q (row i) w′.now r) → Puts work.old at (each_of row (indices 0 n)) work.new result }
 {

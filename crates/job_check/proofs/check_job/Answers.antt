@@ -1,12 +1,6 @@
 -- `check_job` meets its contract: the opening, then the patches.
-use Rattle.job_check.proofs.Passing.{unopened, opened, all-checked}
+use Rattle.job_check.proofs.Passing.{unopened, all-checked}
 use Rattle.job_check.proofs.check_job.Goals as goal
-
-pub check_patches-requires : goal.check_patches-requires
-check_patches-requires c =
-    let args = c.args in
-    let read-opening = c.read_opening in
-    opened args.s.now read-opening.new.t read-opening.new.f _ _ (rw c.in-Is.is at read-opening.ensures)
 
 pub returns-in-Refused : goal.returns-in-Refused
 returns-in-Refused c =

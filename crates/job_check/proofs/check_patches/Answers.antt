@@ -1,16 +1,8 @@
 use Prim.Native.Nat.{◌+◌, ◌-◌}
-use mathlib.Core.Path.{◌≡◌, refl, sym, ◌∙◌}
+use mathlib.Core.Path.{◌≡◌, sym, ◌∙◌}
 use Rattle.job_check.proofs.Passing.{refused-here, goes_on, left_over, all_read}
 use native.Mathlib.Omega.{arith}
 use Rattle.job_check.proofs.check_patches.Goals as goal
-
-pub loop-done-init : goal.loop-done-init
-loop-done-init c = let e : c.args.count - 0 ≡ c.args.count = omega arith in rw e refl
-
-pub read_accepted-requires : goal.read_accepted-requires
-read_accepted-requires c =
-    let pre = c.requires in
-    pre
 
 pub returns-in-Refused : goal.returns-in-Refused
 returns-in-Refused c =

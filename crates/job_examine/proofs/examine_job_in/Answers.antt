@@ -10,9 +10,6 @@ pub returns-then-limit-gt2048 : goal.returns-then-limit-gt2048
 unfolding examine_job_in
 returns-then-limit-gt2048 c = let s = c in record { result_value = rw (lt-ltb 2048 s.args.limit c.if-limit-gt2048.true) refl; anything = (tt, tt, tt, tt, tt, tt, tt, tt, tt, tt) }
 
-pub examine_numbered-requires : goal.examine_numbered-requires
-examine_numbered-requires c = let s = c in let o = opening-got s.args.s.now _ _ (opening 1 s.args.s.now) _ _ _ c.read_opening.ensures c.in-Is.is in (o.checked, c.if-limit-gt2048.false)
-
 pub returns-in-Refused : goal.returns-in-Refused
 unfolding examine_job_in
 returns-in-Refused c = let s = c in record { result_value = rw (le-ltb 2048 s.args.limit c.if-limit-gt2048.false) (sym (ap (examine_opened (λ f. s.args.limit) s.args.n s.args.list.now) (opening-refused s.args.s.now _ _ (opening 1 s.args.s.now) _ _ c.read_opening.ensures c.in-Refused.is))); anything = (tt, tt, tt, tt, tt, tt, tt, tt, tt, tt) }

@@ -10,12 +10,6 @@ use Rattle.job_examine.proofs.examine_numbered.Goals as goal
 pub returns-then-count-n : goal.returns-then-count-n
 returns-then-count-n c = let s = c in record { result_value = at_none (reg_info_of s.args.t.now) (function_of s.args.f.now) s.args.count s.args.n s.args.most s.args.list.now (drop s.args.at s.args.s.now) c.if-count-n.true; anything = (tt, tt, tt, tt, tt, tt, tt, tt) }
 
-pub read_numbered-requires : goal.read_numbered-requires
-read_numbered-requires c = c.requires.0
-
-pub examine_patch-requires : goal.examine_patch-requires
-examine_patch-requires c = let s = c in let g = read-got s.args.t.now s.args.f.now s.args.s.now _ _ _ (patch_at (reg_info_of s.args.t.now) (function_of s.args.f.now) s.args.n (drop s.args.at s.args.s.now)) _ _ c.read_numbered.ensures c.in-At.is in (s.requires.0, g.holds.ok, s.requires.1)
-
 pub returns-in-Refused : goal.returns-in-Refused
 returns-in-Refused c = let s = c in record { result_value = at_some (reg_info_of s.args.t.now) (function_of s.args.f.now) s.args.count s.args.n s.args.most s.args.list.now (drop s.args.at s.args.s.now) _ c.if-count-n.false (read-refused s.args.t.now s.args.f.now s.args.s.now _ _ _ (patch_at (reg_info_of s.args.t.now) (function_of s.args.f.now) s.args.n (drop s.args.at s.args.s.now)) _ _ c.read_numbered.ensures c.in-Refused.is); anything = (tt, tt, tt, tt, tt, tt, tt, tt) }
 

@@ -18,33 +18,6 @@ returns-then-left-eq0 c =
     let end = c.finish in
     record { stands = (ended-stands T F S C O p e _ h T F C end.new.out _ end.result (ends-here T F S C O p e (omega (arith, c.if-left-eq0.true))) end.ensures.0 end.ensures.1, end.ensures.0.kept, ended-less T F S C O p e _ h end.result end.ensures.0); anything = (tt, tt, tt, tt, tt, tt, tt, tt, tt, tt, tt) }
 
-pub answer_patch-requires : goal.answer_patch-requires
-answer_patch-requires c =
-    let s = c in
-    let g = s.requires.0.going s.requires.1 in
-    (g.checked, g.cached)
-
-pub put_patch-held-requires : goal.put_patch-held-requires
-put_patch-held-requires c =
-    let s = c in
-    let p = s.args.p in
-    let T = s.args.t.now in
-    let F = s.args.f.now in
-    let S = s.args.s.now in
-    let C = s.args.cache.now in
-    let h = s.requires.0 in
-    let e = s.requires.1 in
-    let a = c.answer_patch in
-    let len = c.told-list in
-    let g = resolved T F S p.at s.args.list.now len C a.new.list a.new.cache _ _ _ (rw c.in-Edits.is at a.ensures.step_at) in
-    (s.requires.2, omega (arith, (h.going e).few, c.if-left-eq0.false), omega (arith, g.within, a.auto.list, len), omega (arith, c.from-made.ensures))
-
-pub overflow_sub-result : goal.overflow_sub-result
-overflow_sub-result c = omega (arith, c.if-left-eq0.false)
-
-pub overflow_add-result : goal.overflow_add-result
-overflow_add-result c = let s = c in omega (arith, (s.requires.0.going s.requires.1).few)
-
 pub returns-in-Refused : goal.returns-in-Refused
 returns-in-Refused c =
     let s = c in

@@ -1,4 +1,4 @@
-use Rattle.job_text.proofs.Standing.{none-refused, one-refused}
+use Rattle.job_text.proofs.Standing.{one-refused}
 use Rattle.answer_text.specs.Lines.{refusal_text}
 use Rattle.print.specs.Put.{Put}
 use Rattle.print.specs.Text.{refused_line}
@@ -8,11 +8,6 @@ use Prim.Native.Nat.{ℕ}
 use Rattle.print.proofs.Lengths.{refused-short}
 use native.Mathlib.Omega.{arith}
 use Rattle.job_text.proofs.refuse.Goals as goal
-
-pub returns-then-number-eq0 : goal.returns-then-number-eq0
-returns-then-number-eq0 c =
-    let s = c in
-    (c.end.ensures.0, none-refused s.args.number (omega (arith, c.if-number-eq0.true)) c.end.ensures.1 (omega (arith, s.requires)))
 
 pub put_refused-requires : goal.put_refused-requires
 put_refused-requires c = record { fits = omega (arith, refused-short c.from.result (omega (arith, c.from.ensures)), c.requires) }

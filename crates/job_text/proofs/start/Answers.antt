@@ -4,9 +4,6 @@ use Rattle.job_text.proofs.Opening.{turned-away, begun-stands}
 use native.Mathlib.Omega.{arith}
 use Rattle.job_text.proofs.start.Goals as goal
 
-pub refuse-requires : goal.refuse-requires
-refuse-requires c = rw c.begun.ensures c.requires
-
 pub returns-in-Refused : goal.returns-in-Refused
 returns-in-Refused c =
     let s = c in

@@ -1,26 +1,14 @@
 use Prim.Native.Nat.{◌%◌}
 use native.Mathlib.Omega.{arith}
 use lib.ListN.{get_or}
-use Rattle.trying.proofs.Tally.{kinds-start, kinds-step, kinds-end, kinds-room}
+use Rattle.trying.proofs.Tally.{kinds-step, kinds-end, kinds-room}
 use Rattle.trying.proofs.count_kinds.Goals as goal
-
-pub loop-word-init : goal.loop-word-init
-loop-word-init c = kinds-start _ _ c.told-tally
-
-pub offset_bounds-tally-kind : goal.offset_bounds-tally-kind
-offset_bounds-tally-kind c = omega arith
-
-pub bounds-tally-kind : goal.bounds-tally-kind
-bounds-tally-kind c = omega arith
 
 pub overflow_add-tally : goal.overflow_add-tally
 overflow_add-tally c =
     let s = c in
     let l = c.loop-word in
     omega (arith, kinds-room s.args.list.now s.args.tally.now l.tally l.word-index (get_or s.args.list.now l.word-index 0 % 8) l.invariant s.requires.0 s.requires.1 (omega arith))
-
-pub bounds-tally-kind-in-loop-word : goal.bounds-tally-kind-in-loop-word
-bounds-tally-kind-in-loop-word c = omega arith
 
 pub loop-word-preserved : goal.loop-word-preserved
 loop-word-preserved c =

@@ -1,7 +1,7 @@
 use Prim.Native.Nat.{◌+◌, ◌-◌, ◌%◌, ◌<◌}
 use native.Mathlib.Omega.{arith}
 use native.Mathlib.Nat.{mod-lt}
-use mathlib.Core.Path.{◌≡◌, sym, ◌∙◌}
+use mathlib.Core.Path.{◌≡◌}
 use Rattle.trying.proofs.Drawing.{going_start, going_step, going_end}
 use Rattle.trying.proofs.draw_patch.Goals as goal
 
@@ -12,21 +12,12 @@ loop-i-init c =
     let z : n - 0 ≡ n = omega arith in
     rw z (going_start _ _ _ _ _ (let h : c.draw-s.result % 16 < 16 = mod-lt c.draw-s.result (omega arith) in omega arith) s.requires.2)
 
-pub draw_move-s-requires : goal.draw_move-s-requires
-draw_move-s-requires c =
-    let s = c in
-    let l = c.loop-i in
-    (s.requires.0, s.requires.1, l.invariant.long, omega (arith, l.invariant.few, c.loop-i-test.true))
-
 pub loop-i-preserved : goal.loop-i-preserved
 loop-i-preserved c =
     let l = c.loop-i in
     let n = 1 + c.draw-s.result % 16 in
     let e : n - (l.i + 1) ≡ n - l.i - 1 = omega arith in
     rw e (going_step _ _ l.numbers l.s l.i (n - l.i) _ l.invariant (omega (arith, c.loop-i-test.true)) _ _ c.draw_move-s.ensures)
-
-pub shape_of-numbers : goal.shape_of-numbers
-shape_of-numbers c = let s = c in c.loop-i.invariant.long ∙ sym s.requires.2
 
 pub returns : goal.returns
 returns c =

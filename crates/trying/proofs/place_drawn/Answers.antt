@@ -9,22 +9,11 @@ overflow_add-i c = let k = counts_of _ _ c.requires in omega (arith, k.few-regs,
 pub nonzero_rem-i : goal.nonzero_rem-i
 nonzero_rem-i c = let k = counts_of _ _ c.requires in omega (arith, k.some-regs)
 
-pub overflow_mul-result : goal.overflow_mul-result
-overflow_mul-result c = let k = counts_of _ _ c.requires in omega (arith, k.few-regs, c.if-i-registers.true)
-
-pub overflow_add-result : goal.overflow_add-result
-overflow_add-result c = let k = counts_of _ _ c.requires in omega (arith, k.few-regs, c.if-i-registers.true)
-
 pub overflow_cast-result : goal.overflow_cast-result
 overflow_cast-result c = let k = counts_of _ _ c.requires in omega (arith, k.few-regs, c.if-i-registers.true)
 
 pub returns-then-i-registers : goal.returns-then-i-registers
 returns-then-i-registers c = rw (c.num_regs-registers.ensures, c.num_slots.ensures) (register-drawn _ _ (rw (c.num_regs-registers.ensures, c.num_slots.ensures) at c.if-i-registers.true))
-
-pub overflow_mul-result-2 : goal.overflow_mul-result-2
-overflow_mul-result-2 c =
-    let s = c in
-    omega (arith, low-place _ _ s.requires s.args.drawn _ _ c.num_regs-registers.ensures c.num_slots.ensures)
 
 pub overflow_cast-result-2 : goal.overflow_cast-result-2
 overflow_cast-result-2 c =

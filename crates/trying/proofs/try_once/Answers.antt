@@ -1,21 +1,13 @@
 -- `try_once` meets its contract: the patch drawn is resolved, and what the call gave is counted.
 use Prim.Native.Nat.{◌*◌}
-use native.Mathlib.Omega.{arith}
-use mathlib.Core.Path.{sym, ◌∙◌}
+use mathlib.Core.Path.{◌∙◌}
 use mathlib.Core.List.{[]}
 use lib.ListN.{take}
-use lib.Seq.{length-take-le}
 use Rattle.reginfo.specs.Table.{reg_info_of}
 use Rattle.function.specs.Table.{function_of}
 use Rattle.trying.specs.Drawing.{draw_patch, patch_of}
 use Rattle.trying.proofs.Trying.{patch-numbered, tested-call, once-tried}
 use Rattle.trying.proofs.try_once.Goals as goal
-
-pub slice_bounds-resolve_patch-end-2 : goal.slice_bounds-resolve_patch-end-2
-slice_bounds-resolve_patch-end-2 c =
-    let s = c in
-    let d = c.draw_patch-drawn in
-    sym (length-take-le (d.result.count * 4) d.new.numbers (omega (arith, d.ensures.few, d.ensures.long, s.requires.0.numbers-long)))
 
 pub count-requires : goal.count-requires
 count-requires c =

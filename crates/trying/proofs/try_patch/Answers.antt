@@ -1,27 +1,18 @@
 use Prim.Native.Nat.{◌+◌, ◌-◌, ◌<◌}
 use native.Mathlib.Omega.{arith}
-use mathlib.Core.Path.{◌≡◌, sym, ◌∙◌}
+use mathlib.Core.Path.{◌≡◌}
 use Rattle.reginfo.specs.Table.{reg_info_of}
 use Rattle.function.specs.Table.{function_of}
 use Rattle.slots.specs.Stacks.{cache_of}
 use Rattle.trying.specs.Tried.{tries}
-use Rattle.trying.proofs.Trying.{toward-start, room-less, drawn-over-by, taken-by, ready-again, left_out}
+use Rattle.trying.proofs.Trying.{room-less, drawn-over-by, taken-by, ready-again, left_out}
 use Rattle.trying.proofs.try_patch.Goals as goal
-
-pub loop-done-init : goal.loop-done-init
-loop-done-init c = let s = c in (toward-start _ _ 9 _, s.requires.0)
 
 pub try_once-requires : goal.try_once-requires
 try_once-requires c =
     let s = c in
     let l = c.loop-done in
     (l.invariant.1, room-less l.tally 1 (0 + (9 - l._done)) (omega (arith, c.loop-done-test.true)) (l.invariant.0.room 0 s.requires.1))
-
-pub shape_of-numbers-in-Accepted : goal.shape_of-numbers-in-Accepted
-shape_of-numbers-in-Accepted c = c.try_once.auto.numbers ∙ c.loop-done.invariant.1.numbers-long ∙ sym c.requires.0.numbers-long
-
-pub shape_of-list-in-Accepted : goal.shape_of-list-in-Accepted
-shape_of-list-in-Accepted c = c.try_once.auto.list ∙ c.loop-done.invariant.1.list-long ∙ sym c.requires.0.list-long
 
 pub returns-in-Accepted : goal.returns-in-Accepted
 returns-in-Accepted c =
@@ -41,12 +32,6 @@ loop-done-preserved c =
     let r = tries (reg_info_of s.args.t.now) (function_of s.args.f.now) 9 s.args.seed (cache_of s.args.cache.now) in
     let e : 9 - (l._done + 1) ≡ 9 - l._done - 1 = omega arith in
     (rw e (drawn-over-by s.args.t.now s.args.f.now s.args.p r 9 s.args.tally.now l.s (9 - l._done) l.tally l.cache o.new.tally o.new.cache o.result _ l.invariant.0 h o.ensures.once c.in-Refused.is), ready-again s.args.t.now s.args.f.now s.args.p l.cache o.new.cache l.numbers o.new.numbers l.list o.new.list l.invariant.1 o.ensures.once.ok o.auto.numbers o.auto.list)
-
-pub shape_of-numbers : goal.shape_of-numbers
-shape_of-numbers c = c.loop-done.invariant.1.numbers-long ∙ sym c.requires.0.numbers-long
-
-pub shape_of-list : goal.shape_of-list
-shape_of-list c = c.loop-done.invariant.1.list-long ∙ sym c.requires.0.list-long
 
 pub returns : goal.returns
 returns c =

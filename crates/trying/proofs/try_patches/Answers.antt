@@ -1,15 +1,12 @@
 use Prim.Native.Nat.{◌+◌, ◌-◌, ◌*◌}
 use native.Mathlib.Omega.{arith}
-use mathlib.Core.Path.{◌≡◌, sym, ◌∙◌}
+use mathlib.Core.Path.{◌≡◌}
 use Rattle.reginfo.specs.Table.{reg_info_of}
 use Rattle.function.specs.Table.{function_of}
 use Rattle.slots.specs.Stacks.{cache_of}
 use Rattle.trying.specs.Tried.{drawings}
-use Rattle.trying.proofs.Trying.{toward-start, room-less, patch-done, ready-again, all_done}
+use Rattle.trying.proofs.Trying.{room-less, patch-done, ready-again, all_done}
 use Rattle.trying.proofs.try_patches.Goals as goal
-
-pub loop-done-init : goal.loop-done-init
-loop-done-init c = let s = c in let z : s.args.count - 0 ≡ s.args.count = omega arith in (rw z (toward-start _ _ _ _), s.requires.0)
 
 pub try_patch-s-requires : goal.try_patch-s-requires
 try_patch-s-requires c =
@@ -27,12 +24,6 @@ loop-done-preserved c =
       rw e (patch-done s.args.t.now s.args.f.now s.args.p r (s.args.count * 9) s.args.tally.now l.s (s.args.count - l._done) o.result l.tally l.cache o.new.tally o.new.cache l.invariant.0 (omega (arith, c.loop-done-test.true)) o.ensures.value.0 o.ensures.value.1),
       ready-again s.args.t.now s.args.f.now s.args.p l.cache o.new.cache l.numbers o.new.numbers l.list o.new.list l.invariant.1 o.ensures.value.1.ok o.auto.numbers o.auto.list,
     )
-
-pub shape_of-numbers : goal.shape_of-numbers
-shape_of-numbers c = c.loop-done.invariant.1.numbers-long ∙ sym c.requires.0.numbers-long
-
-pub shape_of-list : goal.shape_of-list
-shape_of-list c = c.loop-done.invariant.1.list-long ∙ sym c.requires.0.list-long
 
 pub returns : goal.returns
 returns c =
