@@ -9,7 +9,7 @@ ghost use Rattle.function.specs.Function.{num_values};
 ghost use Rattle.function.specs.Table.{value_at, function_of};
 ghost use Rattle.number.specs.Number.{encoded};
 ghost use Rattle.job_numbers.specs.Numbers.{counted, each_of, bank_numbers, reg_numbers, class_numbers, target_numbers, value_numbers, function_numbers, bytes_of};
-ghost use Rattle.job_bytes.specs.Puts.{Puts, FewUnits, FewMembers};
+ghost use Rattle.job_bytes.specs.Puts.{Puts, rows, FewUnits, FewMembers};
 
 use function::Function;
 use reginfo::RegInfo;
@@ -120,7 +120,7 @@ fn put_rows<F>(work: &mut Work, at: usize, n: u16, put: F) -> Option<usize>
 where
     F: Fn(&mut Work, usize, usize) -> Option<usize>,
     requires { (w : _) (q i : _) → i < n → F.pre put w q i }
-    ensures { (row : ℕ → List ℕ) → ((w : _) (q i : _) (r : _) (w′ : _) → i < n → F.post put w q i r w′ → Puts w.now q (row i) w′.now r) → Puts work.old at (each_of row (indices 0 n)) work.new result }
+    ensures { (row : _) → ((w q i r v : _) → i < n → F.post put w q i r v → Puts w.now q (row i) v.now r) → Puts work.old at (rows row n) work.new result }
 {
     let mut q = at;
     for i in 0..usize::from(n) {
