@@ -138,7 +138,9 @@ fn untouched(c: &Cells, s: &Cells, at: usize) -> bool
     s[at] == 0
 }
 
-// Whether a cell has the same list in both tables.
+// Whether a cell has the same list in both tables. Never inlined: the walks over all units and slots ask it of few, and with its loops in them take half as
+// long again.
+#[inline(never)]
 fn same_list(c: &Cells, s: &Cells, at: usize, b: &mut Words, d: &mut Words) -> bool
     requires { Short c.now × Short s.now × (at < 6656) }
     ensures { (result ≡ same_words ((memory_of c.now).lists at) ((memory_of s.now).lists at)) × Anything b.new × Anything d.new }
