@@ -25,6 +25,7 @@ const HISTORY: &[&str] = &[
     "docs/CHANGES.md",
     "docs/DESIGN-PASS.md",
     "docs/DIFFERENCES.md",
+    "docs/LOOK-BACK.md",
 ];
 
 /// Papers of which every quoted name is one of a source.
